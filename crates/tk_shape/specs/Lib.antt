@@ -1,0 +1,4 @@
+pub mod Ranges
+pub mod Limits
+pub mod Numbers
+pub mod Lengths
