@@ -1,0 +1,74 @@
+use crate::{
+    Gate, MemSink, MemSource, MemTaps, NoTaps, OpenGate, ReadError, Sink, Source, Taps, put_all,
+    read_all,
+};
+use std::test::Fail;
+
+#[test]
+fn reads_all_in_pieces(rt: HostRuntime) -> Result<(), Fail> {
+    let alloc = rt.alloc();
+    let mut source = MemSource::new(b"one text".to_vec(alloc)?, 3, Vec::new(alloc));
+    assert_eq!(rt;
+        read_all(alloc, &mut source, 8)?.as_slice(),
+        b"one text".as_slice()
+    );
+    assert_eq!(rt; source.left().len(), 0);
+    let mut source = MemSource::new(b"one text".to_vec(alloc)?, 3, Vec::new(alloc));
+    assert_eq!(rt;
+        read_all(alloc, &mut source, 7).err(),
+        Some(ReadError::TooLong)
+    );
+    let mut source = MemSource::new(b"one text".to_vec(alloc)?, 3, vec![in alloc; 2]?);
+    assert_eq!(rt;
+        read_all(alloc, &mut source, 8).err(),
+        Some(ReadError::Fault)
+    );
+    assert_eq!(rt; source.left(), b" text".as_slice());
+    assert_eq!(rt; source.faults(), 1);
+    assert_eq!(rt;
+        read_all(alloc, &mut source, 8)?.as_slice(),
+        b" text".as_slice()
+    );
+    Ok(())
+}
+
+#[test]
+fn a_source_fails_once(rt: HostRuntime) -> Result<(), Fail> {
+    let alloc = rt.alloc();
+    let mut source = MemSource::new(b"ab".to_vec(alloc)?, 8, vec![in alloc; 1]?);
+    let mut buf = [0; 4];
+    assert!(rt; source.take(&mut buf).is_err());
+    assert_eq!(rt; source.take(&mut buf).ok(), Some(2));
+    assert_eq!(rt; source.take(&mut buf).ok(), Some(0));
+    Ok(())
+}
+
+#[test]
+fn puts_all_in_pieces(rt: HostRuntime) -> Result<(), Fail> {
+    let alloc = rt.alloc();
+    let mut sink = MemSink::new(alloc, 3, vec![in alloc; 2]?);
+    assert!(rt; put_all(&mut sink, b"one text").is_err());
+    assert_eq!(rt; sink.bytes(), b"one".as_slice());
+    assert_eq!(rt; sink.faults(), 1);
+    assert!(rt; put_all(&mut sink, b" text").is_ok());
+    assert_eq!(rt; sink.bytes(), b"one text".as_slice());
+    assert_eq!(rt; sink.put(b"s").ok(), Some(1));
+    Ok(())
+}
+
+#[test]
+fn taps_keep_apart(rt: HostRuntime) -> Result<(), Fail> {
+    let alloc = rt.alloc();
+    let mut taps = MemTaps::new(alloc, 2, vec![in alloc; 3]?)?;
+    assert!(rt; taps.put(1, b"a").is_ok());
+    assert!(rt; taps.put(2, b"bc").is_ok());
+    assert!(rt; taps.put(1, b"d").is_err());
+    assert!(rt; taps.put(3, b"e").is_err());
+    assert!(rt; taps.put(1, b"f").is_ok());
+    assert_eq!(rt; taps.bytes(1), b"af".as_slice());
+    assert_eq!(rt; taps.bytes(2), b"bc".as_slice());
+    assert_eq!(rt; taps.faults(), 2);
+    assert!(rt; NoTaps.put(8, b"g").is_ok());
+    OpenGate.at(&rt, 0, 1);
+    Ok(())
+}
