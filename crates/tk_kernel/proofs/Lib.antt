@@ -1,0 +1,5 @@
+pub mod Sums
+pub mod Fronts
+pub mod Cuts
+pub mod Choices
+pub mod Chosen

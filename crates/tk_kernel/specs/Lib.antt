@@ -1,0 +1,4 @@
+pub mod Xor
+pub mod Pieces
+pub mod Chosen
+pub mod Laws
