@@ -1,0 +1,4 @@
+pub mod Vectors
+pub mod Sums
+pub mod Wanted
+pub mod Joining

@@ -1,0 +1,22 @@
+-- What shares are for.
+use Rattle.std.specs.Prelude.{◌≡◌, ℕ, ◌*◌, ◌<◌, List, map, length, slice_get, Some}
+use Rattle.tk_kernel.specs.Xor.{xor_all}
+use Rattle.tk_kernel.specs.Pieces.{AllSized}
+use Rattle.tk_kernel.specs.Chosen.{chosen_sum}
+use Rattle.tk_bits.specs.Shares.{unit_vector, shares}
+
+-- all shares of a bucket join to its unit vector
+abbrev pub SharesJoin : Type 0
+SharesJoin = (size i : ℕ) (drawn : List (List ℕ)) → AllSized size drawn → xor_all size (shares size i drawn) ≡ unit_vector size i
+
+-- the sum that joined vectors choose is the joined sums that each of them chooses
+abbrev pub SumsAdd : Type 0
+SumsAdd =
+    (width size : ℕ) (blocks vectors : List (List ℕ)) → AllSized width blocks → AllSized size vectors
+    → chosen_sum width blocks (xor_all size vectors) ≡ xor_all width (map (chosen_sum width blocks) vectors)
+
+-- servers with equal blocks answer the shares of bucket i, one each, and their answers join to block i
+abbrev pub AnswersJoin : Type 0
+AnswersJoin =
+    (width size i : ℕ) (blocks drawn : List (List ℕ)) → AllSized width blocks → length blocks ≡ 8 * size → AllSized size drawn
+    → i < length blocks → slice_get blocks i ≡ Some (xor_all width (map (chosen_sum width blocks) (shares size i drawn)))

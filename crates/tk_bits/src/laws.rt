@@ -1,0 +1,17 @@
+//! Why answers to shares are worth joining.
+ghost use Rattle.tk_bits.specs.Laws.{SharesJoin, SumsAdd, AnswersJoin};
+
+/// All shares of a bucket join to its unit vector.
+pub fn shares_join()
+    ensures { SharesJoin }
+{}
+
+/// The sum of what joined vectors choose is the sum of what each of them chooses.
+pub fn sums_add()
+    ensures { SumsAdd }
+{}
+
+/// Where servers have equal blocks, their joined answers are the wanted block.
+pub fn answers_join()
+    ensures { AnswersJoin }
+{}

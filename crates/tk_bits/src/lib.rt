@@ -1,0 +1,13 @@
+//! Bit vectors that ask several servers for one bucket: all of them together name it.
+#![tactic(auto)]
+
+mod laws;
+mod shares;
+mod vector;
+
+pub use laws::{answers_join, shares_join, sums_add};
+pub use shares::{join, share};
+pub use vector::bit;
+
+#[cfg(test)]
+mod tests;
