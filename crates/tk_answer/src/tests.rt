@@ -1,0 +1,51 @@
+ghost use Rattle.std.specs.Prelude.{◌<◌, ◌≤◌};
+ghost use Rattle.tk_kernel.specs.Pieces.{all_pieces};
+
+use crate::{Blocks, answer, parts_are_runs};
+
+/// Eight blocks of 41 bytes, of which those of a page are said to lie together.
+#[derive(Drop)]
+struct Paged {
+    bytes: [u8; 328],
+    page: u32,
+    ghost some: { 0 < page },
+    ghost few: { page ≤ 8 },
+}
+
+impl Blocks for Paged {
+    ghost blocks = { λ p. all_pieces 41 p.bytes };
+
+    ghost width = { λ _. 41 };
+
+    fn count(&self) -> u32 {
+        8
+    }
+
+    fn width(&self) -> u32 {
+        41
+    }
+
+    fn run(&self, i: u32) -> &[u8] {
+        let end = (i - i % self.page + self.page).min(8);
+        &self.bytes[i as usize * 41..end as usize * 41]
+    }
+}
+
+#[test]
+fn runs_of_any_length(rt: HostRuntime) {
+    // block i has all bytes i + 1
+    let mut bytes = [0; 328];
+    for (i, byte) in bytes.iter_mut().enumerate() {
+        *byte = (i / 41) as u8 + 1;
+    }
+    // each block by itself, pages of 3, 3 and 2, and all together
+    for page in [1, 3, 8] {
+        let blocks = Paged { bytes, page };
+        for (vector, want) in [(0xa5, 0x0c), (0x00, 0x00), (0xff, 0x08), (0x80, 0x08)] {
+            let mut out = [0xff; 41];
+            answer(&blocks, &[vector], &mut out);
+            assert_eq!(rt; out.as_slice(), [want; 41].as_slice(), "pages of {page}");
+        }
+    }
+    parts_are_runs();
+}
