@@ -1,0 +1,10 @@
+pub mod BigEndian
+pub mod Bounds
+pub mod Checking
+pub mod Frames
+pub mod Heads
+pub mod Marks
+pub mod NumberList
+pub mod PlacedFrames
+pub mod Spellings
+pub mod WriteFields

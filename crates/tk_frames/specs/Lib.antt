@@ -1,0 +1,6 @@
+pub mod Spelling
+pub mod Ranges
+pub mod Order
+pub mod Fields
+pub mod Faults
+pub mod Laws

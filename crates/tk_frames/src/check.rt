@@ -1,0 +1,133 @@
+//! What a decoder checks before it takes memory.
+ghost use Rattle.std.specs.Prelude.{◌≡◌, ◌+◌, ◌*◌, ◌≤◌, ◌∷◌, [], length, Some, None, if◌then◌else◌, map};
+ghost use Rattle.std.specs.Result.{result_err};
+ghost use Rattle.tk_frames.specs.declared.fault.FrameError.TheVariants as fault;
+ghost use Rattle.tk_frames.specs.Fields.{numbers};
+ghost use Rattle.tk_frames.specs.Faults.{first_fault, head_checks, hit_check, write_field_checks, asker_checks, position_check, write_checks, read_checks, reply_checks, mark_checks, record_checks};
+
+use crate::kind::{self, VERSION};
+use crate::numbers::{u32_at, u64_at};
+use crate::{FrameError, Name};
+use tk_shape::Shape;
+
+fn check(passed: bool, name: Name, got: u32) -> Result<(), FrameError>
+    ensures { result_err result ≡ (if passed then None else Some (fault.Field name got)) }
+{
+    if passed {
+        Ok(())
+    } else {
+        Err(FrameError::Field {
+            name,
+            got: u64::from(got),
+        })
+    }
+}
+
+fn check_head(bytes: &[u8], want: u32, kind: u8) -> Result<(), FrameError>
+    requires { 2 ≤ want }
+    ensures { result_err result ≡ first_fault (head_checks want kind bytes.now) }
+{
+    let (want, got) = (u64::from(want), bytes.len() as u64);
+    if got != want {
+        return Err(FrameError::Length { want, got });
+    }
+    if bytes[0] != kind {
+        return Err(FrameError::Kind { got: bytes[0] });
+    }
+    if bytes[1] != VERSION {
+        return Err(FrameError::Version { got: bytes[1] });
+    }
+    Ok(())
+}
+
+fn check_asker(shape: &Shape, bytes: &[u8]) -> Result<(), FrameError>
+    requires { 14 ≤ length bytes.now }
+    ensures { result_err result ≡ first_fault (asker_checks shape.now bytes.now) }
+{
+    let client = u32_at(bytes, 2);
+    check(client < shape.clients, Name::Client, client)?;
+    let turn = u32_at(bytes, 6);
+    check(turn < shape.turns(), Name::Turn, turn)?;
+    let epoch = u32_at(bytes, 10);
+    check(epoch <= shape.phases, Name::Epoch, epoch)
+}
+
+fn check_hits(shape: &Shape, bytes: &[u8]) -> Result<(), FrameError>
+    requires { 4 * shape.now.hits ≤ length bytes.now }
+    ensures { result_err result ≡ first_fault (map (hit_check shape.now) (numbers shape.now.hits bytes.now)) }
+{
+    let count = shape.hits;
+    let mut rest = bytes;
+    for _ in 0..count {
+        let hit = u32_at(rest, 0);
+        check(hit < shape.filter_bits, Name::Hit, hit)?;
+        rest = rest.split_at(4).1;
+    }
+    Ok(())
+}
+
+fn check_write_fields(shape: &Shape, fields: &[u8]) -> Result<(), FrameError>
+    requires { 16 + 4 * shape.now.hits ≤ length fields.now }
+    ensures { result_err result ≡ first_fault (write_field_checks shape.now fields.now) }
+{
+    let client = u32_at(fields, 0);
+    check(client < shape.clients, Name::Client, client)?;
+    let turn = u32_at(fields, 4);
+    check(turn < shape.turns(), Name::Turn, turn)?;
+    let first = u32_at(fields, 8);
+    check(first < shape.buckets, Name::First, first)?;
+    let second = u32_at(fields, 12);
+    check(second < shape.buckets, Name::Second, second)?;
+    check_hits(shape, &fields[16..])
+}
+
+fn check_position(shape: &Shape, bytes: &[u8]) -> Result<(), FrameError>
+    requires { 10 ≤ length bytes.now }
+    ensures { result_err result ≡ first_fault (position_check shape.now bytes.now ∷ []) }
+{
+    let got = u64_at(bytes, 2);
+    let last = shape.clients * shape.turns() + shape.phases;
+    if got < 1 || got > u64::from(last) {
+        let name = Name::Position;
+        return Err(FrameError::Field { name, got });
+    }
+    Ok(())
+}
+
+pub fn check_write(shape: &Shape, bytes: &[u8]) -> Result<(), FrameError>
+    ensures { result_err result ≡ first_fault (write_checks shape.now bytes.now) }
+{
+    check_head(bytes, shape.write_len(), kind::WRITE)?;
+    check_write_fields(shape, &bytes[2..])
+}
+
+pub fn check_read(shape: &Shape, bytes: &[u8]) -> Result<(), FrameError>
+    ensures { result_err result ≡ first_fault (read_checks shape.now bytes.now) }
+{
+    check_head(bytes, shape.read_len(), kind::READ)?;
+    check_asker(shape, bytes)
+}
+
+pub fn check_reply(shape: &Shape, bytes: &[u8]) -> Result<(), FrameError>
+    ensures { result_err result ≡ first_fault (reply_checks shape.now bytes.now) }
+{
+    check_head(bytes, shape.reply_len(), kind::REPLY)?;
+    check_asker(shape, bytes)
+}
+
+pub fn check_mark(shape: &Shape, bytes: &[u8]) -> Result<(), FrameError>
+    ensures { result_err result ≡ first_fault (mark_checks shape.now bytes.now) }
+{
+    check_head(bytes, 14, kind::MARK)?;
+    check_position(shape, bytes)?;
+    let epoch = u32_at(bytes, 10);
+    check(epoch >= 1 && epoch <= shape.phases, Name::Epoch, epoch)
+}
+
+pub fn check_record(shape: &Shape, bytes: &[u8]) -> Result<(), FrameError>
+    ensures { result_err result ≡ first_fault (record_checks shape.now bytes.now) }
+{
+    check_head(bytes, shape.record_len(), kind::RECORD)?;
+    check_position(shape, bytes)?;
+    check_write_fields(shape, &bytes[10..])
+}

@@ -1,0 +1,139 @@
+//! Encoders: each makes the room for a frame first, and then appends its one spelling. Where there is no room, nothing
+//! is appended. Every value has a spelling, in range for a shape or not.
+ghost use Rattle.std.specs.Prelude.{◌≡◌, ℕ, ◌+◌, ◌-◌, ◌*◌, ◌^◌, ◌≤◌, ◌∷◌, [], ◌++◌, length, min, vec_len, vec_capacity, OnOk, OnErr};
+ghost use Rattle.std.specs.List.{flat_map};
+ghost use Rattle.tk_frames.specs.Spelling.{be32, be64, write_fields, write_frame, read_frame, reply_frame, placed_frame};
+
+use crate::kind::{self, VERSION};
+use crate::{Entry, Placed, ReadFrame, ReplyFrame, WriteFrame};
+use tk_shape::{Bytes, Memory};
+
+/// Appends bytes for which there is room.
+fn put(out: &mut Vec<u8>, bytes: &[u8])
+    requires { vec_len out.old + length bytes.now ≤ vec_capacity out.old }
+    ensures items { out.new.items ≡ out.old.items ++ bytes.now }
+    ensures len { vec_len out.new ≡ vec_len out.old + length bytes.now }
+    ensures capacity { vec_capacity out.old ≤ vec_capacity out.new }
+{
+    out.extend_from_slice(bytes).unwrap();
+}
+
+fn put_u32(out: &mut Vec<u8>, number: u32)
+    requires { vec_len out.old + 4 ≤ vec_capacity out.old }
+    ensures items { out.new.items ≡ out.old.items ++ be32 number }
+    ensures len { vec_len out.new ≡ vec_len out.old + 4 }
+    ensures capacity { vec_capacity out.old ≤ vec_capacity out.new }
+{
+    put(out, &number.to_be_bytes());
+}
+
+fn put_u64(out: &mut Vec<u8>, number: u64)
+    requires { vec_len out.old + 8 ≤ vec_capacity out.old }
+    ensures items { out.new.items ≡ out.old.items ++ be64 number }
+    ensures len { vec_len out.new ≡ vec_len out.old + 8 }
+    ensures capacity { vec_capacity out.old ≤ vec_capacity out.new }
+{
+    put(out, &number.to_be_bytes());
+}
+
+fn put_words(out: &mut Vec<u8>, words: &[u32])
+    requires { vec_len out.old + 4 * length words.now ≤ vec_capacity out.old }
+    ensures items { out.new.items ≡ out.old.items ++ flat_map be32 words.now }
+    ensures len { vec_len out.new ≡ vec_len out.old + 4 * length words.now }
+    ensures capacity { vec_capacity out.old ≤ vec_capacity out.new }
+{
+    for word in words {
+        put_u32(out, *word);
+    }
+}
+
+fn put_fields(out: &mut Vec<u8>, write: &WriteFrame)
+    requires { vec_len out.old + (16 + 4 * length write.now.hits + length write.now.block) ≤ vec_capacity out.old }
+    ensures items { out.new.items ≡ out.old.items ++ write_fields write.now }
+{
+    put_words(out, &[write.client, write.turn, write.first, write.second]);
+    put_words(out, write.hits.as_slice());
+    put(out, write.block.as_slice());
+}
+
+/// Bytes of a write's fields; where they are more than fit a `usize`, as many as fit.
+fn fields_len(write: &WriteFrame) -> usize
+    ensures { result ≡ min (16 + 4 * length write.now.hits + length write.now.block) (2 ^ 64 - 1) }
+{
+    let hits = write.hits.as_slice().len().saturating_mul(4);
+    let block = write.block.as_slice().len();
+    hits.saturating_add(block).saturating_add(16)
+}
+
+/// Appends the one spelling of a write.
+pub fn encode_write(frame: &WriteFrame, out: &mut Vec<u8>) -> Result<(), Memory>
+    ensures ok { OnOk result (out.new.items ≡ out.old.items ++ write_frame frame.now) }
+    ensures err { OnErr result (out.new.items ≡ out.old.items) }
+{
+    out.reserve(fields_len(frame).saturating_add(2))?;
+    put(out, &[kind::WRITE, VERSION]);
+    put_fields(out, frame);
+    Ok(())
+}
+
+/// Appends the one spelling of an entry with its position: of a mark or of a record.
+pub fn encode_placed(frame: &Placed, out: &mut Vec<u8>) -> Result<(), Memory>
+    ensures ok { OnOk result (out.new.items ≡ out.old.items ++ placed_frame frame.now) }
+    ensures err { OnErr result (out.new.items ≡ out.old.items) }
+{
+    match &frame.entry {
+        Entry::Mark(epoch) => {
+            out.reserve(14)?;
+            put(out, &[kind::MARK, VERSION]);
+            put_u64(out, frame.position);
+            put_u32(out, *epoch);
+            Ok(())
+        }
+        Entry::Write(write) => {
+            out.reserve(fields_len(write).saturating_add(10))?;
+            put(out, &[kind::RECORD, VERSION]);
+            put_u64(out, frame.position);
+            put_fields(out, write);
+            Ok(())
+        }
+    }
+}
+
+/// Appends the one spelling of a read.
+pub fn encode_read(frame: &ReadFrame, out: &mut Vec<u8>) -> Result<(), Memory>
+    ensures ok { OnOk result (out.new.items ≡ out.old.items ++ read_frame frame.now) }
+    ensures err { OnErr result (out.new.items ≡ out.old.items) }
+{
+    let asker = [frame.client, frame.turn, frame.epoch];
+    encode_halves(kind::READ, asker, &frame.first, &frame.second, out)
+}
+
+/// Appends the one spelling of a reply.
+pub fn encode_reply(frame: &ReplyFrame, out: &mut Vec<u8>) -> Result<(), Memory>
+    ensures ok { OnOk result (out.new.items ≡ out.old.items ++ reply_frame frame.now) }
+    ensures err { OnErr result (out.new.items ≡ out.old.items) }
+{
+    let asker = [frame.client, frame.turn, frame.epoch];
+    encode_halves(kind::REPLY, asker, &frame.first, &frame.second, out)
+}
+
+/// Appends a read or a reply, which differ in their kind and in the length of their halves.
+fn encode_halves(
+    kind: u8,
+    asker: [u32; 3],
+    first: &Bytes,
+    second: &Bytes,
+    out: &mut Vec<u8>,
+) -> Result<(), Memory>
+    ensures ok { OnOk result (out.new.items ≡ out.old.items ++ (kind ∷ 1 ∷ (flat_map be32 asker ++ first.now ++ second.now))) }
+    ensures err { OnErr result (out.new.items ≡ out.old.items) }
+{
+    let (first, second) = (first.as_slice(), second.as_slice());
+    let halves = first.len().saturating_add(second.len());
+    out.reserve(halves.saturating_add(14))?;
+    put(out, &[kind, VERSION]);
+    put_words(out, asker.as_slice());
+    put(out, first);
+    put(out, second);
+    Ok(())
+}

@@ -1,0 +1,27 @@
+//! Frames: each value's one spelling in bytes, and decoders that name the first fault.
+#![tactic(auto)]
+
+mod check;
+mod decode;
+mod encode;
+mod entry;
+mod fault;
+mod kind;
+mod laws;
+mod numbers;
+mod read_frame;
+mod reply_frame;
+mod value;
+mod write_frame;
+
+pub use decode::{decode_placed, decode_read, decode_reply, decode_write};
+pub use encode::{encode_placed, encode_read, encode_reply, encode_write};
+pub use entry::{Entry, Placed};
+pub use fault::{FrameError, Name};
+pub use laws::{before_a_mark, each_fault, lengths, one_spelling};
+pub use read_frame::ReadFrame;
+pub use reply_frame::ReplyFrame;
+pub use write_frame::WriteFrame;
+
+#[cfg(test)]
+mod tests;
