@@ -1,0 +1,5 @@
+pub mod Pieces
+pub mod Words
+pub mod CellLaws
+pub mod Opening
+pub mod OpeningLaws

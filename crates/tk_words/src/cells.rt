@@ -1,0 +1,73 @@
+//! What the cells of a tape have.
+ghost use Rattle.std.specs.Prelude.{◌≡◌, ◌+◌, ◌-◌, ◌*◌, ◌≤◌, ◌<◌, length};
+ghost use Rattle.std.specs.List.{AllByRecursion};
+ghost use Rattle.tk_shape.specs.Lengths.{cell_len};
+ghost use Rattle.tk_words.specs.Pieces.{piece, word_at_byte};
+ghost use Rattle.tk_words.specs.Words.{cell_pair, cell_hits, cell_block, cell_pad, cell_tag};
+
+use tk_shape::Shape;
+
+// Piece number i of those that have `size` bytes each.
+pub(crate) fn piece(bytes: &[u8], size: usize, i: usize) -> &[u8]
+    requires { (i + 1) * size ≤ length bytes.now }
+    ensures value { result.now ≡ piece size i bytes.now }
+    ensures len { length result.now ≡ size }
+{
+    let start = i * size;
+    &bytes[start..start + size]
+}
+
+// The big-endian word at byte i.
+fn word_at(bytes: &[u8], i: usize) -> u32
+    requires { i + 4 ≤ length bytes.now }
+    ensures { result ≡ word_at_byte i bytes.now }
+{
+    let mut word = [0; 4];
+    word.copy_from_slice(&bytes[i..i + 4]);
+    u32::from_be_bytes(word)
+}
+
+// The two buckets in front of a cell.
+pub(crate) fn cell_pair(shape: &Shape, cell: &[u8]) -> (u32, u32)
+    requires { 8 ≤ length cell.now }
+    ensures pair { result ≡ cell_pair shape.now cell.now }
+    ensures first_in { result.0 < shape.now.buckets }
+    ensures second_in { result.1 < shape.now.buckets }
+{
+    (
+        word_at(cell, 0) % shape.buckets,
+        word_at(cell, 4) % shape.buckets,
+    )
+}
+
+// The filter positions behind them.
+pub(crate) fn cell_hits(shape: &Shape, cell: &[u8], out: &mut [u32])
+    requires cell_whole { length cell.now ≡ cell_len shape.now }
+    requires room { length out.old ≡ shape.now.hits }
+    ensures hits { out.new ≡ cell_hits shape.now cell.now }
+    ensures hits_in { AllByRecursion (λ h. h < shape.now.filter_bits) out.new }
+{
+    'hits: for i in 0..out.len() {
+        out[i] = word_at(cell, 8 + 4 * i) % shape.filter_bits;
+    }
+}
+
+// The block behind those.
+pub(crate) fn cell_block<'a>(shape: &Shape, cell: &'a [u8]) -> &'a [u8]
+    requires { length cell.now ≡ cell_len shape.now }
+    ensures block { result.now ≡ cell_block shape.now cell.now }
+    ensures len { length result.now ≡ shape.now.block }
+{
+    &cell[8 + 4 * shape.hits as usize..]
+}
+
+// The pad and the tag of which that block consists.
+pub(crate) fn pad_and_tag<'a>(shape: &Shape, cell: &'a [u8]) -> (&'a [u8], &'a [u8])
+    requires { length cell.now ≡ cell_len shape.now }
+    ensures pad { result.0.now ≡ cell_pad shape.now cell.now }
+    ensures pad_len { length result.0.now ≡ shape.now.block - 16 }
+    ensures tag { result.1.now ≡ cell_tag shape.now cell.now }
+    ensures tag_len { length result.1.now ≡ 16 }
+{
+    cell_block(shape, cell).split_at(shape.block as usize - 16)
+}

@@ -1,0 +1,86 @@
+ghost use Rattle.std.specs.Prelude.{◌≡◌, ◌<◌, ◌≤◌, ◌+◌, ◌-◌, ◌*◌, ◌++◌, length, take, IsTrue, Some, None, ℕ, IfSome, IfNone, replicate, flat_map};
+ghost use Rattle.std.specs.List.{AllByRecursion};
+ghost use Rattle.tk_shape.specs.declared.shape.Shape.{Shape};
+ghost use Rattle.tk_shape.specs.Lengths.{turn_count, vector_len};
+ghost use Rattle.tk_seal.specs.Texts.{is_allowed};
+ghost use Rattle.tk_words.specs.Words.{WordBook, IsBook, pair_of, hits_of, sealed, opened, fresh_write, fresh_pair, fresh_vectors, words_of};
+ghost use Rattle.tk_words.specs.Opening.{OpensWhatSeals, OpensSealed};
+
+/// The words that a client uses, over one shape. Logs, clients and turns count from 0.
+pub trait Draws: Sync {
+    ghost shape: { Self → Shape };
+
+    ghost book: { Self → WordBook };
+
+    /// The two buckets of a number of a log.
+    fn pair(&self, log: u32, number: u32) -> (u32, u32)
+        requires log_in { log < (shape self.now).logs }
+        requires number_in { number < turn_count (shape self.now) }
+        ensures pair { result ≡ pair_of (shape self.now) (book self.now) log number }
+        ensures first_in { result.0 < (shape self.now).buckets }
+        ensures second_in { result.1 < (shape self.now).buckets };
+
+    /// The filter positions of a number of a log.
+    fn hits(&self, log: u32, number: u32, out: &mut [u32])
+        requires log_in { log < (shape self.now).logs }
+        requires number_in { number < turn_count (shape self.now) }
+        requires room { length out.old ≡ (shape self.now).hits }
+        ensures hits { out.new ≡ hits_of (shape self.now) (book self.now) log number }
+        ensures hits_in { AllByRecursion (λ h. h < (shape self.now).filter_bits) out.new };
+
+    /// Seals a text for a number of a log.
+    fn seal(&self, log: u32, number: u32, text: &[u8], out: &mut [u8])
+        requires log_in { log < (shape self.now).logs }
+        requires number_in { number < turn_count (shape self.now) }
+        requires room { length out.old ≡ (shape self.now).block }
+        requires allowed { IsTrue (is_allowed text.now) }
+        requires fits { length text.now + 18 ≤ (shape self.now).block }
+        ensures { out.new ≡ sealed (words_of (shape self.now) (book self.now)) log number text.now };
+
+    /// The length of the text that seals to a block, if there is one: `out` has it, and zeros behind it. With none `out` is zeros.
+    fn open(&self, log: u32, number: u32, block: &[u8], out: &mut [u8]) -> Option<usize>
+        requires log_in { log < (shape self.now).logs }
+        requires number_in { number < turn_count (shape self.now) }
+        requires whole { length block.now ≡ (shape self.now).block }
+        requires room { length out.old + 18 ≡ (shape self.now).block }
+        ensures found { IfSome result (λ n. n ≤ length out.new) }
+        ensures text { IfSome result (λ n. opened (words_of (shape self.now) (book self.now)) log number block.now ≡ Some (take n out.new)) }
+        ensures padded { IfSome result (λ n. out.new ≡ take n out.new ++ replicate (length out.new - n) 0) }
+        ensures none { IfNone result (opened (words_of (shape self.now) (book self.now)) log number block.now ≡ None) }
+        ensures zeros { IfNone result (out.new ≡ replicate (length out.new) 0) };
+
+    /// The two buckets, the filter positions and the block of a write that holds no text.
+    fn fresh_write(&self, client: u32, turn: u32, hits: &mut [u32], block: &mut [u8]) -> (u32, u32)
+        requires client_in { client < (shape self.now).clients }
+        requires turn_in { turn < turn_count (shape self.now) }
+        requires hits_room { length hits.old ≡ (shape self.now).hits }
+        requires block_room { length block.old ≡ (shape self.now).block }
+        ensures first { result.0 ≡ (fresh_write (shape self.now) (book self.now) turn client).first }
+        ensures second { result.1 ≡ (fresh_write (shape self.now) (book self.now) turn client).second }
+        ensures hits { hits.new ≡ (fresh_write (shape self.now) (book self.now) turn client).hits }
+        ensures block { block.new ≡ (fresh_write (shape self.now) (book self.now) turn client).block }
+        ensures first_in { result.0 < (shape self.now).buckets }
+        ensures second_in { result.1 < (shape self.now).buckets }
+        ensures hits_in { AllByRecursion (λ h. h < (shape self.now).filter_bits) hits.new };
+
+    /// The two buckets of a read that is for nothing, and the drawn vectors of any read: for the first bucket a vector
+    /// for each server but the last, and then likewise for the second.
+    fn fresh_read(&self, client: u32, turn: u32, vectors: &mut [u8]) -> (u32, u32)
+        requires client_in { client < (shape self.now).clients }
+        requires turn_in { turn < turn_count (shape self.now) }
+        requires room { length vectors.old ≡ 2 * ((shape self.now).servers - 1) * vector_len (shape self.now) }
+        ensures pair { result ≡ fresh_pair (shape self.now) (book self.now) turn client }
+        ensures vectors { vectors.new ≡ flat_map (λ v. v) (fresh_vectors (shape self.now) (book self.now) turn client).first
+            ++ flat_map (λ v. v) (fresh_vectors (shape self.now) (book self.now) turn client).second }
+        ensures first_in { result.0 < (shape self.now).buckets }
+        ensures second_in { result.1 < (shape self.now).buckets };
+
+    // The book serves the shape.
+    ghost serves: { (draws : Self) → IsBook (shape draws) (book draws) };
+
+    // A block opens to the text that is allowed, fits and seals to it, and to no other.
+    ghost opens_what_seals: { (draws : Self) → OpensWhatSeals (shape draws) (words_of (shape draws) (book draws)) };
+
+    // What a text was sealed to opens to it.
+    ghost opens_sealed: { (draws : Self) → OpensSealed (shape draws) (words_of (shape draws) (book draws)) };
+}
