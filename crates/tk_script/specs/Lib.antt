@@ -1,0 +1,5 @@
+pub mod SoundScript
+pub mod Sent
+pub mod Grammar
+pub mod Fields
+pub mod Built

@@ -1,0 +1,82 @@
+use std::marker::Model;
+use tk_handle::Handle;
+
+/// The keys of a keyed script: a handle for each log, and a seed of 32 bytes for each client.
+#[derive(Debug, Drop)]
+pub struct Keys {
+    pub handles: Handles,
+    pub seeds: ClientSeeds,
+}
+
+/// The handle of each log, by number; seen as their list.
+#[derive(Debug, Drop)]
+pub struct Handles {
+    items: Vec<Handle>,
+}
+
+impl Model for Handles {
+    ghost use Rattle.std.specs.Prelude.{List};
+    ghost use Rattle.tk_handle.specs.declared.handle.Handle.{Handle};
+
+    ghost Value = { List Handle };
+
+    ghost view = { λ l. l.items.items };
+}
+
+impl Handles {
+    ghost use Rattle.std.specs.Prelude.{◌≡◌};
+
+    pub fn from_vec(items: Vec<Handle>) -> Handles
+        ensures { result ≡ items.items }
+    {
+        Handles { items }
+    }
+
+    pub fn as_slice(&self) -> &[Handle]
+        ensures { result.now ≡ self.now }
+    {
+        self.items.as_slice()
+    }
+
+    pub fn into_vec(self) -> Vec<Handle>
+        ensures { result.items ≡ self }
+    {
+        self.items
+    }
+}
+
+/// The seed of each client, by number; seen as their list.
+#[derive(Debug, Drop)]
+pub struct ClientSeeds {
+    items: Vec<[u8; 32]>,
+}
+
+impl Model for ClientSeeds {
+    ghost use Rattle.std.specs.Prelude.{List, ℕ};
+
+    ghost Value = { List (List ℕ) };
+
+    ghost view = { λ l. l.items.items };
+}
+
+impl ClientSeeds {
+    ghost use Rattle.std.specs.Prelude.{◌≡◌};
+
+    pub fn from_vec(items: Vec<[u8; 32]>) -> ClientSeeds
+        ensures { result ≡ items.items }
+    {
+        ClientSeeds { items }
+    }
+
+    pub fn as_slice(&self) -> &[[u8; 32]]
+        ensures { result.now ≡ self.now }
+    {
+        self.items.as_slice()
+    }
+
+    pub fn into_vec(self) -> Vec<[u8; 32]>
+        ensures { result.items ≡ self }
+    {
+        self.items
+    }
+}

@@ -1,0 +1,43 @@
+ghost use Rattle.std.specs.Prelude.{◌≡◌, ◌≢◌, ◌<◌, ◌∷◌, ℕ, [], length, slice_index, IfSome, IfNone};
+ghost use Rattle.tk_script.specs.Grammar.{lines_of};
+
+/// Where a byte stands first in a text.
+pub(crate) fn place_of(text: &[u8], byte: u8) -> Option<usize>
+    ensures within { IfSome result (λ i. i < length text.now) }
+    ensures at { IfSome result (λ i. slice_index text.now i ≡ byte) }
+    ensures first { IfSome result (λ i. (k : ℕ) → k < i → slice_index text.now k ≢ byte) }
+    ensures none { IfNone result ((k : ℕ) → k < length text.now → slice_index text.now k ≢ byte) }
+{
+    for (i, here) in text.iter().enumerate() {
+        if *here == byte {
+            return Some(i);
+        }
+    }
+    None
+}
+
+/// The first line of a text, without its line feed, and the text behind it.
+pub(crate) fn next_line(text: &[u8]) -> Option<(&[u8], &[u8])>
+    ensures line { IfSome result (λ x. lines_of text.now ≡ x.0.now ∷ lines_of x.1.now) }
+    ensures shorter { IfSome result (λ x. length x.1.now < length text.now) }
+    ensures none { IfNone result (text.now ≡ []) }
+{
+    if text.is_empty() {
+        return None;
+    }
+    match place_of(text, b'\n') {
+        Some(end) => Some((&text[..end], &text[end + 1..])),
+        None => Some((text, &text[text.len()..])),
+    }
+}
+
+/// The text behind a first line that reads so.
+pub(crate) fn line_that_reads<'a>(text: &'a [u8], words: &[u8]) -> Option<&'a [u8]>
+    ensures line { IfSome result (λ rest. lines_of text.now ≡ words.now ∷ lines_of rest.now) }
+    ensures shorter { IfSome result (λ rest. length rest.now < length text.now) }
+{
+    match next_line(text) {
+        Some((line, rest)) if line == words => Some(rest),
+        _ => None,
+    }
+}

@@ -1,0 +1,46 @@
+use std::marker::Model;
+use tk_shape::Words;
+
+/// Who writes a log, and who follows it: clients by number, the followers ascending.
+#[derive(Debug, Drop)]
+pub struct Role {
+    pub writer: u32,
+    pub followers: Words,
+}
+
+/// The role of each log, by number; seen as their list.
+#[derive(Debug, Drop)]
+pub struct Roles {
+    items: Vec<Role>,
+}
+
+impl Model for Roles {
+    ghost use Rattle.std.specs.Prelude.{List};
+    ghost use Rattle.tk_script.specs.declared.role.Role.{Role};
+
+    ghost Value = { List Role };
+
+    ghost view = { λ l. l.items.items };
+}
+
+impl Roles {
+    ghost use Rattle.std.specs.Prelude.{◌≡◌};
+
+    pub fn from_vec(items: Vec<Role>) -> Roles
+        ensures { result ≡ items.items }
+    {
+        Roles { items }
+    }
+
+    pub fn as_slice(&self) -> &[Role]
+        ensures { result.now ≡ self.now }
+    {
+        self.items.as_slice()
+    }
+
+    pub fn into_vec(self) -> Vec<Role>
+        ensures { result.items ≡ self }
+    {
+        self.items
+    }
+}

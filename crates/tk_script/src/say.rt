@@ -1,0 +1,48 @@
+use std::marker::Model;
+use tk_shape::Bytes;
+
+/// A text that is said on a log, in a phase and a tick, both from 1.
+#[derive(Debug, Drop)]
+pub struct Say {
+    pub phase: u32,
+    pub tick: u32,
+    pub log: u32,
+    pub text: Bytes,
+}
+
+/// What is said in a run, in order; seen as their list.
+#[derive(Debug, Drop)]
+pub struct Says {
+    items: Vec<Say>,
+}
+
+impl Model for Says {
+    ghost use Rattle.std.specs.Prelude.{List};
+    ghost use Rattle.tk_script.specs.declared.say.Say.{Say};
+
+    ghost Value = { List Say };
+
+    ghost view = { λ l. l.items.items };
+}
+
+impl Says {
+    ghost use Rattle.std.specs.Prelude.{◌≡◌};
+
+    pub fn from_vec(items: Vec<Say>) -> Says
+        ensures { result ≡ items.items }
+    {
+        Says { items }
+    }
+
+    pub fn as_slice(&self) -> &[Say]
+        ensures { result.now ≡ self.now }
+    {
+        self.items.as_slice()
+    }
+
+    pub fn into_vec(self) -> Vec<Say>
+        ensures { result.items ≡ self }
+    {
+        self.items
+    }
+}
