@@ -1,0 +1,4 @@
+pub mod Sendable
+pub mod StatusLines
+pub mod Requests
+pub mod Followed

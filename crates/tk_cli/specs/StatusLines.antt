@@ -1,0 +1,22 @@
+-- What the process ends with, and the line that tells why.
+use Rattle.std.specs.Prelude.{ℕ, List, [], ◌++◌, codes, decimal}
+use Rattle.tk_cli.specs.declared.status.Status.{Status}
+use Rattle.tk_cli.specs.declared.status.Status.TheVariants.{Done, Memory, Usage, Read, Write, TooLong, Later}
+
+abbrev pub code_of : Status → ℕ
+code_of Done = 0
+code_of Memory = 1
+code_of Usage = 2
+code_of Read = 4
+code_of Write = 5
+code_of TooLong = 6
+code_of (Later line) = 11
+
+abbrev pub status_text : Status → List ℕ
+status_text Done = []
+status_text Memory = codes "talek: memory"
+status_text Usage = codes "talek: usage"
+status_text Read = codes "talek: read"
+status_text Write = codes "talek: write"
+status_text TooLong = codes "talek: input over 8388608 bytes"
+status_text (Later line) = codes "talek: later line " ++ decimal line

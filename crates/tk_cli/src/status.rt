@@ -1,0 +1,61 @@
+ghost use Rattle.std.specs.Prelude.{◌≡◌, ◌++◌, OnOk, OnErr};
+ghost use Rattle.tk_cli.specs.StatusLines.{code_of, status_text};
+
+use crate::printing::push_number;
+use std::alloc::Global;
+use tk_shape::Memory;
+
+/// How the top call ended. In order: the words are asked first, then what is read, then what is written.
+#[derive(Clone, Copy, Debug, PartialEq, Eq)]
+pub enum Status {
+    /// All was read to its end, done and written.
+    Done,
+    /// Want of memory, which may come at any time.
+    Memory,
+    /// The words are none of the forms.
+    Usage,
+    /// The source failed.
+    Read,
+    /// The sink or a tap failed.
+    Write,
+    /// The input has more than 8,388,608 bytes.
+    TooLong,
+    /// A form that isn't built yet; line 0 means the words.
+    Later { line: u64 },
+}
+
+impl Status {
+    /// What the process ends with.
+    pub fn code(&self) -> u8
+        ensures { result ≡ code_of self.now }
+    {
+        match self {
+            Status::Done => 0,
+            Status::Memory => 1,
+            Status::Usage => 2,
+            Status::Read => 4,
+            Status::Write => 5,
+            Status::TooLong => 6,
+            Status::Later { .. } => 11,
+        }
+    }
+}
+
+/// Appends the line that tells a status, without a line feed; nothing for one that is done.
+pub fn status_line(alloc: Global, status: &Status, out: &mut Vec<u8>) -> Result<(), Memory>
+    ensures ok { OnOk result (out.new.items ≡ out.old.items ++ status_text status.now) }
+{
+    match status {
+        Status::Done => {}
+        Status::Memory => out.extend_from_slice(b"talek: memory")?,
+        Status::Usage => out.extend_from_slice(b"talek: usage")?,
+        Status::Read => out.extend_from_slice(b"talek: read")?,
+        Status::Write => out.extend_from_slice(b"talek: write")?,
+        Status::TooLong => out.extend_from_slice(b"talek: input over 8388608 bytes")?,
+        Status::Later { line } => {
+            out.extend_from_slice(b"talek: later line ")?;
+            push_number(alloc, out, *line)?;
+        }
+    }
+    Ok(())
+}

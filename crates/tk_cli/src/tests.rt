@@ -1,0 +1,178 @@
+use crate::{INPUT_LIMIT, Status, status_line, talek};
+use std::alloc::{AllocError, Global};
+use std::sync::Wait;
+use std::test::Fail;
+use std::thread::Threads;
+use tk_io::{MemSink, MemSource, MemTaps, OpenGate};
+use tk_shape::{Bytes, Memory};
+
+/// A script of two clients with one text, over two phases of one tick, and its tape.
+const ONE_TEXT: &[u8] = b"talek 1
+shape 2 8 4 4 24 64 1 0 2 2 1 1
+drawn
+log 0 1
+say 1 1 0 hi
+end
+tape
+fill 11 36
+fill 12 36
+fill 13 36
+fill 14 36
+fill 21 10
+fill 22 10
+fill 23 10
+fill 24 10
+fill 31 36
+fill 32 36
+end
+";
+
+const REPORT: &[u8] = b"report
+order 1 1 0 1 mark
+reads 1 1 0 0
+order 2 1 0 1 mark
+reads 2 1 1 1
+log 0 1 1
+text 0 hi
+unsent 0 0
+unsent 1 0
+end
+";
+
+/// Runs the words over a text, with a source and a sink that take pieces and fail at chosen calls.
+fn run<R: AllocGlobal + Threads + Wait + Sync>(
+    rt: &R,
+    words: &[&str],
+    source: &mut MemSource,
+    sink: &mut MemSink,
+) -> Result<Status, Memory> {
+    let alloc = rt.alloc();
+    let mut bytes = Vec::new(alloc);
+    for word in words {
+        bytes.push(Bytes::from_slice(alloc, word.as_bytes())?)?;
+    }
+    let Ok(mut taps) = MemTaps::new(alloc, 8, Vec::new(alloc)) else {
+        return Err(Memory);
+    };
+    Ok(talek(
+        rt,
+        alloc,
+        bytes.as_slice(),
+        source,
+        sink,
+        &mut taps,
+        &OpenGate,
+    ))
+}
+
+fn source_of(alloc: Global, text: &[u8]) -> Result<MemSource, AllocError> {
+    Ok(MemSource::new(text.to_vec(alloc)?, 4096, Vec::new(alloc)))
+}
+
+#[test]
+fn ordinary_run(rt: HostRuntime) -> Result<(), Fail> {
+    let mut source = source_of(rt.alloc(), ONE_TEXT)?;
+    let mut sink = MemSink::new(rt.alloc(), 4096, Vec::new(rt.alloc()));
+    assert_eq!(rt;
+        run(&rt, &["serial"], &mut source, &mut sink)?,
+        Status::Done
+    );
+    assert_eq!(rt; sink.bytes(), REPORT);
+    assert_eq!(rt; source.left().len(), 0);
+    Ok(())
+}
+
+#[test]
+fn faults(rt: HostRuntime) -> Result<(), Fail> {
+    let alloc = rt.alloc();
+    let mut source = source_of(alloc, ONE_TEXT)?;
+    let mut sink = MemSink::new(alloc, 10, vec![in alloc; 3]?);
+    assert_eq!(rt;
+        run(&rt, &["serial"], &mut source, &mut sink)?,
+        Status::Write
+    );
+    assert_eq!(rt; sink.bytes(), b"report\norder 1 1 0 1".as_slice());
+
+    let mut source = MemSource::new(ONE_TEXT.to_vec(alloc)?, 50, vec![in alloc; 2]?);
+    let mut sink = MemSink::new(alloc, 4096, Vec::new(alloc));
+    assert_eq!(rt;
+        run(&rt, &["serial"], &mut source, &mut sink)?,
+        Status::Read
+    );
+    assert_eq!(rt; sink.bytes().len(), 0);
+
+    let mut source = source_of(alloc, ONE_TEXT)?;
+    assert_eq!(rt;
+        run(&rt, &["serial"], &mut source, &mut sink)?,
+        Status::Done
+    );
+    assert_eq!(rt; sink.bytes(), REPORT);
+
+    let many = vec![in alloc; 0u8; INPUT_LIMIT + 1]?;
+    let mut source = MemSource::new(many, INPUT_LIMIT, Vec::new(alloc));
+    assert_eq!(rt;
+        run(&rt, &["serial"], &mut source, &mut sink)?,
+        Status::TooLong
+    );
+    assert_eq!(rt; sink.bytes(), REPORT);
+    Ok(())
+}
+
+#[test]
+fn words(rt: HostRuntime) -> Result<(), Fail> {
+    let alloc = rt.alloc();
+    let root = "00000000000000000000000000000000000000000000000000000000000000Ff";
+    for words in [
+        ["run"].as_slice(),
+        &["view", "4294967295"],
+        &["mirror", "0"],
+        &["handle", "18446744073709551615", root],
+    ] {
+        let mut source = source_of(alloc, ONE_TEXT)?;
+        let mut sink = MemSink::new(alloc, 4096, Vec::new(alloc));
+        assert_eq!(rt;
+            run(&rt, words, &mut source, &mut sink)?,
+            Status::Later { line: 0 }
+        );
+        assert_eq!(rt; source.left(), ONE_TEXT);
+    }
+    for words in [
+        [].as_slice(),
+        &["run", "1"],
+        &["run", "0"],
+        &["run", "065"],
+        &["mirror"],
+        &["view", "01"],
+        &["view", "4294967296"],
+        &["handle", "0", "0"],
+        &["handle", "18446744073709551616", root],
+        &["Serial"],
+        &["serial", "1"],
+    ] {
+        let mut source = source_of(alloc, ONE_TEXT)?;
+        let mut sink = MemSink::new(alloc, 4096, Vec::new(alloc));
+        assert_eq!(rt; run(&rt, words, &mut source, &mut sink)?, Status::Usage);
+        assert_eq!(rt; source.left(), ONE_TEXT);
+    }
+    Ok(())
+}
+
+#[test]
+fn status_lines(rt: HostRuntime) -> Result<(), Fail> {
+    let alloc = rt.alloc();
+    for (status, line, code) in [
+        (Status::Done, "", 0),
+        (Status::Memory, "talek: memory", 1),
+        (Status::Usage, "talek: usage", 2),
+        (Status::Read, "talek: read", 4),
+        (Status::Write, "talek: write", 5),
+        (Status::TooLong, "talek: input over 8388608 bytes", 6),
+        (Status::Later { line: 12 }, "talek: later line 12", 11),
+    ] {
+        let mut out = Vec::new(alloc);
+        status_line(alloc, &status, &mut out)?;
+        assert_eq!(rt; out.as_slice(), line.as_bytes());
+        assert_eq!(rt; status.code(), code);
+    }
+    Ok(())
+}

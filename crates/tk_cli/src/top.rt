@@ -1,0 +1,91 @@
+ghost use Rattle.std.specs.Prelude.{◌≡◌, ◌≢◌, ◌↔◌, ◌⊎◌, ℕ, List, take};
+ghost use Rattle.tk_io.specs.Content.{Rose, TakesUpTo, gained};
+ghost use Rattle.tk_cli.specs.Requests.{AsksLater, AsksNothing};
+
+use crate::request::{Request, request_of};
+use crate::serial::serial;
+use crate::status::Status;
+use std::alloc::Global;
+use std::sync::Wait;
+use std::thread::Threads;
+use tk_io::{Gate, ReadError, Sink, Source, Taps, put_all, read_all};
+use tk_script::{Input, parse};
+use tk_shape::{Bytes, Memory};
+use tk_words::{DrawnDraws, Tape};
+
+/// The most bytes of an input.
+pub const INPUT_LIMIT: usize = 8388608;
+
+/// Does what the words ask for: reads the whole input from the source, and writes the whole output to the sink at once.
+/// The taps and the gate are not used yet.
+pub fn talek<R: Threads + Wait + Sync, S: Source, K: Sink, T: Taps, G: Gate>(
+    _rt: &R,
+    alloc: Global,
+    words: &[Bytes],
+    source: &mut S,
+    sink: &mut K,
+    _taps: &mut T,
+    _gate: &G,
+) -> Status
+    ensures usage { (result ≡ Status.Usage) ↔ AsksNothing words.now }
+    ensures later { (result ≡ Status.Later 0) ↔ AsksLater words.now }
+    ensures unread { AsksNothing words.now ⊎ AsksLater words.now → S.left source.new ≡ S.left source.old }
+    ensures read { result ≡ Status.Read → Rose (S.faults source.old) (S.faults source.new) }
+    ensures taken { (taken : List ℕ) × TakesUpTo INPUT_LIMIT (S.left source.old) (S.left source.new) (result ≡ Status.TooLong) taken }
+    ensures write { result ≡ Status.Write → Rose (K.faults sink.old) (K.faults sink.new) }
+    ensures front { result ≡ Status.Write → ((n : ℕ) × (output : List ℕ) × (K.held sink.new ≡ gained (K.held sink.old) (take n output))) }
+    ensures quiet { result ≢ Status.Done → result ≢ Status.Write → K.held sink.new ≡ K.held sink.old }
+    ensures taps { _taps.new ≡ _taps.old }
+{
+    match request_of(words) {
+        Request::Serial => run_serial(alloc, source, sink),
+        Request::Later => Status::Later { line: 0 },
+        Request::Nothing => Status::Usage,
+    }
+}
+
+/// The word `serial`.
+fn run_serial<S: Source, K: Sink>(alloc: Global, source: &mut S, sink: &mut K) -> Status
+    ensures usage { result ≢ Status.Usage }
+    ensures later { result ≢ Status.Later 0 }
+    ensures read { result ≡ Status.Read → Rose (S.faults source.old) (S.faults source.new) }
+    ensures taken { (taken : List ℕ) × TakesUpTo INPUT_LIMIT (S.left source.old) (S.left source.new) (result ≡ Status.TooLong) taken }
+    ensures write { result ≡ Status.Write → Rose (K.faults sink.old) (K.faults sink.new) }
+    ensures front { result ≡ Status.Write → ((n : ℕ) × (output : List ℕ) × (K.held sink.new ≡ gained (K.held sink.old) (take n output))) }
+    ensures quiet { result ≢ Status.Done → result ≢ Status.Write → K.held sink.new ≡ K.held sink.old }
+{
+    let text = match read_all(alloc, source, INPUT_LIMIT) {
+        Ok(text) => text,
+        Err(ReadError::Memory) => return Status::Memory,
+        Err(ReadError::Fault) => return Status::Read,
+        Err(ReadError::TooLong) => return Status::TooLong,
+    };
+    let report = match report_of(alloc, text.as_slice()) {
+        Ok(Some(report)) => report,
+        Ok(None) => return Status::Later { line: 1 },
+        Err(Memory) => return Status::Memory,
+    };
+    match put_all(sink, report.as_slice()) {
+        Ok(()) => Status::Done,
+        Err(_) => Status::Write,
+    }
+}
+
+/// The report of the serial run of an input; none for bytes that are no input of the form that is built.
+fn report_of(alloc: Global, text: &[u8]) -> Result<Option<Vec<u8>>, Memory> {
+    let Some(input) = parse(alloc, text)? else {
+        return Ok(None);
+    };
+    let Input {
+        first: script,
+        tape,
+    } = input;
+    let Some(tape) = tape else {
+        return Ok(None);
+    };
+    let Ok(tape) = Tape::from_bytes(&script.shape, tape.bytes.into_vec()) else {
+        return Ok(None);
+    };
+    let draws = DrawnDraws::new(&script.shape, tape);
+    Ok(Some(serial(alloc, &script, &draws)?))
+}
