@@ -1,13 +1,13 @@
 //! The lengths that a shape gives, in bytes but for `turns`.
 ghost use Rattle.std.specs.Prelude.{◌≡◌, ◌≤◌};
-ghost use Rattle.tk_shape.specs.Lengths as length;
+ghost use Rattle.tk_shape.specs.Lengths as formula;
 
 use crate::Shape;
 
 impl Shape {
     /// Turns of a run, which are the numbers of a log.
     pub fn turns(&self) -> u32
-        ensures count { result ≡ length.turn_count self.now }
+        ensures count { result ≡ formula.turn_count self.now }
         ensures most { result ≤ 16384 }
     {
         self.phases * self.ticks
@@ -15,42 +15,42 @@ impl Shape {
 
     /// A slot of a bucket: a position, two buckets, a block.
     pub fn slot_len(&self) -> u32
-        ensures { result ≡ length.slot_len self.now }
+        ensures { result ≡ formula.slot_len self.now }
     {
         16 + self.block
     }
 
     /// A bucket.
     pub fn width(&self) -> u32
-        ensures { result ≡ length.width self.now }
+        ensures { result ≡ formula.width self.now }
     {
         self.depth * self.slot_len()
     }
 
     /// A vector with one bit for each bucket.
     pub fn vector_len(&self) -> u32
-        ensures { result ≡ length.vector_len self.now }
+        ensures { result ≡ formula.vector_len self.now }
     {
         self.buckets / 8
     }
 
     /// A write cell or a keyed cell of a tape.
     pub fn cell_len(&self) -> u32
-        ensures { result ≡ length.cell_len self.now }
+        ensures { result ≡ formula.cell_len self.now }
     {
         8 + 4 * self.hits + self.block
     }
 
     /// A read cell of a tape.
     pub fn read_cell_len(&self) -> u32
-        ensures { result ≡ length.read_cell_len self.now }
+        ensures { result ≡ formula.read_cell_len self.now }
     {
         8 + 2 * (self.servers - 1) * self.vector_len()
     }
 
     /// A tape: write cells and read cells by turn and client, keyed cells by log and number.
     pub fn tape_len(&self) -> u64
-        ensures { result ≡ length.tape_len self.now }
+        ensures { result ≡ formula.tape_len self.now }
     {
         let cell = u64::from(self.cell_len());
         let fresh = u64::from(self.clients) * (cell + u64::from(self.read_cell_len()));
@@ -59,28 +59,28 @@ impl Shape {
 
     /// The frame of a write.
     pub fn write_len(&self) -> u32
-        ensures { result ≡ length.write_len self.now }
+        ensures { result ≡ formula.write_len self.now }
     {
         18 + 4 * self.hits + self.block
     }
 
     /// The frame of a record, a write with its position.
     pub fn record_len(&self) -> u32
-        ensures { result ≡ length.record_len self.now }
+        ensures { result ≡ formula.record_len self.now }
     {
         26 + 4 * self.hits + self.block
     }
 
     /// The frame of a read.
     pub fn read_len(&self) -> u32
-        ensures { result ≡ length.read_len self.now }
+        ensures { result ≡ formula.read_len self.now }
     {
         14 + 2 * self.vector_len()
     }
 
     /// The frame of a reply.
     pub fn reply_len(&self) -> u32
-        ensures { result ≡ length.reply_len self.now }
+        ensures { result ≡ formula.reply_len self.now }
     {
         14 + 2 * self.width()
     }
