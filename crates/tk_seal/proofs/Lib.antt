@@ -1,5 +1,4 @@
 pub mod Fronts
 pub mod PlainForms
-pub mod XorFront
 pub mod XorLaws
 pub mod SealLaws

@@ -49,3 +49,11 @@ keyed_pad size h s = key_bytes h.key s 16 (size - 16)
 -- the tag of what is masked
 abbrev pub keyed_tag : Handle → ℕ → List ℕ → List ℕ
 keyed_tag h s masked = take 16 (hmac (key_bytes h.key s 0 32) (to_be_bytes w64 h.id ++ to_be_bytes w64 s ++ masked))
+
+-- the block of size bytes that a text is sealed to as message number s
+abbrev pub keyed_sealed : ℕ → Handle → ℕ → List ℕ → List ℕ
+keyed_sealed size h s text = sealed_with (keyed_pad size h s) (keyed_tag h s) text
+
+-- the text that seals to a block as message number s
+abbrev pub keyed_opened : Handle → ℕ → List ℕ → Option (List ℕ)
+keyed_opened h s block = opened_with (keyed_pad (length block) h s) (keyed_tag h s) block

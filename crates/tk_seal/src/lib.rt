@@ -1,11 +1,17 @@
 //! Texts that may be sent, their plain form, and its sealing.
 #![tactic(auto)]
 
+mod keyed_hash;
 mod masking;
 mod plain_form;
+mod sealing;
 mod text;
-mod xor;
 
+pub use keyed_hash::hmac;
 pub use masking::{LONGEST_PAD, mask, unmask};
 pub use plain_form::{plain, plain_text};
+pub use sealing::{open, seal};
 pub use text::allowed;
+
+#[cfg(test)]
+mod tests;

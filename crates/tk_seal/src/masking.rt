@@ -4,8 +4,8 @@ ghost use Rattle.tk_kernel.specs.Xor.{xor_bytes};
 ghost use Rattle.tk_seal.specs.Texts.{is_allowed};
 ghost use Rattle.tk_seal.specs.Seal.{plain, IsPlainForm};
 
-use crate::xor::xor_into;
 use crate::{plain, plain_text};
+use tk_kernel::xor_into;
 
 /// Bytes of the longest pad.
 pub const LONGEST_PAD: usize = 1008;
