@@ -1,14 +1,8 @@
 -- What the bytes of cells are made of.
-use Rattle.std.proofs.Common.{◌≡◌, ℕ, zero, suc, ◌+◌, ◌*◌, ◌%◌, ◌<◌, ◌≤◌, List, ◌++◌, length, take, drop, map, ap, ap₂, sym, ◌∙◌, arith, length-drop, zero-mul, suc-mul}
-use Rattle.std.specs.List.{range_with_len, flat_map, AllByRecursion}
+use Rattle.std.proofs.Common.{◌≡◌, ℕ, zero, suc, ◌+◌, ◌*◌, ◌≤◌, List, ◌++◌, length, take, drop, ap, ap₂, sym, ◌∙◌, arith, length-drop, zero-mul, suc-mul}
+use Rattle.std.specs.List.{flat_map}
 use Rattle.std.proofs.lemmas.List.{take-take, drop-take, take-append-drop, take_all}
-use Rattle.std.proofs.Math.Nat.{mod-lt}
 use Rattle.tk_words.specs.Pieces.{pieces}
-
--- the remainders are below what they are of
-pub remainders_below : (f : ℕ → ℕ) (m a n : ℕ) → 0 < m → AllByRecursion (λ h. h < m) (map (λ i. f i % m) (range_with_len a n))
-remainders_below f m a zero h = tt
-remainders_below f m a (suc n) h = (mod-lt (f a) h, remainders_below f m (a + 1) n h)
 
 -- the first a + b bytes are the first a and the b behind them
 take_two : (a b : ℕ) (xs : List ℕ) → take (a + b) xs ≡ take a xs ++ take b (drop a xs)

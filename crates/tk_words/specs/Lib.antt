@@ -1,5 +1,6 @@
 pub mod Pieces
 pub mod Words
+pub mod Book
 pub mod CellLaws
 pub mod Opening
 pub mod OpeningLaws

@@ -29,7 +29,7 @@ OpensSealed shape w =
     opened w log s (sealed w log s text) ≡ Some text
 
 -- at most one text seals to a block
-abbrev pub SealsOne : Type 0
-SealsOne =
+abbrev pub OneTextSeals : Type 0
+OneTextSeals =
     (shape : Shape) (b : WordBook) (log s : ℕ) (block one other : List ℕ) → IsBook shape b → IsNumber shape log s →
     Opens shape (words_of shape b) log s block one → Opens shape (words_of shape b) log s block other → one ≡ other

@@ -6,7 +6,7 @@ use Rattle.tk_shape.specs.Lengths.{cell_len}
 use Rattle.tk_seal.proofs.SealLaws.{opened_with-sealed, opened_with-is}
 use Rattle.tk_handle.proofs.KeyBytes.{length-key_bytes}
 use Rattle.tk_words.specs.Words.{WordBook, keyed, drawn, IsBook, words_of, pad_of, tag_of, sealed, opened, keyed_cell, cell_block}
-use Rattle.tk_words.specs.Opening.{IsNumber, OpensWhatSeals, OpensSealed, SealsOne}
+use Rattle.tk_words.specs.Opening.{IsNumber, OpensWhatSeals, OpensSealed, OneTextSeals}
 use Rattle.tk_words.specs.CellLaws.{length-keyed_cell}
 
 -- the pad masks all of a block but its tag
@@ -37,8 +37,8 @@ opens_sealed shape b served log s text number allowed fits =
     (opens_what_seals shape b served log s (sealed (words_of shape b) log s text) text number).1
     (record { allowed = allowed; fits = fits; seals = refl })
 
-pub seals_one : SealsOne
-seals_one shape b log s block one other served number opens opens_other =
+pub one_text_seals : OneTextSeals
+one_text_seals shape b log s block one other served number opens opens_other =
     let first = (opens_what_seals shape b served log s block one number).1 opens in
     let second = (opens_what_seals shape b served log s block other number).1 opens_other in
     same (sym first ∙ second)

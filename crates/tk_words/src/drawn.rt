@@ -60,8 +60,8 @@ impl DrawnDraws {
         ensures len { length result.now ≡ cell_len self.now.shape }
     {
         let size = self.shape.cell_len() as usize;
-        let part = &self.tape.as_bytes()[write_cells_len(&self.shape)
-            + read_cells_len(&self.shape)..];
+        let start = write_cells_len(&self.shape) + read_cells_len(&self.shape);
+        let part = &self.tape.as_bytes()[start..];
         piece(part, size, place(log, self.shape.turns(), number))
     }
 }

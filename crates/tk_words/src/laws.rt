@@ -1,6 +1,6 @@
-ghost use Rattle.tk_words.specs.Opening.{SealsOne};
+ghost use Rattle.tk_words.specs.Opening.{OneTextSeals};
 
 /// At most one text seals to a block.
-pub fn seals_one()
-    ensures { SealsOne }
+pub fn one_text_seals()
+    ensures { OneTextSeals }
 {}

@@ -1,13 +1,20 @@
 //! The words that clients use, from a book of keys or from a tape of drawn bytes, behind one trait.
 #![tactic(auto)]
 
+mod book;
 mod cells;
 mod drawn;
 mod draws;
+mod keyed;
 mod laws;
 mod tape;
 
+pub use book::Book;
 pub use drawn::DrawnDraws;
 pub use draws::Draws;
-pub use laws::seals_one;
+pub use keyed::KeyedDraws;
+pub use laws::one_text_seals;
 pub use tape::{Tape, TapeError};
+
+#[cfg(test)]
+mod tests;

@@ -1,0 +1,126 @@
+ghost use Rattle.std.specs.Prelude.{◌≡◌, ◌+◌, ◌*◌, ◌%◌, ◌<◌, ◌≤◌, length, map};
+ghost use Rattle.std.specs.List.{range_with_len, AllByRecursion};
+ghost use Rattle.tk_handle.specs.Handle.{word};
+
+use crate::Draws;
+use tk_handle::{Handle, fill, word};
+use tk_shape::Shape;
+
+/// The words of keys: each log's handle, and each client's seed.
+#[derive(Drop)]
+pub struct KeyedDraws {
+    shape: Shape,
+    handles: Vec<Handle>,
+    seeds: Vec<[u8; 32]>,
+    ghost handle_each: { length handles.items ≡ shape.logs },
+    ghost seed_each: { length seeds.items ≡ shape.clients },
+}
+
+impl KeyedDraws {
+    ghost use Rattle.tk_words.specs.Words.{keyed, handle_at, seed_at};
+
+    /// The words of a handle for each log and a seed for each client.
+    pub fn new(shape: &Shape, handles: Vec<Handle>, seeds: Vec<[u8; 32]>) -> KeyedDraws
+        requires handle_each { length handles.items ≡ shape.now.logs }
+        requires seed_each { length seeds.items ≡ shape.now.clients }
+        ensures shape { ⟦<KeyedDraws as Draws>⟧.shape result ≡ shape.now }
+        ensures book { ⟦<KeyedDraws as Draws>⟧.book result ≡ keyed handles.items seeds.items }
+    {
+        KeyedDraws {
+            shape: *shape,
+            handles,
+            seeds,
+        }
+    }
+
+    fn handle(&self, log: u32) -> &Handle
+        requires { log < self.now.shape.logs }
+        ensures { result.now ≡ handle_at self.now.handles.items log }
+    {
+        &self.handles[log as usize]
+    }
+
+    fn seed(&self, client: u32) -> &[u8; 32]
+        requires { client < self.now.shape.clients }
+        ensures { result.now ≡ seed_at self.now.seeds.items client }
+    {
+        &self.seeds[client as usize]
+    }
+}
+
+impl Draws for KeyedDraws {
+    ghost use Rattle.tk_words.specs.Words.{keyed};
+    ghost use Rattle.tk_words.specs.OpeningLaws.{opens_what_seals, opens_sealed};
+
+    ghost shape = { λ draws. draws.shape };
+
+    ghost book = { λ draws. keyed draws.handles.items draws.seeds.items };
+
+    fn pair(&self, log: u32, number: u32) -> (u32, u32) {
+        tk_choice::pair(self.handle(log), number, self.shape.buckets)
+    }
+
+    fn hits(&self, log: u32, number: u32, out: &mut [u32]) {
+        tk_choice::hits(self.handle(log), number, self.shape.filter_bits, out);
+    }
+
+    fn seal(&self, log: u32, number: u32, text: &[u8], out: &mut [u8]) {
+        tk_seal::seal(self.handle(log), number, text, out);
+    }
+
+    fn open(&self, log: u32, number: u32, block: &[u8], out: &mut [u8]) -> Option<usize> {
+        tk_seal::open(self.handle(log), number, block, out)
+    }
+
+    fn fresh_write(
+        &self,
+        client: u32,
+        turn: u32,
+        hits: &mut [u32],
+        block: &mut [u8],
+    ) -> (u32, u32) {
+        let seed = self.seed(client);
+        let stream = 2 * u64::from(turn);
+        write_hits(seed, stream, self.shape.filter_bits, hits);
+        fill(seed, stream, 16, block);
+        stream_pair(seed, stream, self.shape.buckets)
+    }
+
+    fn fresh_read(&self, client: u32, turn: u32, vectors: &mut [u8]) -> (u32, u32) {
+        let seed = self.seed(client);
+        let stream = 2 * u64::from(turn) + 1;
+        fill(seed, stream, 16, vectors);
+        stream_pair(seed, stream, self.shape.buckets)
+    }
+
+    ghost serves = { λ draws. (draws.handle_each, draws.seed_each) };
+
+    ghost opens_what_seals = { λ draws. opens_what_seals draws.shape (keyed draws.handles.items draws.seeds.items) (draws.handle_each, draws.seed_each) };
+
+    ghost opens_sealed = { λ draws. opens_sealed draws.shape (keyed draws.handles.items draws.seeds.items) (draws.handle_each, draws.seed_each) };
+}
+
+// The two buckets at the front of a stream.
+fn stream_pair(seed: &[u8; 32], stream: u64, buckets: u32) -> (u32, u32)
+    requires { 0 < buckets }
+    ensures pair { result ≡ (word seed.now stream 0 % buckets, word seed.now stream 1 % buckets) }
+    ensures first_in { result.0 < buckets }
+    ensures second_in { result.1 < buckets }
+{
+    (
+        word(seed, stream, 0) % buckets,
+        word(seed, stream, 1) % buckets,
+    )
+}
+
+// The filter positions behind them.
+fn write_hits(seed: &[u8; 32], stream: u64, bits: u32, out: &mut [u32])
+    requires some { 0 < bits }
+    requires few { length out.old ≤ 4 }
+    ensures hits { out.new ≡ map (λ i. word seed.now stream i % bits) (range_with_len 2 (length out.old)) }
+    ensures hits_in { AllByRecursion (λ h. h < bits) out.new }
+{
+    'hits: for i in 0..out.len() {
+        out[i] = word(seed, stream, 2 + i as u64) % bits;
+    }
+}
