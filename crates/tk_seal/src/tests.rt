@@ -1,4 +1,4 @@
-use crate::{allowed, hmac, mask, open, plain, plain_text, seal, unmask};
+use crate::{allowed, hmac, mask, open, opens_what_seals, plain, plain_text, seal, unmask};
 use sha2::{Digest, Sha256};
 use std::test::Fail;
 use tk_handle::Handle;
@@ -103,6 +103,7 @@ fn digests(rt: HostRuntime) {
 
 #[test]
 fn sealed_and_opened(rt: HostRuntime) -> Result<(), Fail> {
+    opens_what_seals();
     let text = b"hi";
     assert!(rt; allowed(text).is_none());
     let mut block = [0; 24];
