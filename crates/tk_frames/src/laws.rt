@@ -13,7 +13,7 @@ ghost use Rattle.tk_frames.specs.Faults.{write_checks, read_checks, reply_checks
 ghost use Rattle.tk_frames.specs.Order.{is_mark_of, has_mark, records, before};
 ghost use Rattle.tk_frames.specs.Laws.{IsOneSpelling, FindsEachFault};
 
-/// No two frames of a kind share a spelling, and no spelling begins another.
+/// No two frames of a kind that are in range for a shape share a spelling, and no spelling begins another.
 pub fn one_spelling()
     ensures writes { (shape : Shape) → IsOneSpelling (IsWrite shape) write_frame }
     ensures placed { (shape : Shape) → IsOneSpelling (IsPlaced shape) placed_frame }

@@ -1,6 +1,6 @@
 use crate::{
-    FrameError, Name, decode_placed, decode_read, decode_reply, decode_write, encode_placed,
-    encode_read, encode_reply, encode_write,
+    FrameError, Name, before_a_mark, decode_placed, decode_read, decode_reply, decode_write,
+    each_fault, encode_placed, encode_read, encode_reply, encode_write, lengths, one_spelling,
 };
 use std::alloc::{AllocError, Global};
 use std::test::Fail;
@@ -180,6 +180,10 @@ const FIELDS: [u8; 44] =
 
 #[test]
 fn round_trips(rt: HostRuntime) -> Result<(), Fail> {
+    one_spelling();
+    each_fault();
+    lengths();
+    before_a_mark();
     let shape = small_shape()?;
     let mut write = Vec::from_slice(rt.alloc(), b"\x01\x01")?;
     write.extend_from_slice(&FIELDS)?;
