@@ -78,24 +78,21 @@ fn gives<D: Draws>(rt: &impl Abort, draws: &D, shape: &Shape, given: &Given)
     assert!(rt; vectors == given.vectors);
 }
 
-// The bytes of a tape, the cells of which have one byte each.
+// The last read cell: two words and the drawn vectors of one server.
+const READ_CELL: [u8; 10] = [0, 0, 0, 3, 0, 0, 0, 0x0b, 0x21, 0x22];
+
+// The bytes of a tape, the other cells of which have one byte each.
 fn cells(rt: HostRuntime) -> Result<Vec<u8>, Fail> {
     let mut bytes = Vec::new(rt.alloc());
-    for (byte, len) in [
-        (0x11, 36),
-        (0x12, 36),
-        (0x13, 36),
-        (0x14, 36),
-        (0x21, 10),
-        (0x22, 10),
-        (0x23, 10),
-        (0x24, 10),
-        (0x31, 36),
-        (0x32, 36),
-    ] {
-        for _ in 0..len {
-            bytes.push(byte)?;
-        }
+    for byte in [0x11, 0x12, 0x13, 0x14] {
+        bytes.extend_from_slice(&[byte; 36])?;
+    }
+    for byte in [0x21, 0x22, 0x23] {
+        bytes.extend_from_slice(&[byte; 10])?;
+    }
+    bytes.extend_from_slice(&READ_CELL)?;
+    for byte in [0x31, 0x32] {
+        bytes.extend_from_slice(&[byte; 36])?;
     }
     Ok(bytes)
 }
@@ -119,10 +116,16 @@ fn words_of_a_tape(rt: HostRuntime) -> Result<(), Fail> {
         write_pair: (4, 4),
         write_hits: [20],
         block: [0x14; 24],
-        read_pair: (4, 4),
-        vectors: [0x24; 2],
+        read_pair: (3, 3),
+        vectors: [0x21, 0x22],
     };
     gives(&rt, &draws, &shape, &given);
+    assert!(rt; shape.turns() == 2 && shape.clients == 2);
+    assert!(rt; shape.hits == 1 && shape.block == 24);
+    let mut hits = [9; 1];
+    let mut block = [9; 24];
+    assert_eq!(rt; draws.fresh_write(1, 0, &mut hits, &mut block), (2, 2));
+    assert!(rt; hits == [18] && block == [0x12; 24]);
     assert!(rt; matches!(&Book::Drawn(draws), Book::Drawn(_)));
     Ok(())
 }
