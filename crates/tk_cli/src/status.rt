@@ -44,6 +44,17 @@ impl Status {
 /// Appends the line that tells a status, without a line feed; nothing for one that is done.
 pub fn status_line(alloc: Global, status: &Status, out: &mut Vec<u8>) -> Result<(), Memory>
     ensures ok { OnOk result (out.new.items ≡ out.old.items ++ status_text status.now) }
+    ensures err { OnErr result (out.new.items ≡ out.old.items) }
+{
+    let mut line = Vec::new(alloc);
+    push_text(alloc, status, &mut line)?;
+    out.extend_from_slice(line.as_slice())?;
+    Ok(())
+}
+
+/// Appends the text that tells a status.
+fn push_text(alloc: Global, status: &Status, out: &mut Vec<u8>) -> Result<(), Memory>
+    ensures ok { OnOk result (out.new.items ≡ out.old.items ++ status_text status.now) }
 {
     match status {
         Status::Done => {}

@@ -1,5 +1,5 @@
-ghost use Rattle.std.specs.Prelude.{◌≡◌, ◌≢◌, ◌↔◌, ◌⊎◌, ℕ, List, take};
-ghost use Rattle.tk_io.specs.Content.{Rose, TakesUpTo, gained};
+ghost use Rattle.std.specs.Prelude.{◌≡◌, ◌≢◌, ◌≤◌, ◌↔◌, ◌⊎◌, ℕ, List, take};
+ghost use Rattle.tk_io.specs.Content.{Rose, TakesUpTo, emptied, gained};
 ghost use Rattle.tk_cli.specs.Requests.{AsksLater, AsksNothing};
 
 use crate::request::{Request, request_of};
@@ -32,9 +32,13 @@ pub fn talek<R: Threads + Wait + Sync, S: Source, K: Sink, T: Taps, G: Gate>(
     ensures unread { AsksNothing words.now ⊎ AsksLater words.now → S.left source.new ≡ S.left source.old }
     ensures read { result ≡ Status.Read → Rose (S.faults source.old) (S.faults source.new) }
     ensures taken { (taken : List ℕ) × TakesUpTo INPUT_LIMIT (S.left source.old) (S.left source.new) (result ≡ Status.TooLong) taken }
+    ensures ended { result ≢ Status.Memory → result ≢ Status.Usage → result ≢ Status.Read → result ≢ Status.TooLong → result ≢ Status.Later 0
+        → S.left source.new ≡ emptied (S.left source.old) }
+    ensures source_faults { S.faults source.old ≤ S.faults source.new }
     ensures write { result ≡ Status.Write → Rose (K.faults sink.old) (K.faults sink.new) }
     ensures front { result ≡ Status.Write → ((n : ℕ) × (output : List ℕ) × (K.held sink.new ≡ gained (K.held sink.old) (take n output))) }
     ensures quiet { result ≢ Status.Done → result ≢ Status.Write → K.held sink.new ≡ K.held sink.old }
+    ensures sink_faults { K.faults sink.old ≤ K.faults sink.new }
     ensures taps { _taps.new ≡ _taps.old }
 {
     match request_of(words) {
@@ -50,9 +54,12 @@ fn run_serial<S: Source, K: Sink>(alloc: Global, source: &mut S, sink: &mut K) -
     ensures later { result ≢ Status.Later 0 }
     ensures read { result ≡ Status.Read → Rose (S.faults source.old) (S.faults source.new) }
     ensures taken { (taken : List ℕ) × TakesUpTo INPUT_LIMIT (S.left source.old) (S.left source.new) (result ≡ Status.TooLong) taken }
+    ensures ended { result ≢ Status.Memory → result ≢ Status.Read → result ≢ Status.TooLong → S.left source.new ≡ emptied (S.left source.old) }
+    ensures source_faults { S.faults source.old ≤ S.faults source.new }
     ensures write { result ≡ Status.Write → Rose (K.faults sink.old) (K.faults sink.new) }
     ensures front { result ≡ Status.Write → ((n : ℕ) × (output : List ℕ) × (K.held sink.new ≡ gained (K.held sink.old) (take n output))) }
     ensures quiet { result ≢ Status.Done → result ≢ Status.Write → K.held sink.new ≡ K.held sink.old }
+    ensures sink_faults { K.faults sink.old ≤ K.faults sink.new }
 {
     let text = match read_all(alloc, source, INPUT_LIMIT) {
         Ok(text) => text,
