@@ -118,38 +118,6 @@ fn faults(rt: HostRuntime) -> Result<(), Fail> {
     Ok(())
 }
 
-// a source and a sink that failed go on where they stood
-#[test]
-fn calls_after_faults(rt: HostRuntime) -> Result<(), Fail> {
-    let alloc = rt.alloc();
-    let mut source = MemSource::new(ONE_TEXT.to_vec(alloc)?, 50, vec![in alloc; 2]?);
-    let mut sink = MemSink::new(alloc, 10, vec![in alloc; 3]?);
-    assert_eq!(rt;
-        run(&rt, &["serial"], &mut source, &mut sink)?,
-        Status::Read
-    );
-    assert_eq!(rt; source.left(), &ONE_TEXT[50..]);
-    assert_eq!(rt;
-        run(&rt, &["serial"], &mut source, &mut sink)?,
-        Status::Later { line: 1 }
-    );
-    assert_eq!(rt; source.left().len(), 0);
-
-    let mut source = source_of(alloc, ONE_TEXT)?;
-    assert_eq!(rt;
-        run(&rt, &["serial"], &mut source, &mut sink)?,
-        Status::Write
-    );
-    let mut source = source_of(alloc, ONE_TEXT)?;
-    assert_eq!(rt;
-        run(&rt, &["serial"], &mut source, &mut sink)?,
-        Status::Done
-    );
-    assert_eq!(rt; &sink.bytes()[..20], &REPORT[..20]);
-    assert_eq!(rt; &sink.bytes()[20..], REPORT);
-    Ok(())
-}
-
 #[test]
 fn words(rt: HostRuntime) -> Result<(), Fail> {
     let alloc = rt.alloc();
