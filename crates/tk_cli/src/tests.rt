@@ -118,6 +118,39 @@ fn faults(rt: HostRuntime) -> Result<(), Fail> {
     Ok(())
 }
 
+// a source and a sink that failed go on where they stood
+#[test]
+fn calls_after_faults(rt: HostRuntime) -> Result<(), Fail> {
+    let alloc = rt.alloc();
+    let mut source = MemSource::new(ONE_TEXT.to_vec(alloc)?, 50, vec![in alloc; 2]?);
+    let mut sink = MemSink::new(alloc, 10, vec![in alloc; 3]?);
+    assert_eq!(rt;
+        run(&rt, &["serial"], &mut source, &mut sink)?,
+        Status::Read
+    );
+    assert_eq!(rt; Some(source.left()), ONE_TEXT.get(50..));
+    assert_eq!(rt;
+        run(&rt, &["serial"], &mut source, &mut sink)?,
+        Status::Later { line: 1 }
+    );
+    assert_eq!(rt; source.left().len(), 0);
+
+    let mut source = source_of(alloc, ONE_TEXT)?;
+    assert_eq!(rt;
+        run(&rt, &["serial"], &mut source, &mut sink)?,
+        Status::Write
+    );
+    let mut source = source_of(alloc, ONE_TEXT)?;
+    assert_eq!(rt;
+        run(&rt, &["serial"], &mut source, &mut sink)?,
+        Status::Done
+    );
+    let mut written = Vec::from_slice(alloc, b"report\norder 1 1 0 1")?;
+    written.extend_from_slice(REPORT)?;
+    assert_eq!(rt; sink.bytes(), written.as_slice());
+    Ok(())
+}
+
 #[test]
 fn words(rt: HostRuntime) -> Result<(), Fail> {
     let alloc = rt.alloc();
