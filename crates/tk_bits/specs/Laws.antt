@@ -3,7 +3,14 @@ use Rattle.std.specs.Prelude.{◌≡◌, ℕ, ◌*◌, ◌<◌, List, map, lengt
 use Rattle.tk_kernel.specs.Xor.{xor_all}
 use Rattle.tk_kernel.specs.Pieces.{AllSized}
 use Rattle.tk_kernel.specs.Chosen.{chosen_sum}
-use Rattle.tk_bits.specs.Shares.{unit_vector, shares}
+use Rattle.tk_bits.specs.Shares.{unit_vector, last_share, shares}
+
+-- the first servers get the drawn vectors in their order, and the last one gets the computed share
+abbrev pub LastIsComputed : Type 0
+LastIsComputed =
+    (size i : ℕ) (drawn : List (List ℕ))
+    → ((j : ℕ) → j < length drawn → slice_get (shares size i drawn) j ≡ slice_get drawn j)
+    × (slice_get (shares size i drawn) (length drawn) ≡ Some (last_share size i drawn))
 
 -- all shares of a bucket join to its unit vector
 abbrev pub SharesJoin : Type 0

@@ -1,5 +1,10 @@
 //! Why answers to shares are worth joining.
-ghost use Rattle.tk_bits.specs.Laws.{SharesJoin, SumsAdd, AnswersJoin};
+ghost use Rattle.tk_bits.specs.Laws.{LastIsComputed, SharesJoin, SumsAdd, AnswersJoin};
+
+/// The first servers get the drawn vectors in their order, and the last one gets the computed share.
+pub fn last_is_computed()
+    ensures { LastIsComputed }
+{}
 
 /// All shares of a bucket join to its unit vector.
 pub fn shares_join()

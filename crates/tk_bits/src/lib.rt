@@ -5,7 +5,7 @@ mod laws;
 mod shares;
 mod vector;
 
-pub use laws::{answers_join, shares_join, sums_add};
+pub use laws::{answers_join, last_is_computed, shares_join, sums_add};
 pub use shares::{join, share};
 pub use vector::bit;
 

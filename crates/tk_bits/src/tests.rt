@@ -1,4 +1,4 @@
-use crate::{answers_join, bit, join, share, shares_join, sums_add};
+use crate::{answers_join, bit, join, last_is_computed, share, shares_join, sums_add};
 use tk_kernel::xor_choose;
 
 #[test]
@@ -46,6 +46,7 @@ fn shares_of_four_servers(rt: HostRuntime) {
     assert_eq!(rt; unit.as_slice(), [0x00, 0x02].as_slice());
     join(&[], &mut unit);
     assert_eq!(rt; unit.as_slice(), [0, 0].as_slice());
+    last_is_computed();
     shares_join();
     sums_add();
     answers_join();
