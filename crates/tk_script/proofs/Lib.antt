@@ -1,3 +1,13 @@
 pub mod LineLaws
 pub mod NumberLaws
 pub mod SoundLaws
+pub mod FieldLaws
+pub mod TextLaws
+pub mod ReadingLaws
+pub mod RoleLaws
+pub mod SayLaws
+pub mod ShapeLaws
+pub mod OptionLaws
+pub mod PieceLaws
+pub mod ScriptLaws
+pub mod SpellingLaws

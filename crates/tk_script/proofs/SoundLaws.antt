@@ -1,50 +1,59 @@
 -- Tests on lists that grow at their end.
-use Rattle.std.proofs.Common.{◌≡◌, ℕ, zero, suc, ◌-◌, ◌+◌, ◌≤◌, List, [], ◌∷◌, ◌++◌, length, drop, get_or, Bool, true, false, ◌&&◌, IsTrue, Option, Some, None, refl, ap, sym, ◌∙◌, arith}
+use Rattle.std.proofs.Common.{◌≡◌, ℕ, suc, ◌-◌, ◌≤◌, List, [], ◌∷◌, ◌++◌, length, drop, get_or, Bool, true, false, ◌&&◌, IsTrue, Some, refl, ap, sym, ◌∙◌, arith}
 use Rattle.std.specs.Prelude.{slice_get, nat_lt}
-use Rattle.std.specs.List.{list_all}
 use Rattle.tk_script.specs.SoundScript.{is_ascending, is_said_by, are_in_order}
 use Rattle.tk_script.specs.declared.say.Say.{Say}
 
-both : (a b : Bool) → a ≡ true → b ≡ true → (a && b) ≡ true
+pub both : (a b : Bool) → a ≡ true → b ≡ true → (a && b) ≡ true
 both a b p q = rw (p, q) refl
 
-parts : (a b : Bool) → (a && b) ≡ true → (a ≡ true) × (b ≡ true)
+pub parts : (a b : Bool) → (a && b) ≡ true → (a ≡ true) × (b ≡ true)
 parts true true e = (refl, refl)
 parts true false e = absurd (cc e)
 parts false b e = absurd (cc e)
 
-pub list_all-push : {X : Type 0} (p : X → Bool) (xs : List X) (y : X) → IsTrue (list_all p xs) → IsTrue (p y) → IsTrue (list_all p (xs ++ y ∷ []))
-list_all-push p [] y all here = both (p y) true here refl
-list_all-push p (x ∷ xs) y all here =
-    let split = parts (p x) (list_all p xs) all in
-    both (p x) (list_all p (xs ++ y ∷ [])) split.0 (list_all-push p xs y split.1 here)
-
 some_inj : {X : Type 0} (x y : X) → Some x ≡ Some y → x ≡ y
 some_inj x y e = cc e
 
+and_true : (a : Bool) → (a && true) ≡ a
+and_true true = refl
+and_true false = refl
+
 -- one more text behind the last
-pub are_in_order-push : (says : List Say) (last y : Say) → slice_get says (length says - 1) ≡ Some last → IsTrue (is_said_by last y) →
-    IsTrue (are_in_order says) → IsTrue (are_in_order (says ++ y ∷ []))
-are_in_order-push [] last y at by ordered = refl
-are_in_order-push (a ∷ []) last y at by ordered =
-    both (is_said_by a y) true (ap (λ s. is_said_by s y) (some_inj a last at) ∙ by) refl
-are_in_order-push (a ∷ b ∷ says) last y at by ordered =
+pub are_in_order-push : (says : List Say) (last y : Say) →
+    slice_get says (length says - 1) ≡ Some last → IsTrue (are_in_order says) →
+    is_said_by last y ≡ are_in_order (says ++ y ∷ [])
+are_in_order-push [] last y at ordered = absurd (cc at)
+are_in_order-push (a ∷ []) last y at ordered =
+    ap (λ s. is_said_by s y) (sym (some_inj a last at)) ∙ sym (and_true (is_said_by a y))
+are_in_order-push (a ∷ b ∷ says) last y at ordered =
     let split = parts (is_said_by a b) (are_in_order (b ∷ says)) ordered in
     let shift : length (a ∷ b ∷ says) - 1 ≡ suc (length (b ∷ says) - 1) = omega arith in
     let behind = ap (slice_get (a ∷ b ∷ says)) (sym shift) ∙ at in
-    both (is_said_by a b) (are_in_order (b ∷ (says ++ y ∷ []))) split.0 (are_in_order-push (b ∷ says) last y behind by split.1)
+    are_in_order-push (b ∷ says) last y behind split.1
+    ∙ ap (λ t. t && are_in_order (b ∷ (says ++ y ∷ []))) (sym split.0)
 
-pub are_in_order-first : (says : List Say) (y : Say) → length says ≡ 0 → IsTrue (are_in_order (says ++ y ∷ []))
-are_in_order-first [] y none = refl
-are_in_order-first (a ∷ says) y none = absurd (omega (arith, none))
+-- texts in order are so up to each of them
+pub are_in_order-front : (says : List Say) (y : Say) (more : List Say) →
+    IsTrue (are_in_order (says ++ y ∷ more)) →
+    IsTrue (are_in_order (says ++ y ∷ []))
+are_in_order-front [] y more ordered = refl
+are_in_order-front (a ∷ []) y more ordered =
+    both (is_said_by a y) true (parts (is_said_by a y) (are_in_order (y ∷ more)) ordered).0 refl
+are_in_order-front (a ∷ b ∷ says) y more ordered =
+    let split = parts (is_said_by a b) (are_in_order (b ∷ (says ++ y ∷ more))) ordered in
+    both (is_said_by a b) (are_in_order (b ∷ (says ++ y ∷ []))) split.0
+    (are_in_order-front (b ∷ says) y more split.1)
 
 -- two numbers that ascend, and the rest
-pub is_ascending-step : (xs : List ℕ) → 2 ≤ length xs → nat_lt (get_or xs 0 0) (get_or xs 1 0) ≡ true → is_ascending xs ≡ is_ascending (drop 1 xs)
+pub is_ascending-step : (xs : List ℕ) → 2 ≤ length xs →
+    nat_lt (get_or xs 0 0) (get_or xs 1 0) ≡ true → is_ascending xs ≡ is_ascending (drop 1 xs)
 is_ascending-step [] long ascend = absurd (omega (arith, long))
 is_ascending-step (a ∷ []) long ascend = absurd (omega (arith, long))
 is_ascending-step (a ∷ b ∷ xs) long ascend = ap (λ t. t && is_ascending (b ∷ xs)) ascend
 
-pub is_ascending-broken : (xs : List ℕ) → 2 ≤ length xs → nat_lt (get_or xs 0 0) (get_or xs 1 0) ≡ false → is_ascending xs ≡ false
+pub is_ascending-broken : (xs : List ℕ) → 2 ≤ length xs →
+    nat_lt (get_or xs 0 0) (get_or xs 1 0) ≡ false → is_ascending xs ≡ false
 is_ascending-broken [] long broken = absurd (omega (arith, long))
 is_ascending-broken (a ∷ []) long broken = absurd (omega (arith, long))
 is_ascending-broken (a ∷ b ∷ xs) long broken = ap (λ t. t && is_ascending (b ∷ xs)) broken

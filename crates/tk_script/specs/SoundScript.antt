@@ -38,14 +38,16 @@ are_in_order (a ∷ b ∷ says) = is_said_by a b && are_in_order (b ∷ says)
 -- a keyed script has a handle for each log and a seed for each client
 abbrev pub has_keys : Shape → Option Keys → Bool
 has_keys shape None = true
-has_keys shape (Some keys) = (length keys.handles == shape.logs) && (length keys.seeds == shape.clients)
+has_keys shape (Some keys) = (length keys.handles == shape.logs) &&
+    (length keys.seeds == shape.clients)
 
 -- a drawn script's tape is not too long
 abbrev pub tape_fits : Shape → Option Keys → Bool
 tape_fits shape (Some keys) = true
 tape_fits shape None = nat_le (tape_len shape) 2097152
 
-pub record IsScript (shape : Shape) (keys : Option Keys) (roles : List Role) (says : List Say) : Type 0 where
+pub record IsScript (shape : Shape) (keys : Option Keys) (roles : List Role) (says : List Say)
+    : Type 0 where
   pub keys_counted : IsTrue (has_keys shape keys)
   pub tape_fits : IsTrue (tape_fits shape keys)
   pub roles_counted : length roles ≡ shape.logs

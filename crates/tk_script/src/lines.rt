@@ -1,5 +1,5 @@
-ghost use Rattle.std.specs.Prelude.{◌≡◌, ◌≢◌, ◌<◌, ◌∷◌, ℕ, [], length, slice_index, IfSome, IfNone};
-ghost use Rattle.tk_script.specs.Grammar.{lines_of};
+ghost use Rattle.std.specs.Prelude.{◌≡◌, ◌≢◌, ◌<◌, ◌↔◌, ◌∷◌, ℕ, codes, IsTrue, List, [], length, slice_index, IfSome, IfNone, IsSomeAnd};
+ghost use Rattle.tk_script.specs.Grammar.{Line, lines_of};
 
 /// Where a byte stands first in a text.
 pub(crate) fn place_of(text: &[u8], byte: u8) -> Option<usize>
@@ -20,7 +20,7 @@ pub(crate) fn place_of(text: &[u8], byte: u8) -> Option<usize>
 pub(crate) fn next_line(text: &[u8]) -> Option<(&[u8], &[u8])>
     ensures line { IfSome result (λ x. lines_of text.now ≡ x.0.now ∷ lines_of x.1.now) }
     ensures shorter { IfSome result (λ x. length x.1.now < length text.now) }
-    ensures none { IfNone result (text.now ≡ []) }
+    ensures none { IfNone result (lines_of text.now ≡ []) }
 {
     if text.is_empty() {
         return None;
@@ -33,11 +33,21 @@ pub(crate) fn next_line(text: &[u8]) -> Option<(&[u8], &[u8])>
 
 /// The text behind a first line that reads so.
 pub(crate) fn line_that_reads<'a>(text: &'a [u8], words: &[u8]) -> Option<&'a [u8]>
-    ensures line { IfSome result (λ rest. lines_of text.now ≡ words.now ∷ lines_of rest.now) }
+    ensures found { IfSome result (λ rest. lines_of text.now ≡ words.now ∷ lines_of rest.now) }
     ensures shorter { IfSome result (λ rest. length rest.now < length text.now) }
+    ensures only { (behind : List Line) → lines_of text.now ≡ words.now ∷ behind →
+        IsSomeAnd result (λ rest. lines_of rest.now ≡ behind) }
 {
-    match next_line(text) {
-        Some((line, rest)) if line == words => Some(rest),
-        _ => None,
+    let (line, rest) = next_line(text)?;
+    if line != words {
+        return None;
     }
+    Some(rest)
+}
+
+/// Whether a line is the one that ends a section.
+pub(crate) fn is_end(line: &[u8]) -> bool
+    ensures { IsTrue result ↔ (line.now ≡ codes "end") }
+{
+    line == b"end".as_slice()
 }

@@ -1,8 +1,4 @@
-ghost use Rattle.std.specs.Prelude.{◌≡◌, ◌<◌, ◌^◌, ℕ, decimal, length, Some, IfSome};
-
-use crate::lines::place_of;
-use std::alloc::Global;
-use tk_shape::Memory;
+ghost use Rattle.std.specs.Prelude.{◌≡◌, ◌<◌, ◌^◌, ℕ, decimal, Some, IfSome};
 
 /// The number of 64 bits whose plain decimal a text is: digits alone, and no zero in front of others.
 pub fn plain_number(text: &[u8]) -> Option<u64>
@@ -38,37 +34,4 @@ pub(crate) fn number_of(text: &[u8]) -> Option<u32>
         Some(number) if number <= 4294967295 => Some(number as u32),
         _ => None,
     }
-}
-
-/// The number behind one space, and what follows it: nothing, or a space and more.
-pub(crate) fn next_number(text: &[u8]) -> Option<(u32, &[u8])>
-    ensures shorter { IfSome result (λ x. length x.1.now < length text.now) }
-{
-    let Some((b' ', text)) = text.split_first() else {
-        return None;
-    };
-    let end = place_of(text, b' ').unwrap_or(text.len());
-    let number = number_of(&text[..end])?;
-    Some((number, &text[end..]))
-}
-
-/// The numbers of a line that is a word and numbers, with one space in front of each.
-pub(crate) fn numbers_behind(
-    alloc: Global,
-    word: &[u8],
-    line: &[u8],
-) -> Result<Option<Vec<u32>>, Memory> {
-    let mut numbers = Vec::new(alloc);
-    if !line.starts_with(word) {
-        return Ok(None);
-    }
-    let mut rest = &line[word.len()..];
-    'numbers: while !rest.is_empty() {
-        let Some((number, behind)) = next_number(rest) else {
-            return Ok(None);
-        };
-        numbers.push(number)?;
-        rest = behind;
-    }
-    Ok(Some(numbers))
 }

@@ -1,4 +1,5 @@
-ghost use Rattle.std.specs.Prelude.{IfOk, IfSome};
+ghost use Rattle.std.specs.Prelude.{◌≡◌, Some, IfOk, IfSome};
+ghost use Rattle.tk_script.specs.Grammar.{Spells};
 ghost use Rattle.tk_script.specs.Built.{IsBuilt};
 
 use crate::Input;
@@ -10,7 +11,10 @@ use tk_shape::Memory;
 /// The input that a text spells, if it spells one that is built so far: a drawn script of two servers which retains no
 /// more writes than a bucket has slots and doesn't read ahead, and a tape of the shape's length.
 pub fn parse(alloc: Global, text: &[u8]) -> Result<Option<Input>, Memory>
+    ensures found { IfOk result (λ o. IfSome o (λ input. Spells text.now input)) }
     ensures built { IfOk result (λ o. IfSome o IsBuilt) }
+    ensures only { (input : Input) → Spells text.now input → IsBuilt input →
+        IfOk result (λ o. o ≡ Some input) }
 {
     let Some((script, rest)) = script_of(alloc, text)? else {
         return Ok(None);
@@ -19,7 +23,10 @@ pub fn parse(alloc: Global, text: &[u8]) -> Result<Option<Input>, Memory>
     let Some((tape, rest)) = tape_of(alloc, want as usize, rest)? else {
         return Ok(None);
     };
-    if tape.got != want || tape.bytes.as_slice().len() as u64 != want || !rest.is_empty() {
+    if tape.got != want {
+        return Ok(None);
+    }
+    if !rest.is_empty() {
         return Ok(None);
     }
     Ok(Some(Input {

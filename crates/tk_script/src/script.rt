@@ -24,7 +24,8 @@ impl Script {
         requires { log < self.now.shape.logs }
         ensures role { slice_get self.now.roles log ≡ Some result.now }
         ensures writer_in { result.now.writer < self.now.shape.clients }
-        ensures followers_in { (i : ℕ) → i < length result.now.followers → slice_index result.now.followers i < self.now.shape.clients }
+        ensures followers_in { (i : ℕ) → i < length result.now.followers →
+            slice_index result.now.followers i < self.now.shape.clients }
     {
         &self.roles.as_slice()[log as usize]
     }

@@ -1,5 +1,5 @@
 -- Where it answers none the text is no number's decimal; else it is that of the number.
-use Rattle.std.proofs.Common.{◌≡◌, ℕ, ◌+◌, ◌-◌, ◌*◌, ◌<◌, ◌≤◌, length, take, get_or, ap, sym, ◌∙◌, arith, rules, Some, ◌^◌, decimal, List, below_more}
+use Rattle.std.proofs.Common.{◌≡◌, ℕ, ◌+◌, ◌<◌, ◌≤◌, length, take, get_or, ap, sym, ◌∙◌, arith, rules, Some, decimal, List, below_more}
 use Rattle.std.proofs.lemmas.List.{take_all}
 use Rattle.std.specs.Int.{IsInRange}
 use Rattle.std.specs.Str.Parse.{digits_value}
@@ -36,7 +36,8 @@ loop-byte-preserved c =
     let more = one_more_digit c.args.text.now at c.loop-byte-test.true digit in
     record {
       value = omega (arith, more, c.loop-byte.invariant.value, c.from-digit.ensures);
-      digits = below_more (λ k. IsInRange 48 57 (get_or c.args.text.now k 0)) at c.loop-byte.invariant.digits digit;
+      digits = below_more (λ k. IsInRange 48 57 (get_or c.args.text.now k 0)) at
+          c.loop-byte.invariant.digits digit;
     }
 
 whole : (text : List ℕ) (at : ℕ) → length text ≤ at → take at text ≡ text
@@ -45,7 +46,8 @@ whole text at all = take_all at text all
 pub returns-clause-found : goal.returns-clause-found
 returns-clause-found c =
     let all = whole c.args.text.now c.loop-byte.byte-index c.loop-byte-test.false in
-    let value : c.loop-byte.number ≡ digits_value 10 c.args.text.now = c.loop-byte.invariant.value ∙ ap (digits_value 10) all in
+    let value : c.loop-byte.number ≡ digits_value 10 c.args.text.now = c.loop-byte.invariant.value
+    ∙ ap (digits_value 10) all in
     let some : 0 < length c.args.text.now = search rules in
     let plain : get_or c.args.text.now 0 0 ≡ 48 → length c.args.text.now ≡ 1 =
     λ zero. elim c.else-text-eq48.branch [
@@ -53,10 +55,13 @@ returns-clause-found c =
       | else-text-eq48-via-else-text-eq48 w ↦ absurd (w.if-text-eq48.false zero)
     ]
     in
-    let digits : AreDigits c.args.text.now = λ k within. c.loop-byte.invariant.digits k (omega (arith, within)) in
-    sym (decimal-read c.args.text.now digits some plain (omega (arith, value))) ∙ ap decimal (sym value)
+    let digits : AreDigits c.args.text.now = λ k within. c.loop-byte.invariant.digits k
+    (omega (arith, within)) in
+    sym (decimal-read c.args.text.now digits some plain (omega (arith, value)))
+    ∙ ap decimal (sym value)
 
 pub returns-clause-only : goal.returns-clause-only
 returns-clause-only c n small e =
     let all = whole c.args.text.now c.loop-byte.byte-index c.loop-byte-test.false in
-    ap Some (c.loop-byte.invariant.value ∙ ap (digits_value 10) all ∙ digits_value-spelled c.args.text.now n small e)
+    ap Some (c.loop-byte.invariant.value ∙ ap (digits_value 10) all
+    ∙ digits_value-spelled c.args.text.now n small e)

@@ -1,0 +1,79 @@
+ghost use Rattle.std.specs.Prelude.{◌≡◌, ◌<◌, ◌^◌, ◌∷◌, ◌++◌, ℕ, List, [], map, decimal, length, IfOk, IfSome, IsSomeAnd};
+ghost use Rattle.std.specs.List.{AllByRecursion};
+ghost use Rattle.tk_script.specs.Fields.{IsFieldEnd, LacksSpace};
+ghost use Rattle.tk_script.specs.Grammar.{fields};
+
+use crate::lines::place_of;
+use crate::numbers::number_of;
+use std::alloc::Global;
+use tk_shape::Memory;
+
+/// What follows words at the front of a line.
+pub(crate) fn rest_behind<'a>(line: &'a [u8], words: &[u8]) -> Option<&'a [u8]>
+    ensures found { IfSome result (λ rest. line.now ≡ words.now ++ rest.now) }
+    ensures only { (rest : List ℕ) → line.now ≡ words.now ++ rest →
+        IsSomeAnd result (λ x. x.now ≡ rest) }
+{
+    if line.len() < words.len() {
+        return None;
+    }
+    if &line[..words.len()] != words {
+        return None;
+    }
+    Some(&line[words.len()..])
+}
+
+/// The field at the front of a text, up to its first space, and what follows it.
+fn next_field(text: &[u8]) -> (&[u8], &[u8])
+    ensures whole { text.now ≡ result.0.now ++ result.1.now }
+    ensures end { IsFieldEnd result.1.now }
+    ensures field { LacksSpace result.0.now }
+{
+    match place_of(text, b' ') {
+        Some(end) => (&text[..end], &text[end..]),
+        None => (text, &text[text.len()..]),
+    }
+}
+
+/// The number behind one space, and what follows it: nothing, or a space and more.
+pub(crate) fn next_number(text: &[u8]) -> Option<(u32, &[u8])>
+    ensures found { IfSome result (λ x. text.now ≡ 0x20 ∷ (decimal x.0 ++ x.1.now)) }
+    ensures end { IfSome result (λ x. IsFieldEnd x.1.now) }
+    ensures small { IfSome result (λ x. x.0 < 2 ^ 32) }
+    ensures shorter { IfSome result (λ x. length x.1.now < length text.now) }
+    ensures only { (n : ℕ) (rest : List ℕ) → n < 2 ^ 32 → IsFieldEnd rest →
+        text.now ≡ 0x20 ∷ (decimal n ++ rest) →
+        IsSomeAnd result (λ x. (x.0 ≡ n) × (x.1.now ≡ rest)) }
+{
+    let text = rest_behind(text, b" ")?;
+    let (field, rest) = next_field(text);
+    let number = number_of(field)?;
+    Some((number, rest))
+}
+
+/// The numbers of a line that is a word and numbers, with one space in front of each.
+pub(crate) fn numbers_behind(
+    alloc: Global,
+    word: &[u8],
+    line: &[u8],
+) -> Result<Option<Vec<u32>>, Memory>
+    ensures found { IfOk result (λ o. IfSome o (λ ns.
+        line.now ≡ fields (word.now ∷ map decimal ns.items))) }
+    ensures only { (ns : List ℕ) → AllByRecursion (λ n. n < 2 ^ 32) ns →
+        line.now ≡ fields (word.now ∷ map decimal ns) →
+        IfOk result (λ o. IsSomeAnd o (λ v. v.items ≡ ns)) }
+{
+    let Some(text) = rest_behind(line, word) else {
+        return Ok(None);
+    };
+    let mut numbers = Vec::new(alloc);
+    let mut rest = text;
+    'numbers: while !rest.is_empty() {
+        let Some((number, behind)) = next_number(rest) else {
+            return Ok(None);
+        };
+        numbers.push(number)?;
+        rest = behind;
+    }
+    Ok(Some(numbers))
+}
