@@ -1,1 +1,12 @@
 pub mod ListTests
+pub mod OutboxLaws
+pub mod OrderLaws
+pub mod EntriesLaws
+pub mod ReaderLaws
+pub mod SerialLaws
+pub mod ReportLaws
+pub mod RetainedLaws
+pub mod Computing
+pub mod OrdinaryRun
+pub mod PassingOver
+pub mod FalsePositive

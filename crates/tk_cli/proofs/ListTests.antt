@@ -1,5 +1,5 @@
 -- Tests of all elements, on fronts and longer lists.
-use Rattle.std.proofs.Common.{◌≡◌, ◌<◌, ℕ, zero, suc, length, get_or, set, arith, List, [], ◌∷◌, ◌++◌, take, Bool, true, false, ◌&&◌, refl, IsTrue}
+use Rattle.std.proofs.Common.{◌≡◌, ◌<◌, ◌+◌, ℕ, zero, suc, length, get_or, set, arith, List, [], ◌∷◌, ◌++◌, take, Bool, true, false, ◌&&◌, refl, IsTrue}
 use Rattle.std.specs.List.{list_all}
 
 both : (a b : Bool) → a ≡ true → b ≡ true → (a && b) ≡ true
@@ -35,3 +35,12 @@ pub list_all-at : {X : Type 0} (p : X → Bool) (xs : List X) (i : ℕ) (d : X) 
 list_all-at p [] i d within all = absurd (omega (arith, within))
 list_all-at p (x ∷ xs) zero d within all = (parts (p x) (list_all p xs) all).0
 list_all-at p (x ∷ xs) (suc i) d within all = list_all-at p xs i d (omega (arith, within)) (parts (p x) (list_all p xs) all).1
+
+-- what holds of each element by its place, of one more
+pub each-push : {X : Type 0} (P : ℕ → X → Type 0) (xs : List X) (x : X) → ((i : ℕ) (d : X) → i < length xs → P i (get_or xs i d)) →
+    P (length xs) x → (i : ℕ) (d : X) → i < length xs + 1 → P i (get_or (xs ++ x ∷ []) i d)
+each-push P [] x each here zero d within = here
+each-push P [] x each here (suc i) d within = absurd (omega (arith, within))
+each-push P (y ∷ xs) x each here zero d within = each 0 d (omega arith)
+each-push P (y ∷ xs) x each here (suc i) d within =
+    each-push (λ k. P (suc k)) xs x (λ k e h. each (suc k) e (omega (arith, h))) here i d (omega (arith, within))

@@ -2,3 +2,14 @@ pub mod Sendable
 pub mod StatusLines
 pub mod Requests
 pub mod Followed
+pub mod Outboxes
+pub mod Orders
+pub mod Lists
+pub mod Place
+pub mod Table
+pub mod Bloom
+pub mod Client
+pub mod Entries
+pub mod Report
+pub mod Readers
+pub mod Serial

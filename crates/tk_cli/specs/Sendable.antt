@@ -6,10 +6,10 @@ use Rattle.tk_seal.specs.Texts.{is_allowed}
 use Rattle.tk_frames.specs.declared.entry.Placed.{Placed}
 use Rattle.tk_frames.specs.declared.entry.Entry.{Entry}
 use Rattle.tk_frames.specs.declared.entry.Entry.TheVariants.{Write, Mark}
-use Rattle.tk_cli.specs.declared.sending.Sending.{Sending}
+use Rattle.tk_cli.specs.declared.outgoing.Outgoing.{Outgoing}
 
 -- the log and the number are in range, and the text is allowed and has room in a block
-abbrev pub can_send : Shape → Sending → Bool
+abbrev pub can_send : Shape → Outgoing → Bool
 can_send shape s =
     nat_lt s.log shape.logs && nat_lt s.number (turn_count shape) && nat_le (length s.text + 18) shape.block
     && is_allowed s.text

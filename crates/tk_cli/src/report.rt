@@ -1,15 +1,21 @@
-ghost use Rattle.std.specs.Prelude.{◌≡◌, ◌<◌, ◌≤◌, length};
-ghost use Rattle.tk_shape.specs.Lengths.{turn_count};
+ghost use Rattle.std.specs.Prelude.{◌≡◌, ◌++◌, flat_map, length, OnOk};
+ghost use Rattle.std.specs.List.{range_with_len};
 ghost use Rattle.tk_schedule.specs.Schedule.{IsLegal};
+ghost use Rattle.tk_script.specs.Sent.{unsent_count};
+ghost use Rattle.tk_words.specs.Words.{BookWords};
+ghost use Rattle.tk_cli.specs.Outboxes.{AreOutboxes};
+ghost use Rattle.tk_cli.specs.Readers.{AreReaders};
+ghost use Rattle.tk_cli.specs.Report.{report_of, unsent_line};
 
-use crate::got::Got;
+use crate::history_text::push_history;
+use crate::log_text::push_logs;
 use crate::outbox::Outbox;
-use crate::printing::{push_number, push_numbers};
+use crate::printing::push_line;
 use crate::reader::Reader;
 use std::alloc::Global;
-use tk_schedule::{History, Item, closes, place};
+use tk_schedule::History;
 use tk_script::Script;
-use tk_shape::{Memory, Shape};
+use tk_shape::Memory;
 
 /// Appends the report of a run: its history, what each log gave to each follower, and how many texts each client has
 /// left over.
@@ -23,94 +29,40 @@ pub(crate) fn push_report(
 ) -> Result<(), Memory>
     requires legal { IsLegal script.now.shape history.now }
     requires readers { length readers.now ≡ script.now.shape.clients }
+    requires outboxes { AreOutboxes script.now outboxes.now }
+    ensures { (w : BookWords) → AreReaders script.now w history.now readers.now
+        → OnOk result (out.new.items ≡ out.old.items ++ report_of script.now w history.now) }
 {
     out.extend_from_slice(b"report\n")?;
-    for turn in 0..script.shape.turns() {
-        push_turn(alloc, &script.shape, history, turn, out)?;
-    }
-    for log in 0..script.shape.logs {
-        for client in script.role(log).followers.as_slice() {
-            push_log(alloc, &readers[*client as usize], log, *client, out)?;
-        }
-    }
-    for (client, outbox) in outboxes.iter().enumerate() {
-        push_numbers(
-            alloc,
-            out,
-            b"unsent",
-            &[client as u64, outbox.unsent as u64],
-        )?;
-        out.push(b'\n')?;
-    }
+    push_history(alloc, &script.shape, history, out)?;
+    push_logs(alloc, script, readers, out)?;
+    push_all_unsent(alloc, script, outboxes, out)?;
     out.extend_from_slice(b"end\n")?;
     Ok(())
 }
 
-/// Appends the order of a turn, and where it closes a phase its epochs.
-fn push_turn(
+/// Appends how many texts each client has left over.
+fn push_all_unsent(
     alloc: Global,
-    shape: &Shape,
-    history: &History,
-    turn: u32,
+    script: &Script,
+    outboxes: &[Outbox],
     out: &mut Vec<u8>,
 ) -> Result<(), Memory>
-    requires legal { IsLegal shape.now history.now }
-    requires turn_in { turn < turn_count shape.now }
+    requires outboxes { AreOutboxes script.now outboxes.now }
+    ensures ok { OnOk result (out.new.items ≡ out.old.items
+        ++ flat_map (λ c. unsent_line c (unsent_count script.now c))
+        (range_with_len 0 script.now.shape.clients)) }
 {
-    let (phase, tick) = place(shape, turn);
-    push_numbers(alloc, out, b"order", &[u64::from(phase), u64::from(tick)])?;
-    for item in history.order(turn) {
-        out.push(b' ')?;
-        push_item(alloc, *item, out)?;
-    }
-    out.push(b'\n')?;
-    if closes(shape, turn) {
-        push_numbers(alloc, out, b"reads", &[u64::from(phase), u64::from(tick)])?;
-        for client in 0..shape.clients {
-            out.push(b' ')?;
-            push_number(alloc, out, u64::from(history.epoch(turn, client)))?;
-        }
-        out.push(b'\n')?;
+    for client in 0..script.shape.clients {
+        let outbox = &outboxes[client as usize];
+        push_unsent(alloc, client, outbox.unsent, out)?;
     }
     Ok(())
 }
 
-fn push_item(alloc: Global, item: Item, out: &mut Vec<u8>) -> Result<(), Memory> {
-    match item {
-        Item::Client(client) => push_number(alloc, out, u64::from(client)),
-        Item::Publish => {
-            out.extend_from_slice(b"mark")?;
-            Ok(())
-        }
-    }
-}
-
-/// Appends what a log gave to a follower.
-fn push_log(
-    alloc: Global,
-    reader: &Reader,
-    log: u32,
-    client: u32,
-    out: &mut Vec<u8>,
-) -> Result<(), Memory> {
-    let got = reader.got(log);
-    push_numbers(
-        alloc,
-        out,
-        b"log",
-        &[u64::from(log), u64::from(client), got.len() as u64],
-    )?;
-    out.push(b'\n')?;
-    for (number, got) in got.iter().enumerate() {
-        match got {
-            Got::Absent => push_numbers(alloc, out, b"absent", &[number as u64])?,
-            Got::Text(text) => {
-                push_numbers(alloc, out, b"text", &[number as u64])?;
-                out.push(b' ')?;
-                out.extend_from_slice(text.as_slice())?;
-            }
-        }
-        out.push(b'\n')?;
-    }
-    Ok(())
+/// Appends how many texts a client has left over.
+fn push_unsent(alloc: Global, client: u32, count: usize, out: &mut Vec<u8>) -> Result<(), Memory>
+    ensures ok { OnOk result (out.new.items ≡ out.old.items ++ unsent_line client count) }
+{
+    push_line(alloc, out, b"unsent", &[u64::from(client), count as u64])
 }

@@ -82,6 +82,95 @@ fn ordinary_run(rt: HostRuntime) -> Result<(), Fail> {
     Ok(())
 }
 
+/// The front of a script of two clients, one log and two turns, up to what is said.
+const FRONT: &[u8] = b"talek 1
+shape 2 8 4 4 24 64 1 0 2 2 1 1
+drawn
+log 0 1
+";
+
+/// A tape of which no dummy opens.
+const TAPE: &str = "fill 11 36
+fill 12 36
+fill 13 36
+fill 14 36
+fill 21 40
+fill 31 36
+fill 32 36
+";
+
+/// What is said, a tape, and what the report tells of the log and of what is left over.
+const SMALL: [(&str, &str, &str, &str); 3] = [
+    // both dummies of the first turn open under number 0: the earliest wins
+    ("", "fill 00 256\n", "log 0 1 1\ntext 0 \n", "unsent 0 0\n"),
+    // the last turn takes one of two texts, too late for a read
+    (
+        "say 2 1 0 a\nsay 2 1 0 b\n",
+        TAPE,
+        "log 0 1 0\n",
+        "unsent 0 1\n",
+    ),
+    // the longest text that has room
+    (
+        "say 1 1 0 abcdef\n",
+        TAPE,
+        "log 0 1 1\ntext 0 abcdef\n",
+        "unsent 0 0\n",
+    ),
+];
+
+/// The history of a run of two clients and two turns, as a report begins.
+const HISTORY: &[u8] = b"report
+order 1 1 0 1 mark
+reads 1 1 0 0
+order 2 1 0 1 mark
+reads 2 1 1 1
+";
+
+fn joined(alloc: Global, parts: &[&[u8]]) -> Result<Vec<u8>, AllocError> {
+    let mut all = Vec::new(alloc);
+    for part in parts {
+        all.extend_from_slice(part)?;
+    }
+    Ok(all)
+}
+
+#[test]
+fn small_runs(rt: HostRuntime) -> Result<(), Fail> {
+    let alloc = rt.alloc();
+    for (says, tape, log, unsent) in SMALL {
+        let (says, tape) = (says.as_bytes(), tape.as_bytes());
+        let (log, unsent) = (log.as_bytes(), unsent.as_bytes());
+        let input = joined(alloc, &[FRONT, says, b"end\ntape\n", tape, b"end\n"])?;
+        let report = joined(alloc, &[HISTORY, log, unsent, b"unsent 1 0\nend\n"])?;
+        let mut source = source_of(alloc, input.as_slice())?;
+        let mut sink = MemSink::new(alloc, 4096, Vec::new(alloc));
+        assert_eq!(rt;
+            run(&rt, &["serial"], &mut source, &mut sink)?,
+            Status::Done
+        );
+        assert_eq!(rt; sink.bytes(), report.as_slice());
+    }
+    Ok(())
+}
+
+// a kind of words that there is not
+#[test]
+fn refused_input(rt: HostRuntime) -> Result<(), Fail> {
+    let alloc = rt.alloc();
+    let front = b"talek 1\nshape 2 8 4 4 24 64 1 0 2 2 1 1\ndruwn\nlog 0 1\n";
+    let input = joined(alloc, &[front, b"end\ntape\nfill 00 256\nend\n"])?;
+    let mut source = source_of(alloc, input.as_slice())?;
+    let mut sink = MemSink::new(alloc, 4096, Vec::new(alloc));
+    assert_eq!(rt;
+        run(&rt, &["serial"], &mut source, &mut sink)?,
+        Status::Later { line: 1 }
+    );
+    assert_eq!(rt; sink.bytes().len(), 0);
+    assert_eq!(rt; source.left().len(), 0);
+    Ok(())
+}
+
 #[test]
 fn faults(rt: HostRuntime) -> Result<(), Fail> {
     let alloc = rt.alloc();

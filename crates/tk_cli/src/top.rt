@@ -1,6 +1,7 @@
-ghost use Rattle.std.specs.Prelude.{◌≡◌, ◌≢◌, ◌≤◌, ◌↔◌, ◌⊎◌, ℕ, List, take};
+ghost use Rattle.std.specs.Prelude.{◌≡◌, ◌≢◌, ◌≤◌, ◌↔◌, ◌⊎◌, ℕ, List, take, IfOk, IfSome, IfNone};
 ghost use Rattle.tk_io.specs.Content.{Rose, TakesUpTo, emptied, gained};
 ghost use Rattle.tk_cli.specs.Requests.{AsksLater, AsksNothing};
+ghost use Rattle.tk_cli.specs.Serial.{IsSerialReport, SpellNothing, TakesAll};
 
 use crate::request::{Request, request_of};
 use crate::serial::serial;
@@ -27,16 +28,27 @@ pub fn talek<R: Threads + Wait + Sync, S: Source, K: Sink, T: Taps, G: Gate>(
     _taps: &mut T,
     _gate: &G,
 ) -> Status
+    ensures done { result ≡ Status.Done →
+        ((bytes output : List ℕ) × TakesAll bytes (S.left source.old) (S.left source.new)
+        × IsSerialReport bytes output
+        × (K.held sink.new ≡ gained (K.held sink.old) output)) }
+    ensures write { result ≡ Status.Write →
+        ((bytes output : List ℕ) × (n : ℕ)
+        × TakesAll bytes (S.left source.old) (S.left source.new)
+        × IsSerialReport bytes output
+        × (K.held sink.new ≡ gained (K.held sink.old) (take n output))) }
     ensures usage { (result ≡ Status.Usage) ↔ AsksNothing words.now }
     ensures later { (result ≡ Status.Later 0) ↔ AsksLater words.now }
-    ensures unread { AsksNothing words.now ⊎ AsksLater words.now → S.left source.new ≡ S.left source.old }
+    ensures refused { (line : ℕ) → result ≡ Status.Later line → line ≢ 0 →
+        (line ≡ 1) × ((bytes : List ℕ)
+        × TakesAll bytes (S.left source.old) (S.left source.new) × SpellNothing bytes) }
+    ensures unread { AsksNothing words.now ⊎ AsksLater words.now →
+        S.left source.new ≡ S.left source.old }
     ensures read { result ≡ Status.Read → Rose (S.faults source.old) (S.faults source.new) }
-    ensures taken { (taken : List ℕ) × TakesUpTo INPUT_LIMIT (S.left source.old) (S.left source.new) (result ≡ Status.TooLong) taken }
-    ensures ended { result ≢ Status.Memory → result ≢ Status.Usage → result ≢ Status.Read → result ≢ Status.TooLong → result ≢ Status.Later 0
-        → S.left source.new ≡ emptied (S.left source.old) }
+    ensures taken { let too_long = result ≡ Status.TooLong in (taken : List ℕ)
+        × TakesUpTo INPUT_LIMIT (S.left source.old) (S.left source.new) too_long taken }
     ensures source_faults { S.faults source.old ≤ S.faults source.new }
-    ensures write { result ≡ Status.Write → Rose (K.faults sink.old) (K.faults sink.new) }
-    ensures front { result ≡ Status.Write → ((n : ℕ) × (output : List ℕ) × (K.held sink.new ≡ gained (K.held sink.old) (take n output))) }
+    ensures write_fault { result ≡ Status.Write → Rose (K.faults sink.old) (K.faults sink.new) }
     ensures quiet { result ≢ Status.Done → result ≢ Status.Write → K.held sink.new ≡ K.held sink.old }
     ensures sink_faults { K.faults sink.old ≤ K.faults sink.new }
     ensures taps { _taps.new ≡ _taps.old }
@@ -50,14 +62,25 @@ pub fn talek<R: Threads + Wait + Sync, S: Source, K: Sink, T: Taps, G: Gate>(
 
 /// The word `serial`.
 fn run_serial<S: Source, K: Sink>(alloc: Global, source: &mut S, sink: &mut K) -> Status
+    ensures done { result ≡ Status.Done →
+        ((bytes output : List ℕ) × TakesAll bytes (S.left source.old) (S.left source.new)
+        × IsSerialReport bytes output
+        × (K.held sink.new ≡ gained (K.held sink.old) output)) }
+    ensures write { result ≡ Status.Write →
+        ((bytes output : List ℕ) × (n : ℕ)
+        × TakesAll bytes (S.left source.old) (S.left source.new)
+        × IsSerialReport bytes output
+        × (K.held sink.new ≡ gained (K.held sink.old) (take n output))) }
     ensures usage { result ≢ Status.Usage }
     ensures later { result ≢ Status.Later 0 }
+    ensures refused { (line : ℕ) → result ≡ Status.Later line →
+        (line ≡ 1) × ((bytes : List ℕ)
+        × TakesAll bytes (S.left source.old) (S.left source.new) × SpellNothing bytes) }
     ensures read { result ≡ Status.Read → Rose (S.faults source.old) (S.faults source.new) }
-    ensures taken { (taken : List ℕ) × TakesUpTo INPUT_LIMIT (S.left source.old) (S.left source.new) (result ≡ Status.TooLong) taken }
-    ensures ended { result ≢ Status.Memory → result ≢ Status.Read → result ≢ Status.TooLong → S.left source.new ≡ emptied (S.left source.old) }
+    ensures taken { let too_long = result ≡ Status.TooLong in (taken : List ℕ)
+        × TakesUpTo INPUT_LIMIT (S.left source.old) (S.left source.new) too_long taken }
     ensures source_faults { S.faults source.old ≤ S.faults source.new }
-    ensures write { result ≡ Status.Write → Rose (K.faults sink.old) (K.faults sink.new) }
-    ensures front { result ≡ Status.Write → ((n : ℕ) × (output : List ℕ) × (K.held sink.new ≡ gained (K.held sink.old) (take n output))) }
+    ensures write_fault { result ≡ Status.Write → Rose (K.faults sink.old) (K.faults sink.new) }
     ensures quiet { result ≢ Status.Done → result ≢ Status.Write → K.held sink.new ≡ K.held sink.old }
     ensures sink_faults { K.faults sink.old ≤ K.faults sink.new }
 {
@@ -79,7 +102,10 @@ fn run_serial<S: Source, K: Sink>(alloc: Global, source: &mut S, sink: &mut K) -
 }
 
 /// The report of the serial run of an input; none for bytes that are no input of the form that is built.
-fn report_of(alloc: Global, text: &[u8]) -> Result<Option<Vec<u8>>, Memory> {
+fn report_of(alloc: Global, text: &[u8]) -> Result<Option<Vec<u8>>, Memory>
+    ensures found { IfOk result (λ o. IfSome o (λ report. IsSerialReport text.now report.items)) }
+    ensures none { IfOk result (λ o. IfNone o (SpellNothing text.now)) }
+{
     let Some(input) = parse(alloc, text)? else {
         return Ok(None);
     };

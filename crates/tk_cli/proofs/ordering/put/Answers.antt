@@ -1,0 +1,16 @@
+use Rattle.std.proofs.Common.{arith, eq-eqb}
+use Rattle.tk_cli.specs.Sendable.{placed_has_block}
+use Rattle.tk_cli.proofs.OrderLaws.{ends-write, placed-append}
+use Rattle.tk_cli.proofs.ListTests.{list_all-push}
+use Rattle.tk_cli.proofs.ordering.put.Goals as goal
+
+pub returns-clause-order : goal.returns-clause-order
+returns-clause-order c =
+    let E = c.args.order.now.placed.items in
+    let size = c.args.order.now.shape.block in
+    let items = c.in_ok-push.ensures.items in
+    record {
+      blocks = rw (items) (list_all-push (placed_has_block size) E _ c.requires.order.blocks (eq-eqb _ _ c.requires.block));
+      ends = rw (items) (ends-write E c.args.order.now.ends.items _ c.args.write c.requires.order.ends);
+      placed = rw (items) (placed-append 1 E _ c.requires.order.placed (omega (arith, c.len.ensures)));
+    }
