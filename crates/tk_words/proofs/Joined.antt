@@ -2,7 +2,7 @@
 use Rattle.std.proofs.Common.{◌≡◌, ℕ, zero, suc, ◌+◌, ◌*◌, ◌≤◌, List, ◌++◌, length, take, drop, ap, ap₂, sym, ◌∙◌, arith, length-drop, zero-mul, suc-mul}
 use Rattle.std.specs.List.{flat_map}
 use Rattle.std.proofs.lemmas.List.{take-take, drop-take, take-append-drop, take_all}
-use Rattle.tk_words.specs.Pieces.{pieces}
+use Rattle.tk_kernel.specs.Pieces.{pieces}
 
 -- the first a + b bytes are the first a and the b behind them
 take_two : (a b : ℕ) (xs : List ℕ) → take (a + b) xs ≡ take a xs ++ take b (drop a xs)

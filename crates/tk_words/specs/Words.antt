@@ -3,7 +3,8 @@ use Rattle.std.specs.Prelude.{◌≡◌, ℕ, ◌+◌, ◌-◌, ◌*◌, ◌%◌
 use Rattle.std.specs.List.{range_with_len}
 use Rattle.tk_shape.specs.declared.shape.Shape.{Shape}
 use Rattle.tk_handle.specs.declared.handle.Handle.{Handle}
-use Rattle.tk_words.specs.Pieces.{piece, pieces, word_at_byte}
+use Rattle.tk_kernel.specs.Pieces.{pieces}
+use Rattle.tk_words.specs.Pieces.{piece, word_at_byte}
 use Rattle.tk_shape.specs.Lengths.{turn_count, vector_len, cell_len, read_cell_len, tape_len}
 use Rattle.tk_handle.specs.Handle.{word, key_bytes}
 use Rattle.tk_choice.specs.Choice.{keyed_pair, keyed_hits}
