@@ -8,5 +8,6 @@ pub mod ReportLaws
 pub mod RetainedLaws
 pub mod Computing
 pub mod OrdinaryRun
+pub mod Displaced
 pub mod PassingOver
 pub mod FalsePositive

@@ -1,5 +1,5 @@
 -- What a client sends when one more text is said.
-use Rattle.std.proofs.Common.{◌≡◌, ◌≢◌, set, eqb-true, eq-eqb, ne_eqb, length-take, get_or-set_same, get_or-set_other, ℕ, suc, ◌+◌, ◌<◌, ◌≤◌, max, min, append-nil, lt-ltb, tests, drop, drop-cons, add-one, get_or, find, List, [], ◌∷◌, ◌++◌, length, take, Bool, true, false, cond, refl, ap, sym, ◌∙◌, arith, count_by, filter, map}
+use Rattle.std.proofs.Common.{◌≡◌, ◌≢◌, set, eqb-true, eq-eqb, length-take, get_or-set_same, get_or-set_other, ℕ, ◌+◌, ◌<◌, ◌≤◌, max, min, append-nil, lt-ltb, tests, get_or, find, List, [], ◌∷◌, ◌++◌, length, take, Bool, true, false, cond, refl, ap, sym, ◌∙◌, arith, count_by, filter, map}
 use Rattle.std.specs.Prelude.{◌==◌, nat_le, slice_get, Some, None}
 use Rattle.std.specs.Option.{option_map}
 use Rattle.std.proofs.lemmas.Bool.{both_ways}
@@ -7,7 +7,7 @@ use Rattle.std.proofs.lemmas.List.{take_more}
 use Rattle.std.proofs.lemmas.List.Elements.{filter-append}
 use Rattle.std.proofs.lemmas.Option.{slice_get_within, get_or_from_slice_get}
 use Rattle.tk_shape.specs.Lengths.{turn_count}
-use Rattle.tk_cli.specs.Outboxes.{in_run, sending, IsOutbox}
+use Rattle.tk_cli.specs.Outboxes.{sending, IsOutbox}
 use Rattle.tk_cli.specs.declared.outbox.Outbox.{Outbox}
 use Rattle.tk_cli.specs.Entries.{write_of, write_at}
 use Rattle.tk_script.specs.declared.script.Script.{Script}
@@ -16,7 +16,7 @@ use Rattle.std.proofs.lemmas.List.Sums.{sum_by-cons, sum_by-append, count_by-le-
 use Rattle.tk_shape.specs.declared.shape.Shape.{Shape}
 use Rattle.tk_script.specs.declared.say.Say.{Say}
 use Rattle.tk_schedule.specs.Schedule.{turn_at}
-use Rattle.tk_script.specs.Sent.{Sending, sendings_from, sendings, sent}
+use Rattle.tk_script.specs.Sent.{Sending, sendings_from, sendings, in_run, sent}
 
 -- the first turn without a text behind these, where free was the first before them
 abbrev pub free_after : Shape → ℕ → List Say → ℕ
@@ -176,19 +176,6 @@ mine-same p says i y at not_mine =
     ∙ ap (λ b. filter p (take i says) ++ cond b (y ∷ []) []) not_mine
     ∙ append-nil (filter p (take i says))
 
--- ---- the search for what is due
-
-pub find-next : {X : Type 0} (p : X → Bool) (xs : List X) (i : ℕ) (d : X) → i < length xs → p (get_or xs i d) ≡ true →
-    find p (drop i xs) ≡ Some (get_or xs i d)
-find-next p xs i d within hit =
-    ap (find p) (drop-cons xs i d within) ∙ ap (λ b. cond b (Some (get_or xs i d)) (find p (drop (suc i) xs))) hit
-
-pub find-skip : {X : Type 0} (p : X → Bool) (xs : List X) (i : ℕ) (d : X) → i < length xs → p (get_or xs i d) ≡ false →
-    find p (drop i xs) ≡ find p (drop (i + 1) xs)
-find-skip p xs i d within miss =
-    ap (find p) (drop-cons xs i d within) ∙ ap (λ b. cond b (Some (get_or xs i d)) (find p (drop (suc i) xs))) miss
-    ∙ ap (λ n. find p (drop n xs)) (sym (add-one i))
-
 -- one more text of its log is counted, and of no other
 pub numbered-more : (numbers : List ℕ) (mine : List Say) (y : Say) (logs : ℕ) → ((log : ℕ) → log < logs → get_or numbers log 0 ≡ of_log log mine) →
     length numbers ≡ logs → y.log < logs → (log : ℕ) → log < logs →
@@ -214,18 +201,6 @@ numbered-more numbers mine y logs numbered counted here log within =
 pub of_log-le : (p : Say → Bool) (says : List Say) (i log : ℕ) → of_log log (filter p (take i says)) ≤ i
 of_log-le p says i log =
     omega (arith, count_by-le-length (λ (z : Say). z.log == log) (filter p (take i says)), length-filter p (take i says), count_by-le-length p (take i says), length-take i says)
-
--- a search for a turn of the run goes past what isn't of the run
-pub find-in_run : (shape : Shape) (g : ℕ) (ys : List Sending) → g < turn_count shape →
-    find (λ (y : Sending). y.turn == g) (filter (in_run shape) ys) ≡ find (λ (y : Sending). y.turn == g) ys
-find-in_run shape g [] in_time = refl
-find-in_run shape g (y ∷ ys) in_time =
-    elim (in_run shape y) as (λ b. in_run shape y ≡ b → find (λ (y : Sending). y.turn == g) (cond b (y ∷ filter (in_run shape) ys) (filter (in_run shape) ys)) ≡ find (λ (y : Sending). y.turn == g) (y ∷ ys)) [
-      | true ↦ λ e. ap (λ rest. cond (y.turn == g) (Some y) rest) (find-in_run shape g ys in_time)
-      | false ↦ λ e.
-          let other : (y.turn == g) ≡ false = ne_eqb y.turn g (λ same. both_ways (in_run shape y) e (in_run-yes shape y (omega (arith, same, in_time)))) in
-          find-in_run shape g ys in_time ∙ ap (λ b. cond b (Some y) (find (λ (y : Sending). y.turn == g) ys)) (sym other)
-    ] refl
 
 -- what is kept, told of equal things
 pub kept-equal : (shape : Shape) (mine mine' : List Say) (sent sent' : List Sending) (unsent unsent' free free' : ℕ) →
@@ -255,18 +230,17 @@ find-meets p (x ∷ xs) y e =
     some_inj : {Z : Type 0} (a b : Z) → Some a ≡ Some b → a ≡ b
     some_inj a b h = cc h
 
--- what the outbox has for a turn of the run is what the client sends in it
-pub due-is-sent : (S : Script) (c g : ℕ) (o : Outbox) → IsOutbox S c o → g < turn_count S.shape →
+-- what the outbox has for a turn is what the client sends in it
+pub due-is-sent : (S : Script) (c g : ℕ) (o : Outbox) → IsOutbox S c o →
     option_map sending (find (λ y. y.turn == g) o.outgoing.items) ≡ sent S g c
 unfolding sent
-due-is-sent S c g o outbox in_time =
+due-is-sent S c g o outbox =
     option_map-find sending (λ y. y.turn == g) o.outgoing.items
     ∙ ap (find (λ (y : Sending). y.turn == g)) outbox.outgoing
-    ∙ find-in_run S.shape g (sendings S c) in_time
 
 sent-turn : (S : Script) (g c : ℕ) (y : Sending) → sent S g c ≡ Some y → y.turn ≡ g
 unfolding sent
-sent-turn S g c y e = eqb-true y.turn g (find-meets (λ (z : Sending). z.turn == g) (sendings S c) y e)
+sent-turn S g c y e = eqb-true y.turn g (find-meets (λ (z : Sending). z.turn == g) (filter (in_run S.shape) (sendings S c)) y e)
 
 -- the write of a text that is sent
 pub write-of-sent : (S : Script) (w : BookWords) (g c : ℕ) (y : Sending) → sent S g c ≡ Some y → write_of w y.turn c (Some y) ≡ write_at S w g c

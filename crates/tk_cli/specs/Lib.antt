@@ -11,5 +11,6 @@ pub mod Bloom
 pub mod Client
 pub mod Entries
 pub mod Report
+pub mod Shown
 pub mod Readers
 pub mod Serial

@@ -1,19 +1,13 @@
 -- A client's texts as its outbox keeps them.
-use Rattle.std.specs.Prelude.{◌≡◌, ◌<◌, ℕ, Bool, nat_lt, List, length, map, filter, slice_index_or}
-use Rattle.tk_shape.specs.declared.shape.Shape.{Shape}
-use Rattle.tk_shape.specs.Lengths.{turn_count}
+use Rattle.std.specs.Prelude.{◌≡◌, ◌<◌, ℕ, List, length, map, filter, slice_index_or}
 use Rattle.tk_script.specs.declared.script.Script.{Script}
-use Rattle.tk_script.specs.Sent.{Sending, sendings, unsent_count}
+use Rattle.tk_script.specs.Sent.{Sending, sendings, in_run, unsent_count}
 use Rattle.tk_cli.specs.declared.outgoing.Outgoing.{Outgoing}
 use Rattle.tk_cli.specs.declared.outbox.Outbox.{Outbox}
 
 -- a text that goes out, as what is sent
 abbrev pub sending : Outgoing → Sending
 sending y = record { turn = y.turn; log = y.log; number = y.number; text = y.text }
-
--- its turn is one of the run
-abbrev pub in_run : Shape → Sending → Bool
-in_run shape y = nat_lt y.turn (turn_count shape)
 
 -- the outbox has what the client sends in the run, and how many texts are left over
 pub record IsOutbox (S : Script) (c : ℕ) (o : Outbox) : Type 0 where

@@ -20,7 +20,8 @@ pub enum Status {
     Write,
     /// The input has more than 8,388,608 bytes.
     TooLong,
-    /// A form that isn't built yet; line 0 means the words.
+    /// What isn't built yet: with line 0 the form that the words ask for, with line 1 bytes that are no input of the
+    /// form that is built.
     Later { line: u64 },
 }
 

@@ -154,6 +154,67 @@ fn small_runs(rt: HostRuntime) -> Result<(), Fail> {
     Ok(())
 }
 
+/// Three clients and three logs: one whose writer follows it, and one that nobody follows. The window has two writes of
+/// each turn's three, and one text is left over.
+const LARGER: &[u8] = b"talek 1
+shape 2 8 2 2 24 64 1 0 3 2 2 3
+drawn
+log 2 0 2
+log 1 0
+log 0
+say 1 1 2 x
+say 1 2 0 a
+say 1 2 1 b
+say 2 1 1 c
+say 2 2 0 d
+say 2 2 0 e
+end
+tape
+fill 11 432
+fill 22 120
+fill 31 36
+fill 32 36
+fill 33 36
+fill 34 36
+fill 35 36
+fill 36 36
+fill 37 36
+fill 38 36
+fill 39 144
+end
+";
+
+const LARGER_REPORT: &[u8] = b"report
+order 1 1 0 1 2
+order 1 2 0 1 2 mark
+reads 1 2 0 0 0
+order 2 1 0 1 2
+order 2 2 0 1 2 mark
+reads 2 2 1 1 1
+log 0 0 1
+text 0 a
+log 0 2 1
+text 0 a
+log 1 0 1
+text 0 b
+unsent 0 0
+unsent 1 0
+unsent 2 1
+end
+";
+
+#[test]
+fn larger_run(rt: HostRuntime) -> Result<(), Fail> {
+    let mut source = source_of(rt.alloc(), LARGER)?;
+    let mut sink = MemSink::new(rt.alloc(), 4096, Vec::new(rt.alloc()));
+    assert_eq!(rt;
+        run(&rt, &["serial"], &mut source, &mut sink)?,
+        Status::Done
+    );
+    assert_eq!(rt; sink.bytes(), LARGER_REPORT);
+    Ok(())
+}
+
 // a kind of words that there is not
 #[test]
 fn refused_input(rt: HostRuntime) -> Result<(), Fail> {

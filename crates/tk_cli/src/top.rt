@@ -1,7 +1,7 @@
-ghost use Rattle.std.specs.Prelude.{◌≡◌, ◌≢◌, ◌≤◌, ◌↔◌, ◌⊎◌, ℕ, List, take, IfOk, IfSome, IfNone};
-ghost use Rattle.tk_io.specs.Content.{Rose, TakesUpTo, emptied, gained};
+ghost use Rattle.std.specs.Prelude.{◌≡◌, ◌≢◌, ◌≤◌, ◌↔◌, ◌⊎◌, ℕ, List, IfOk, IfSome, IfNone};
+ghost use Rattle.tk_io.specs.Content.{Rose, TakesUpTo};
 ghost use Rattle.tk_cli.specs.Requests.{AsksLater, AsksNothing};
-ghost use Rattle.tk_cli.specs.Serial.{IsSerialReport, SpellNothing, TakesAll};
+ghost use Rattle.tk_cli.specs.Serial.{IsSerialReport, SpellNothing, Reports, ReportsFront, Refuses};
 
 use crate::request::{Request, request_of};
 use crate::serial::serial;
@@ -29,19 +29,13 @@ pub fn talek<R: Threads + Wait + Sync, S: Source, K: Sink, T: Taps, G: Gate>(
     _gate: &G,
 ) -> Status
     ensures done { result ≡ Status.Done →
-        ((bytes output : List ℕ) × TakesAll bytes (S.left source.old) (S.left source.new)
-        × IsSerialReport bytes output
-        × (K.held sink.new ≡ gained (K.held sink.old) output)) }
+        Reports (S.left source.old) (S.left source.new) (K.held sink.old) (K.held sink.new) }
     ensures write { result ≡ Status.Write →
-        ((bytes output : List ℕ) × (n : ℕ)
-        × TakesAll bytes (S.left source.old) (S.left source.new)
-        × IsSerialReport bytes output
-        × (K.held sink.new ≡ gained (K.held sink.old) (take n output))) }
+        ReportsFront (S.left source.old) (S.left source.new) (K.held sink.old) (K.held sink.new) }
     ensures usage { (result ≡ Status.Usage) ↔ AsksNothing words.now }
     ensures later { (result ≡ Status.Later 0) ↔ AsksLater words.now }
     ensures refused { (line : ℕ) → result ≡ Status.Later line → line ≢ 0 →
-        (line ≡ 1) × ((bytes : List ℕ)
-        × TakesAll bytes (S.left source.old) (S.left source.new) × SpellNothing bytes) }
+        (line ≡ 1) × Refuses (S.left source.old) (S.left source.new) }
     ensures unread { AsksNothing words.now ⊎ AsksLater words.now →
         S.left source.new ≡ S.left source.old }
     ensures read { result ≡ Status.Read → Rose (S.faults source.old) (S.faults source.new) }
@@ -63,19 +57,13 @@ pub fn talek<R: Threads + Wait + Sync, S: Source, K: Sink, T: Taps, G: Gate>(
 /// The word `serial`.
 fn run_serial<S: Source, K: Sink>(alloc: Global, source: &mut S, sink: &mut K) -> Status
     ensures done { result ≡ Status.Done →
-        ((bytes output : List ℕ) × TakesAll bytes (S.left source.old) (S.left source.new)
-        × IsSerialReport bytes output
-        × (K.held sink.new ≡ gained (K.held sink.old) output)) }
+        Reports (S.left source.old) (S.left source.new) (K.held sink.old) (K.held sink.new) }
     ensures write { result ≡ Status.Write →
-        ((bytes output : List ℕ) × (n : ℕ)
-        × TakesAll bytes (S.left source.old) (S.left source.new)
-        × IsSerialReport bytes output
-        × (K.held sink.new ≡ gained (K.held sink.old) (take n output))) }
+        ReportsFront (S.left source.old) (S.left source.new) (K.held sink.old) (K.held sink.new) }
     ensures usage { result ≢ Status.Usage }
     ensures later { result ≢ Status.Later 0 }
     ensures refused { (line : ℕ) → result ≡ Status.Later line →
-        (line ≡ 1) × ((bytes : List ℕ)
-        × TakesAll bytes (S.left source.old) (S.left source.new) × SpellNothing bytes) }
+        (line ≡ 1) × Refuses (S.left source.old) (S.left source.new) }
     ensures read { result ≡ Status.Read → Rose (S.faults source.old) (S.faults source.new) }
     ensures taken { let too_long = result ≡ Status.TooLong in (taken : List ℕ)
         × TakesUpTo INPUT_LIMIT (S.left source.old) (S.left source.new) too_long taken }

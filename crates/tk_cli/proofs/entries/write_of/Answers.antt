@@ -16,7 +16,7 @@ returns-in-Some-clause-write g c =
     (c.requires.outboxes.each c.args.client c.index-outboxes-client.result (omega (arith, c.requires.client_in, c.requires.outboxes.counted)))
     in
     let here : sent S c.args.turn c.args.client ≡ Some (sending c.in-Some.outgoing.now) =
-    sym (c.in-Some.ensures.found ∙ due-is-sent S c.args.client c.args.turn c.index-outboxes-client.result outbox c.requires.turn_in)
+    sym (c.in-Some.ensures.found ∙ due-is-sent S c.args.client c.args.turn c.index-outboxes-client.result outbox)
     in
     subst (λ v. IfOk c.text_write.result (λ w. w ≡ v)) (write-of-sent S words c.args.turn c.args.client (sending c.in-Some.outgoing.now) here) c.text_write.ensures.write
 
@@ -29,6 +29,6 @@ returns-in-None-clause-write g c =
     (c.requires.outboxes.each c.args.client c.index-outboxes-client.result (omega (arith, c.requires.client_in, c.requires.outboxes.counted)))
     in
     let here : sent S c.args.turn c.args.client ≡ None =
-    sym (c.in-None.ensures.found ∙ due-is-sent S c.args.client c.args.turn c.index-outboxes-client.result outbox c.requires.turn_in)
+    sym (c.in-None.ensures.found ∙ due-is-sent S c.args.client c.args.turn c.index-outboxes-client.result outbox)
     in
     subst (λ v. IfOk c.dummy_write.result (λ w. w ≡ v)) (write-of-none S words c.args.turn c.args.client here) c.dummy_write.ensures.write
