@@ -1,0 +1,34 @@
+-- What a window keeps of the pushes.
+use Rattle.std.specs.Prelude.{◌≡◌, ℕ, zero, suc, ◌-◌, ◌*◌, ◌/◌, ◌%◌, ◌<◌, ◌≤◌, List, [], ◌∷◌, length, take, drop, All}
+use Rattle.tk_bloom.specs.Counts.{Counted}
+
+-- the last n of a list, or all where there are fewer
+abbrev pub window : {X : Type 0} → ℕ → List X → List X
+window n xs = drop (length xs - n) xs
+
+-- the bits of a filter, the positions of a push, how many pushes are kept at most, and those that are, oldest first
+pub record Kept : Type 0 where
+  pub bits : ℕ
+  pub hits : ℕ
+  pub retained : ℕ
+  pub pushes : List (List ℕ)
+
+-- the first count pieces of a list, each of so many positions
+abbrev pub pieces : ℕ → ℕ → List ℕ → List (List ℕ)
+pieces hits zero positions = []
+pieces hits (suc count) positions = take hits positions ∷ pieces hits count (drop hits positions)
+
+-- the pushes that lie one behind the other in a list of positions
+abbrev pub pushes_in : ℕ → List ℕ → List (List ℕ)
+pushes_in hits positions = pieces hits (length positions / hits) positions
+
+-- the positions are those of whole pushes, of as many as are retained at most
+pub record HoldsPushes (hits retained : ℕ) (tally : Counted) : Type 0 where
+  pub some_hits : 1 ≤ hits
+  pub most_hits : hits ≤ 4
+  pub some_retained : 1 ≤ retained
+  pub most_retained : retained ≤ 131072
+  pub room_for_all : tally.room ≡ hits * retained
+  pub within : length tally.positions ≤ hits * retained
+  pub whole : length tally.positions % hits ≡ 0
+  pub in_range : All (λ h. h < tally.bits) tally.positions

@@ -1,0 +1,17 @@
+//! The filter of what is worth reading: the positions of the latest writes, each of which
+//! carries a few.
+#![tactic(auto)]
+
+mod filter;
+mod laws;
+mod memory;
+mod tally;
+mod window;
+
+pub use filter::Filter;
+pub use laws::{pushes_are_shown, windows_go_on};
+pub use memory::Memory;
+pub use window::Window;
+
+#[cfg(test)]
+mod tests;

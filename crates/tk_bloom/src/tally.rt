@@ -1,0 +1,108 @@
+ghost use Rattle.std.specs.Prelude.{◌≡◌, ◌+◌, ◌<◌, ◌≤◌, ◌++◌, [], ◌∷◌, length, map, drop};
+ghost use Rattle.std.specs.Prelude.{nat_lt, IfOk, All};
+ghost use Rattle.tk_bloom.specs.Filters.{marks_of};
+ghost use Rattle.tk_bloom.specs.Windows.{window};
+
+use crate::Memory;
+use std::alloc::{AllocError, Global};
+use std::collections::VecDeque;
+use std::marker::Model;
+
+/// Positions in the order in which they came, and how often each of them occurs.
+#[derive(Debug, Drop)]
+pub(crate) struct Tally {
+    queue: VecDeque<u32>,
+    counts: Vec<u32>,
+}
+
+impl Model for Tally {
+    ghost use Rattle.std.specs.Prelude.{length};
+    ghost use Rattle.std.specs.VecDeque.{deque_capacity};
+    ghost use Rattle.tk_bloom.specs.Counts.{Counted, AreCounts};
+
+    ghost Value = { Counted };
+
+    ghost view = { λ t. record {
+      bits = length t.counts.items;
+      room = deque_capacity t.queue;
+      positions = t.queue.items;
+    } };
+
+    ghost invariant = { λ t. AreCounts t.counts.items t.queue.items (deque_capacity t.queue) };
+}
+
+impl Tally {
+    /// No positions, with room for so many below `bits`.
+    pub(crate) fn open(alloc: Global, bits: u32, room: u32) -> Result<Tally, Memory>
+        ensures { IfOk result (λ t. t ≡ record { bits = bits; room = room; positions = [] }) }
+    {
+        Ok(Tally {
+            queue: VecDeque::with_capacity(alloc, room as usize)?,
+            counts: vec![in alloc; 0; bits as usize]?,
+        })
+    }
+
+    /// How many positions there are.
+    pub(crate) fn len(&self) -> usize
+        ensures { result ≡ length self.now.positions }
+    {
+        self.queue.len()
+    }
+
+    /// Puts a position behind the others.
+    pub(crate) fn push_back(&mut self, hit: u32)
+        requires room { length self.old.positions < self.old.room }
+        requires in_range { hit < self.old.bits }
+        ensures { self.new ≡ record self.old { positions = self.old.positions ++ hit ∷ [] } }
+    {
+        self.queue.push_back(hit).unwrap();
+        self.counts[hit as usize] += 1;
+    }
+
+    /// Takes the first position away.
+    pub(crate) fn pop_front(&mut self)
+        requires { 0 < length self.old.positions }
+        ensures { self.new ≡ record self.old { positions = drop 1 self.old.positions } }
+    {
+        let hit = self.queue.pop_front().unwrap();
+        self.counts[hit as usize] -= 1;
+    }
+
+    /// Puts positions behind the others.
+    pub(crate) fn append(&mut self, hits: &[u32])
+        requires room { length self.old.positions + length hits.now ≤ self.old.room }
+        requires in_range { All (λ h. h < self.old.bits) hits.now }
+        ensures { self.new ≡ record self.old { positions = self.old.positions ++ hits.now } }
+    {
+        for hit in hits {
+            self.push_back(*hit);
+        }
+    }
+
+    /// Takes the first positions away until there are at most `count`.
+    pub(crate) fn keep_last(&mut self, count: usize)
+        ensures { self.new ≡ record self.old { positions = window count self.old.positions } }
+    {
+        while self.len() > count {
+            self.pop_front();
+        }
+    }
+
+    /// For each position whether it occurs.
+    pub(crate) fn occurring(&self, alloc: Global) -> Result<Vec<bool>, Memory>
+        ensures { IfOk result (λ marks. marks.items ≡ marks_of self.now.bits self.now.positions) }
+    {
+        Ok(above_zero(alloc, &self.counts)?)
+    }
+}
+
+/// For each count whether it isn't 0.
+fn above_zero(alloc: Global, counts: &[u32]) -> Result<Vec<bool>, AllocError>
+    ensures { IfOk result (λ marks. marks.items ≡ map (λ n. nat_lt 0 n) counts.now) }
+{
+    let mut marks = Vec::with_capacity(alloc, counts.len())?;
+    for count in counts {
+        marks.push(*count > 0)?;
+    }
+    Ok(marks)
+}
