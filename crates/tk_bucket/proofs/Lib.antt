@@ -1,0 +1,4 @@
+pub mod Pages
+pub mod OneSlot
+pub mod Tables
+pub mod Rest

@@ -1,0 +1,143 @@
+ghost use Rattle.std.specs.Prelude.{◌≡◌, ◌≢◌, ◌<◌, ◌≤◌, length, IsTrue, IfOk};
+ghost use Rattle.tk_bucket.specs.Sizes.{IsSizes, bucket_len};
+ghost use Rattle.tk_bucket.specs.Table.{Slot, IsSized, empty_table, empty_slot, is_empty};
+ghost use Rattle.tk_bucket.specs.Table.{slot_at, with_slot, with_moved};
+ghost use Rattle.tk_bucket.specs.Shown.{Shows};
+ghost use Rattle.tk_bucket.specs.Bytes.{blocks_of};
+
+use crate::sizes::Sizes;
+use crate::slots::{clear_slot, copy_slot, slot_at, write_slot};
+use crate::{Memory, Packed, Place, SlotRef};
+use std::alloc::Global;
+use std::marker::Model;
+
+/// The slots of a table, packed bucket after bucket; seen as the list of its buckets, each the list of its slots.
+#[derive(Debug, Drop)]
+pub struct Buckets {
+    sizes: Sizes,
+    bytes: Vec<u8>,
+}
+
+impl Model for Buckets {
+    ghost use Rattle.tk_bucket.specs.Table.{Contents};
+    ghost use Rattle.tk_bucket.specs.Packing.{IsWhole, table_of};
+
+    ghost Value = { Contents };
+
+    ghost view = { λ b. record {
+      buckets = b.sizes.buckets;
+      depth = b.sizes.depth;
+      block = b.sizes.block;
+      table = table_of b.sizes b.bytes.items;
+    } };
+
+    ghost invariant = { λ b. IsWhole b.sizes b.bytes.items };
+}
+
+impl Buckets {
+    /// A table of empty slots, with blocks of `block` bytes.
+    pub fn new(alloc: Global, buckets: u32, depth: u32, block: u32) -> Result<Buckets, Memory>
+        requires { IsSizes buckets depth block }
+        ensures { IfOk result (λ b. b ≡ record {
+          buckets = buckets;
+          depth = depth;
+          block = block;
+          table = empty_table buckets depth block;
+        }) }
+    {
+        let sizes = Sizes {
+            buckets,
+            depth,
+            block,
+        };
+        let bytes = vec![in alloc; 0u8; sizes.table_len()]?;
+        Ok(Buckets { sizes, bytes })
+    }
+
+    /// Has no effect, and says what sizes the table has, whatever was written.
+    pub fn sized(&self)
+        ensures { IsSized self.now }
+    {
+        let _ = &self.bytes;
+    }
+
+    /// A slot; nothing is copied.
+    pub fn slot(&self, bucket: u32, slot: u32) -> SlotRef<'_>
+        requires bucket_in { bucket < self.now.buckets }
+        requires slot_in { slot < self.now.depth }
+        ensures { Shows result (slot_at self.now.table (bucket, slot)) }
+    {
+        slot_at(self.sizes, self.bytes.as_slice(), Place { bucket, slot })
+    }
+
+    /// Whether a slot has no record.
+    pub fn is_empty(&self, bucket: u32, slot: u32) -> bool
+        requires bucket_in { bucket < self.now.buckets }
+        requires slot_in { slot < self.now.depth }
+        ensures { result ≡ is_empty (slot_at self.now.table (bucket, slot)) }
+    {
+        self.slot(bucket, slot).position == 0
+    }
+
+    /// Writes a record into a slot, over what was there.
+    pub fn write_slot(
+        &mut self,
+        bucket: u32,
+        slot: u32,
+        position: u64,
+        pair: (u32, u32),
+        block: &[u8],
+    )
+        requires bucket_in { bucket < self.old.buckets }
+        requires slot_in { slot < self.old.depth }
+        requires position { 1 ≤ position }
+        requires block { length block.now ≡ self.old.block }
+        ensures { let s : Slot = record {
+          position = position;
+          first = pair.0;
+          second = pair.1;
+          block = block.now;
+        } in
+            self.new ≡ record self.old { table = with_slot self.old.table (bucket, slot) s } }
+    {
+        let (first, second) = pair;
+        let place = Place { bucket, slot };
+        let bytes = self.bytes.as_mut_slice();
+        write_slot(self.sizes, bytes, place, position, first, second, block);
+    }
+
+    /// Moves a slot's content into an empty slot, and leaves its own empty.
+    pub fn move_slot(&mut self, from: Place, to: Place)
+        requires from_in { (from.bucket < self.old.buckets) × (from.slot < self.old.depth) }
+        requires to_in { (to.bucket < self.old.buckets) × (to.slot < self.old.depth) }
+        requires empty { IsTrue (is_empty (slot_at self.old.table (to.bucket, to.slot))) }
+        requires other { from ≢ to }
+        ensures { self.new ≡ record self.old {
+          table = with_moved self.old (from.bucket, from.slot) (to.bucket, to.slot);
+        } }
+    {
+        let bytes = self.bytes.as_mut_slice();
+        copy_slot(self.sizes, bytes, from, to);
+        clear_slot(self.sizes, bytes, from);
+    }
+
+    /// Empties a slot.
+    pub fn clear_slot(&mut self, bucket: u32, slot: u32)
+        requires bucket_in { bucket < self.old.buckets }
+        requires slot_in { slot < self.old.depth }
+        ensures { let empty = empty_slot self.old.block in
+            self.new ≡ record self.old { table = with_slot self.old.table (bucket, slot) empty } }
+    {
+        let bytes = self.bytes.as_mut_slice();
+        clear_slot(self.sizes, bytes, Place { bucket, slot });
+    }
+
+    /// Each bucket's bytes as they are now. Later changes don't reach them.
+    pub fn snapshot(&mut self, alloc: Global) -> Result<Packed, Memory>
+        ensures width { IfOk result (λ p. p.width ≡ bucket_len self.old.depth self.old.block) }
+        ensures blocks { IfOk result (λ p. p.blocks ≡ blocks_of self.old.table) }
+        ensures kept { self.new ≡ self.old }
+    {
+        Packed::copied(alloc, self.sizes, self.bytes.as_slice())
+    }
+}
