@@ -1,0 +1,12 @@
+pub mod Blocked
+pub mod Crowds
+pub mod Ends
+pub mod Fits
+pub mod Levels
+pub mod Lines
+pub mod Moves
+pub mod Orders
+pub mod Paths
+pub mod Reaching
+pub mod Singles
+pub mod Walks

@@ -1,0 +1,133 @@
+ghost use Rattle.std.specs.Prelude.{◌≡◌, ◌<◌, ◌≤◌, ◌+◌, ◌↔◌, ◌++◌, ◌∷◌, [], false, length, map, take, MatchOption, Some, None};
+ghost use Rattle.tk_place.specs.Place.{fit, lowest_empty, slots_of, named_in, not_before, search_end};
+ghost use Rattle.tk_place.specs.Pairs.{pairs_with, HasPlacement};
+ghost use Rattle.tk_place.specs.Chain.{IsAnswer, AreMoves, IsBlocked};
+ghost use Rattle.tk_place.specs.Search.{IsEnd};
+ghost use Rattle.tk_place.specs.Table.{IsTable};
+ghost use Rattle.tk_place.specs.Views.{place_at, spot_of};
+
+use crate::queue::{Link, Queue};
+use crate::{Scratch, Slots, Step};
+
+/// What a search found.
+#[derive(Clone, Copy, Debug, PartialEq, Eq, Drop)]
+pub enum Found {
+    /// A chain of so many steps, which the scratch has.
+    Chain(u32),
+
+    /// No placement of the entries and the new one exists.
+    NoPlace,
+}
+
+/// Where a search ended.
+#[derive(Clone, Copy, Drop)]
+struct End {
+    place: u32,
+    slot: u32,
+}
+
+/// Looks for a place for a new entry, in order: its first bucket, then the second, then the other bucket of each entry
+/// in a full one. It looks at each bucket at most once, and ends at the first that has an empty slot.
+pub fn find<V: Slots>(slots: &V, new: (u32, u32), scratch: &mut Scratch) -> Found
+    requires first { new.0 < length (V.others slots.now) }
+    requires second { new.1 < length (V.others slots.now) }
+    requires size { scratch.old.buckets ≡ length (V.others slots.now) }
+
+    ensures size { scratch.new.buckets ≡ scratch.old.buckets }
+    ensures answer { IsAnswer (V.others slots.now) new result scratch.new.steps }
+    ensures moves { AreMoves (V.others slots.now) new scratch.new.steps }
+
+    // never because the search gave up
+    ensures no_place { let T = V.others slots.now in
+        (result ≡ Found.NoPlace)
+        ↔ (¬ HasPlacement (length T) (V.depth slots.now) (pairs_with T new)) }
+    ensures not_fit { let T = V.others slots.now in
+        (result ≡ Found.NoPlace)
+        ↔ (fit (length T) (V.depth slots.now) (pairs_with T new) ≡ false) }
+    ensures blocked { result ≡ Found.NoPlace → IsBlocked (V.others slots.now) new }
+{
+    match search(slots, new, &mut scratch.queue) {
+        Some(end) => {
+            scratch.count = write_steps(&scratch.queue, end, &mut scratch.steps);
+            Found::Chain(scratch.count)
+        }
+        None => {
+            scratch.count = 0;
+            Found::NoPlace
+        }
+    }
+}
+
+/// Where the search ends, if it does.
+fn search<V: Slots>(slots: &V, new: (u32, u32), queue: &mut Queue) -> Option<End>
+    requires first { new.0 < length (V.others slots.now) }
+    requires second { new.1 < length (V.others slots.now) }
+    requires size { queue.old.buckets ≡ length (V.others slots.now) }
+    ensures table { IsTable (V.depth slots.now) (V.others slots.now) }
+    ensures size { queue.new.buckets ≡ queue.old.buckets }
+    ensures found { let T = V.others slots.now in
+        MatchOption result (search_end T new ≡ None) (IsEnd T new queue.new.places) }
+{
+    queue.clear();
+    queue.add(new.0, None);
+    queue.add(new.1, None);
+    let depth = slots.depth();
+    let mut place = 0;
+    while place < queue.len() {
+        let bucket = queue.bucket(place);
+        if let Some(slot) = slots.free(bucket) {
+            return Some(End { place, slot });
+        }
+        add_others(slots, depth, place, queue);
+        place += 1;
+    }
+    None
+}
+
+/// Queues the other buckets of the entries in a full bucket, in slot order.
+fn add_others<V: Slots>(slots: &V, depth: u32, place: u32, queue: &mut Queue)
+    requires depth { depth ≡ V.depth slots.now }
+    requires table { IsTable (V.depth slots.now) (V.others slots.now) }
+    requires size { queue.old.buckets ≡ length (V.others slots.now) }
+    requires place { place < length queue.old.places }
+    requires full { let from = place_at queue.old.places place in
+        lowest_empty (V.others slots.now) from.bucket ≡ None }
+    ensures size { queue.new.buckets ≡ queue.old.buckets }
+    ensures places { let T = V.others slots.now in
+        let old = queue.old.places in
+        let from = place_at old place in
+        queue.new.places ≡ old ++ not_before old (named_in from 0 (slots_of T from.bucket)) }
+{
+    let bucket = queue.bucket(place);
+    for slot in 0..depth {
+        let other = slots.other(bucket, slot);
+        queue.add(other, Some(Link { place, slot }));
+    }
+}
+
+/// Writes the steps to an end of the search, and says how many they are.
+fn write_steps(queue: &Queue, end: End, steps: &mut [Step]) -> u32
+    requires room { length steps.old ≡ queue.now.buckets }
+    requires end { end.place < length queue.now.places }
+    ensures within { result ≤ length steps.new }
+    ensures steps { let place = place_at queue.now.places end.place in
+        map spot_of (take result steps.new) ≡ (place.bucket, end.slot) ∷ place.through }
+{
+    let mut place = end.place;
+    let mut slot = end.slot;
+    let mut count = 0;
+    loop {
+        steps[count as usize] = Step {
+            bucket: queue.bucket(place),
+            slot,
+        };
+        count += 1;
+        match queue.link(place) {
+            Some(link) => {
+                place = link.place;
+                slot = link.slot;
+            }
+            None => return count,
+        }
+    }
+}
