@@ -16,7 +16,7 @@ use Rattle.tk_frames.specs.Order.{Record, record_at, record_in, records}
 use Rattle.tk_words.specs.Words.{BookWords}
 use Rattle.tk_cli.specs.Lists.{first_some}
 use Rattle.tk_cli.specs.Orders.{ArePlacedFrom}
-use Rattle.tk_cli.specs.Place.{one_more, is_placeable, fit}
+use Rattle.tk_place.specs.Place.{one_more, is_placeable, fit}
 use Rattle.tk_cli.specs.Table.{window, pair_in, has_position, fit_together, unexpired, retained_with, retained_on, retained}
 use Rattle.tk_cli.specs.Report.{lookup, text_in}
 

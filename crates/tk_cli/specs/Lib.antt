@@ -5,7 +5,6 @@ pub mod Followed
 pub mod Outboxes
 pub mod Orders
 pub mod Lists
-pub mod Place
 pub mod Table
 pub mod Bloom
 pub mod Client

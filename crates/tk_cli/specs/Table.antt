@@ -3,7 +3,7 @@ use Rattle.std.specs.Prelude.{ℕ, ◌-◌, ◌==◌, Bool, not, cond, List, [],
 use Rattle.std.specs.List.{list_any}
 use Rattle.tk_shape.specs.declared.shape.Shape.{Shape}
 use Rattle.tk_frames.specs.Order.{Record}
-use Rattle.tk_cli.specs.Place.{fit}
+use Rattle.tk_place.specs.Place.{fit}
 
 -- the last retained writes, or all where there are fewer
 abbrev pub window : {X : Type 0} → Shape → List X → List X
