@@ -1,0 +1,57 @@
+-- A search has no end exactly where no placement exists.
+use Rattle.std.proofs.Common.{◌≡◌, ◌↔◌, ℕ, ◌<◌, refl, sym, ◌∙◌, ap, subst, List, [], ◌∷◌, length}
+use Rattle.std.proofs.Common.{Bool, true, false, true≢false, cond}
+use Rattle.std.specs.Prelude.{Option, Some, None, is_some, find}
+use Rattle.tk_place.specs.Place.{Others, Reached, lowest_empty, fit, search_end, reached}
+use Rattle.tk_place.specs.Pairs.{pairs_with}
+use Rattle.tk_place.specs.Table.{IsTable}
+use Rattle.tk_place.proofs.Blocked.{nothing_fits}
+use Rattle.tk_place.proofs.Fits.{fit_by_placement}
+use Rattle.tk_place.proofs.Paths.{path_to_end}
+use Rattle.tk_place.proofs.Moves.{placed_along}
+
+-- what is found passes
+found-passes : {X : Type 0} (test : X → Bool) (xs : List X) (x : X) → find test xs ≡ Some x →
+    test x ≡ true
+found-passes test [] x e = absurd (cc e)
+found-passes test (y ∷ xs) x e =
+    elim (test y) as (λ b. test y ≡ b → cond b (Some y) (find test xs) ≡ Some x → test x ≡ true) [
+      | true ↦ λ passes same.
+          let here : y ≡ x = cc same in subst (λ z. test z ≡ true) here passes
+      | false ↦ λ _ later. found-passes test xs x later
+    ] refl e
+
+-- where it ends, there is an empty slot
+pub ends_in_room : (T : Others) (new : ℕ × ℕ) (end : Reached) → search_end T new ≡ Some end →
+    is_some (lowest_empty T end.bucket) ≡ true
+unfolding search_end
+ends_in_room T new end e =
+    found-passes (λ p. is_some (lowest_empty T p.bucket)) (reached T new) end e
+
+-- where it ends, all fit
+fit_at_end : (depth : ℕ) (T : Others) (new : ℕ × ℕ) (end : Reached) → IsTable depth T →
+    search_end T new ≡ Some end → (o : Option ℕ) → lowest_empty T end.bucket ≡ o →
+    fit (length T) depth (pairs_with T new) ≡ true
+fit_at_end depth T new end table ended None empty =
+    absurd (true≢false (sym (ends_in_room T new end ended) ∙ ap is_some empty))
+fit_at_end depth T new end table ended (Some slot) empty =
+    let path = path_to_end T new end ended in
+    let placement = placed_along T depth new end.bucket slot end.through table path empty in
+    fit_by_placement (length T) depth (pairs_with T new) placement.0 placement.1
+
+no_end : (depth : ℕ) (T : Others) (new : ℕ × ℕ) → IsTable depth T →
+    fit (length T) depth (pairs_with T new) ≡ false →
+    (o : Option Reached) → search_end T new ≡ o → search_end T new ≡ None
+no_end depth T new table no_fit None ended = ended
+no_end depth T new table no_fit (Some end) ended =
+    let fits = fit_at_end depth T new end table ended (lowest_empty T end.bucket) refl in
+    absurd (true≢false (sym fits ∙ no_fit))
+
+-- The search has no end exactly where no placement exists.
+pub search-is_exact : (depth : ℕ) (T : Others) (new : ℕ × ℕ) →
+    IsTable depth T → new.0 < length T → new.1 < length T →
+    (search_end T new ≡ None) ↔ (fit (length T) depth (pairs_with T new) ≡ false)
+search-is_exact depth T new table first second = (
+  nothing_fits T depth new table first second,
+  λ no_fit. no_end depth T new table no_fit (search_end T new) refl,
+)

@@ -1,0 +1,16 @@
+use Rattle.std.proofs.Common.{arith}
+use Rattle.tk_table.proofs.Clearing.{clearing-on, clearing-ends}
+use Rattle.tk_table.proofs.chain.clear_in.Goals as goal
+
+pub loop-slot-preserved : goal.loop-slot-preserved
+loop-slot-preserved c =
+    clearing-on c.args.buckets.now c.loop-slot.buckets c.clear_if.new.buckets c.args.position
+    c.args.bucket c.loop-slot.slot c.sized.ensures c.requires.bucket
+    (omega (arith, c.loop-slot-test.true, c.requires.depth)) c.loop-slot.invariant
+    c.clear_if.ensures
+
+pub returns : goal.returns
+returns c =
+    clearing-ends c.args.buckets.now c.loop-slot.buckets c.args.position c.args.bucket
+    c.loop-slot.slot c.sized.ensures c.requires.bucket
+    (omega (arith, c.loop-slot-test.false, c.requires.depth)) c.loop-slot.invariant

@@ -1,0 +1,75 @@
+//! Changes of buckets, slot after slot.
+ghost use Rattle.std.specs.Prelude.{◌≡◌, ◌<◌, ◌≤◌, length};
+ghost use Rattle.tk_place.specs.Views.{spot_of};
+ghost use Rattle.tk_bucket.specs.Table.{slot_at, with_slot};
+ghost use Rattle.tk_table.specs.Stands.{slot_with};
+ghost use Rattle.tk_table.specs.Steps.{AreSteps, IsFree, first_of, moved_by, cleared, cleared_in};
+
+use tk_bucket::{Buckets, Place};
+use tk_place::{Scratch, Step};
+
+fn place_of(step: Step) -> Place
+    ensures bucket { result.bucket ≡ step.bucket }
+    ensures slot { result.slot ≡ step.slot }
+{
+    Place {
+        bucket: step.bucket,
+        slot: step.slot,
+    }
+}
+
+/// Moves each entry of a chain of steps into the slot before it, and writes a record into the last.
+pub(crate) fn store(
+    buckets: &mut Buckets,
+    scratch: &Scratch,
+    count: u32,
+    position: u64,
+    pair: (u32, u32),
+    block: &[u8],
+)
+    requires count { count ≡ length scratch.now.steps }
+    requires some { 0 < count }
+    requires steps { AreSteps buckets.old.buckets buckets.old.depth scratch.now.steps }
+    requires free { IsFree buckets.old.table (first_of scratch.now.steps) }
+    requires position { 1 ≤ position }
+    requires block { length block.now ≡ buckets.old.block }
+    ensures { let s = slot_with position pair block.now in
+        let T = moved_by buckets.old.table scratch.now.steps s in
+        buckets.new ≡ record buckets.old { table = T } }
+{
+    let mut free = place_of(scratch.step(0));
+    for i in 1..count {
+        buckets.sized();
+        let from = place_of(scratch.step(i));
+        buckets.move_slot(from, free);
+        free = from;
+    }
+    buckets.write_slot(free.bucket, free.slot, position, pair, block);
+}
+
+/// Empties a slot if its entry has this position.
+fn clear_if(buckets: &mut Buckets, place: Place, position: u64)
+    requires bucket { place.bucket < buckets.old.buckets }
+    requires slot { place.slot < buckets.old.depth }
+    ensures { let T = buckets.old.table in
+        let s = cleared buckets.old.block position (slot_at T (place.bucket, place.slot)) in
+        buckets.new ≡ record buckets.old { table = with_slot T (place.bucket, place.slot) s } }
+{
+    buckets.sized();
+    if buckets.slot(place.bucket, place.slot).position == position {
+        buckets.clear_slot(place.bucket, place.slot);
+    }
+}
+
+/// Empties each slot of a bucket whose entry has this position.
+pub(crate) fn clear_in(buckets: &mut Buckets, depth: u32, bucket: u32, position: u64)
+    requires depth { depth ≡ buckets.old.depth }
+    requires bucket { bucket < buckets.old.buckets }
+    ensures { let T = cleared_in buckets.old.block position buckets.old.table bucket in
+        buckets.new ≡ record buckets.old { table = T } }
+{
+    buckets.sized();
+    for slot in 0..depth {
+        clear_if(buckets, Place { bucket, slot }, position);
+    }
+}

@@ -1,0 +1,144 @@
+ghost use Rattle.std.specs.Prelude.{◌≡◌, ◌<◌, ◌≤◌, ◌↔◌, ℕ, length, position, None, IfOk};
+ghost use Rattle.tk_place.specs.Place.{search_end, lowest_empty};
+ghost use Rattle.tk_bucket.specs.Table.{is_empty, bucket_at};
+ghost use Rattle.tk_bucket.specs.Bytes.{BlockList};
+ghost use Rattle.tk_shape.specs.Lengths.{width};
+ghost use Rattle.tk_table.specs.Table.{empty_table, others_from, placed_in, blocks_of};
+ghost use Rattle.tk_table.specs.Stands.{slot_with, IsPair};
+ghost use Rattle.tk_table.specs.Steps.{cleared_of};
+
+use crate::chain::{clear_in, store};
+use crate::{Memory, Put, Recent, Snapshot};
+use std::alloc::Global;
+use std::marker::Model;
+use tk_bucket::Buckets;
+use tk_place::{Found, Scratch, Slots, find};
+use tk_shape::Shape;
+
+/// The slots of a table of some shape, where each entry is in one of its two buckets.
+#[derive(Debug, Drop)]
+pub(crate) struct Grid {
+    shape: Shape,
+    buckets: Buckets,
+}
+
+impl Model for Grid {
+    ghost use Rattle.tk_table.specs.Inside.{Laid, IsGrid};
+
+    ghost Value = { Laid };
+
+    ghost view = { λ g. record { shape = g.shape; slots = g.buckets.table } };
+
+    ghost invariant = { λ g. IsGrid g.shape g.buckets };
+}
+
+impl Grid {
+    /// Empty slots.
+    pub(crate) fn open(alloc: Global, shape: &Shape) -> Result<Grid, Memory>
+        ensures { IfOk result (λ g. g ≡ record {
+          shape = shape.now;
+          slots = empty_table shape.now;
+        }) }
+    {
+        let buckets = Buckets::new(alloc, shape.buckets, shape.depth, shape.block).map_err(
+            |_| Memory,
+        )?;
+        Ok(Grid {
+            shape: *shape,
+            buckets,
+        })
+    }
+
+    /// Empties the slot of a write, if it has one.
+    pub(crate) fn expire(&mut self, write: Recent)
+        requires { IsPair self.old.shape write.pair }
+        ensures { let shape = self.old.shape in
+            self.new ≡ record self.old {
+              slots = cleared_of shape.block write.position write.pair self.old.slots;
+            } }
+    {
+        let depth = self.shape.depth;
+        clear_in(&mut self.buckets, depth, write.pair.0, write.position);
+        clear_in(&mut self.buckets, depth, write.pair.1, write.position);
+    }
+
+    /// Stores a write, and moves others to make room for it, where all have a placement.
+    pub(crate) fn put(
+        &mut self,
+        scratch: &mut Scratch,
+        position: u64,
+        pair: (u32, u32),
+        block: &[u8],
+    ) -> Put
+        requires size { scratch.old.buckets ≡ self.old.shape.buckets }
+        requires position { 1 ≤ position }
+        requires pair { IsPair self.old.shape pair }
+        requires block { length block.now ≡ self.old.shape.block }
+        ensures size { scratch.new.buckets ≡ scratch.old.buckets }
+        ensures slots { let s = slot_with position pair block.now in
+            self.new ≡ record self.old { slots = placed_in self.old.shape self.old.slots s } }
+        ensures displaced { let T = others_from 0 self.old.slots in
+            (result ≡ Put.Displaced) ↔ (search_end T pair ≡ None) }
+    {
+        match find(&*self, pair, scratch) {
+            Found::Chain(count) => {
+                store(&mut self.buckets, scratch, count, position, pair, block);
+                Put::Placed
+            }
+            Found::NoPlace => Put::Displaced,
+        }
+    }
+
+    /// The bytes of each bucket as they are now.
+    pub(crate) fn snapshot(&mut self, alloc: Global) -> Result<Snapshot, Memory>
+        ensures width { IfOk result (λ s. s.width ≡ width self.old.shape) }
+        ensures blocks { IfOk result (λ s. s.blocks ≡ blocks_of self.old.slots) }
+        ensures counted { IfOk result (λ s. length s.blocks ≡ self.old.shape.buckets) }
+        ensures kept { self.new ≡ self.old }
+    {
+        let packed = self.buckets.snapshot(alloc).map_err(|_| Memory)?;
+        Ok(Snapshot::from_packed(packed))
+    }
+}
+
+/// The lowest empty slot of a bucket.
+fn lowest_empty(buckets: &Buckets, depth: u32, bucket: u32) -> Option<u32>
+    requires depth { depth ≡ buckets.now.depth }
+    requires bucket { bucket < buckets.now.buckets }
+    ensures { result ≡ position is_empty (bucket_at buckets.now.table bucket) }
+{
+    buckets.sized();
+    for slot in 0..depth {
+        if buckets.is_empty(bucket, slot) {
+            return Some(slot);
+        }
+    }
+    None
+}
+
+impl Slots for Grid {
+    ghost others = { λ g. others_from 0 g.slots };
+
+    ghost depth = { λ g. g.shape.depth };
+
+    fn buckets(&self) -> u32 {
+        self.shape.buckets
+    }
+
+    fn depth(&self) -> u32 {
+        self.shape.depth
+    }
+
+    fn free(&self, bucket: u32) -> Option<u32> {
+        lowest_empty(&self.buckets, self.shape.depth, bucket)
+    }
+
+    fn other(&self, bucket: u32, slot: u32) -> u32 {
+        let entry = self.buckets.slot(bucket, slot);
+        if entry.first == bucket {
+            entry.second
+        } else {
+            entry.first
+        }
+    }
+}

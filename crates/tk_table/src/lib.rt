@@ -1,0 +1,21 @@
+//! The table of the latest writes: which of them are retained, and where they lie.
+#![tactic(auto)]
+
+mod chain;
+mod grid;
+mod laws;
+mod recent;
+mod snapshot;
+mod table;
+
+pub use laws::{
+    as_read, as_written, buckets_read_back, displaced_without_end, layout_holds, retained_ascends,
+    retained_in_window, slots_read_back,
+};
+pub use recent::Recent;
+pub use snapshot::Snapshot;
+pub use table::{Put, Table};
+pub use tk_shape::Memory;
+
+#[cfg(test)]
+mod tests;
