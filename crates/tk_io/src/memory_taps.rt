@@ -1,4 +1,4 @@
-ghost use Rattle.std.specs.Prelude.{◌≡◌, ◌≢◌, ◌≤◌, ℕ, ◌+◌, ◌-◌, ◌<◌, ◌++◌, [], ◌∷◌, List, length, take, replicate, slice_get, slice_set, slice_index_or, Contains, Some, IsErr, IfOk, OnOk, OnErr};
+ghost use Rattle.std.specs.Prelude.{◌≡◌, ◌≢◌, ◌≤◌, ℕ, ◌+◌, ◌-◌, ◌<◌, ◌++◌, [], ◌∷◌, List, length, take, replicate, slice_get, slice_set, slice_index_or, Contains, IsErr, IfOk, IfSome, IfNone, OnOk, OnErr};
 ghost use Rattle.tk_io.specs.Content.{Rose, gained};
 ghost use Rattle.tk_io.specs.InMemory.{next_call, next_fault, tap_of};
 
@@ -67,13 +67,18 @@ impl MemTaps {
         })
     }
 
-    /// What went to a server's tap.
+    /// What went to a server's tap; nothing for a server without one.
     pub fn bytes(&self, server: u32) -> &[u8]
-        requires low { 1 ≤ server }
-        requires high { server ≤ length self.now.taps }
-        ensures { tap_of self.now server ≡ Some result.now }
+        ensures found { IfSome (tap_of self.now server) (λ bytes. result.now ≡ bytes) }
+        ensures none { IfNone (tap_of self.now server) (result.now ≡ []) }
     {
-        self.taps[server as usize - 1].as_slice()
+        if server == 0 {
+            return &[];
+        }
+        match self.taps.get(server as usize - 1) {
+            Some(tap) => tap.as_slice(),
+            None => &[],
+        }
     }
 
     pub fn faults(&self) -> u64
