@@ -60,7 +60,6 @@ le_of a b h = grind (arith, nat_tests)
 
 pub built_shape : (S : Script) → IsBuiltScript S → IsBuiltShape S.shape
 built_shape S b = record {
-  two_servers = b.two_servers;
   one_bucket = b.one_bucket;
   not_ahead = b.not_ahead;
   tape_short = le_of (tape_len S.shape) 2097152

@@ -6,16 +6,14 @@ use Rattle.tk_script.specs.declared.script.Script.{Script}
 use Rattle.tk_script.specs.declared.input.Input.{Input}
 use Rattle.tk_script.specs.declared.input.RawTape.{RawTape}
 
--- two servers, no more writes retained than a bucket has slots, nothing ahead, and a tape that is not too long
+-- no more writes retained than a bucket has slots, nothing ahead, and a tape that is not too long
 pub record IsBuiltShape (shape : Shape) : Type 0 where
-  pub two_servers : shape.servers ≡ 2
   pub one_bucket : shape.retained ≤ shape.depth
   pub not_ahead : shape.ahead ≡ 0
   pub tape_short : tape_len shape ≤ 2097152
 
--- a drawn script of two servers which retains no more writes than a bucket has slots and doesn't read ahead
+-- a drawn script which retains no more writes than a bucket has slots and doesn't read ahead
 pub record IsBuiltScript (script : Script) : Type 0 where
-  pub two_servers : script.shape.servers ≡ 2
   pub one_bucket : script.shape.retained ≤ script.shape.depth
   pub not_ahead : script.shape.ahead ≡ 0
   pub drawn : script.keys ≡ None

@@ -8,8 +8,8 @@ use crate::tape::tape_of;
 use std::alloc::Global;
 use tk_shape::Memory;
 
-/// The input that a text spells, if it spells one that is built so far: a drawn script of two servers which retains no
-/// more writes than a bucket has slots and doesn't read ahead, and a tape of the shape's length.
+/// The input that a text spells, if it spells one that is built so far: a drawn script which retains no more writes than
+/// a bucket has slots and doesn't read ahead, and a tape of the shape's length.
 pub fn parse(alloc: Global, text: &[u8]) -> Result<Option<Input>, Memory>
     ensures found { IfOk result (λ o. IfSome o (λ input. Spells text.now input)) }
     ensures built { IfOk result (λ o. IfSome o IsBuilt) }

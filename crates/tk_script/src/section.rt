@@ -71,8 +71,5 @@ fn head_of(alloc: Global, text: &[u8]) -> Result<Option<(Shape, &[u8])>, Memory>
 fn is_built(shape: &Shape) -> bool
     ensures { IsTrue result ↔ IsBuiltShape shape.now }
 {
-    shape.servers == 2
-        && shape.retained <= shape.depth
-        && shape.ahead == 0
-        && shape.tape_len() <= MOST_TAPE
+    shape.retained <= shape.depth && shape.ahead == 0 && shape.tape_len() <= MOST_TAPE
 }
