@@ -34,21 +34,40 @@ more-item write E items i x d all within here so_far =
     ∙ sym (placed_after-append write E (take i items) x)
     ∙ ap (λ xs. E ++ placed_after write E xs) (sym (take_next items i x d within here))
 
--- a client's write is put
-pub more-write : (write : ℕ → WriteFrame) (E : List Placed) (items : List Item) (i c : ℕ) (d : Item) (frame : WriteFrame) (all : List Placed) →
-    i < length items → get_or items i d ≡ Client c → frame ≡ write c → all ≡ E ++ placed_after write E (take i items) →
-    all ++ record { position = length all + 1; entry = Write frame } ∷ [] ≡ E ++ placed_after write E (take (i + 1) items)
-more-write write E items i c d frame all within here same so_far =
-    ap (λ w. all ++ record { position = length all + 1; entry = Write w } ∷ []) same
-    ∙ more-item write E items i (Client c) d all within here so_far
+-- the entry of one item, behind these entries
+placed_one : (write : ℕ → WriteFrame) (E : List Placed) (x : Item) →
+    record { position = length E + 1; entry = entry_of write (count_by is_mark_entry E + 1) x } ∷ []
+    ≡ placed_after write E (x ∷ [])
+unfolding placed_from
+placed_one write E (Client c) = refl
+placed_one write E Publish = refl
 
--- the publisher's mark is put
-pub more-mark : (write : ℕ → WriteFrame) (E : List Placed) (items : List Item) (i : ℕ) (d : Item) (epoch : ℕ) (all : List Placed) →
-    i < length items → get_or items i d ≡ Publish → epoch ≡ count_by is_mark_entry all + 1 → all ≡ E ++ placed_after write E (take i items) →
-    all ++ record { position = length all + 1; entry = Mark epoch } ∷ [] ≡ E ++ placed_after write E (take (i + 1) items)
-more-mark write E items i d epoch all within here number so_far =
-    ap (λ e. all ++ record { position = length all + 1; entry = Mark e } ∷ []) number
-    ∙ more-item write E items i Publish d all within here so_far
+-- a client's write is the entry of its item
+pub write-placed : (write : ℕ → WriteFrame) (E : List Placed) (x : Item) (c : ℕ)
+    (frame : WriteFrame) → x ≡ Client c → frame ≡ write c →
+    record { position = length E + 1; entry = Write frame } ∷ [] ≡ placed_after write E (x ∷ [])
+write-placed write E x c frame is same =
+    ap (λ (w : WriteFrame). record { position = length E + 1; entry = Write w } ∷ []) same
+    ∙ placed_one write E (Client c)
+    ∙ ap (λ (y : Item). placed_after write E (y ∷ [])) (sym is)
+
+-- and the next mark that of the publisher's
+pub mark-placed : (write : ℕ → WriteFrame) (E : List Placed) (x : Item) (epoch : ℕ) →
+    x ≡ Publish → epoch ≡ count_by is_mark_entry E + 1 →
+    record { position = length E + 1; entry = Mark epoch } ∷ [] ≡ placed_after write E (x ∷ [])
+mark-placed write E x epoch is number =
+    ap (λ (e : ℕ). record { position = length E + 1; entry = Mark e } ∷ []) number
+    ∙ placed_one write E Publish
+    ∙ ap (λ (y : Item). placed_after write E (y ∷ [])) (sym is)
+
+-- the entry of the next item of a turn is put
+pub next-item : (write : ℕ → WriteFrame) (E : List Placed) (items : List Item) (i : ℕ) (d : Item)
+    (all new : List Placed) → i < length items → all ≡ E ++ placed_after write E (take i items) →
+    new ≡ all ++ placed_after write all (get_or items i d ∷ []) →
+    new ≡ E ++ placed_after write E (take (i + 1) items)
+next-item write E items i d all new within so_far put =
+    put ∙ ap (λ (ps : List Placed). all ++ ps) (sym (placed_one write all (get_or items i d)))
+    ∙ more-item write E items i (get_or items i d) d all within refl so_far
 
 -- all items of a turn are put
 pub next-turn : (write : ℕ → ℕ → WriteFrame) (H : History) (g : ℕ) (items : List Item) (i : ℕ) (all : List Placed) →

@@ -24,6 +24,12 @@ list_all-take p (x ∷ xs) (suc n) all =
     let split = parts (p x) (list_all p xs) all in
     both (p x) (list_all p (take n xs)) split.0 (list_all-take p xs n split.1)
 
+pub list_all-behind : {X : Type 0} (p : X → Bool) (xs ys : List X) →
+    IsTrue (list_all p (xs ++ ys)) → IsTrue (list_all p ys)
+list_all-behind p [] ys all = all
+list_all-behind p (x ∷ xs) ys all =
+    list_all-behind p xs ys (parts (p x) (list_all p (xs ++ ys)) all).1
+
 pub list_all-set : {X : Type 0} (p : X → Bool) (xs : List X) (i : ℕ) (y : X) → IsTrue (list_all p xs) → IsTrue (p y) → IsTrue (list_all p (set xs i y))
 list_all-set p [] i y all here = refl
 list_all-set p (x ∷ xs) zero y all here = both (p y) (list_all p xs) here (parts (p x) (list_all p xs) all).1

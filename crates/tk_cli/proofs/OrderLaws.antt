@@ -180,7 +180,7 @@ length-placed_from write position e [] = refl
 length-placed_from write position e (Client c ∷ xs) = ap suc (length-placed_from write (position + 1) e xs)
 length-placed_from write position e (Publish ∷ xs) = ap suc (length-placed_from write (position + 1) (e + 1) xs)
 
-marks-placed_from : (write : ℕ → WriteFrame) (position e : ℕ) (xs : List Item) → count_by is_mark_entry (placed_from write position e xs) ≡ count_by is_publish xs
+pub marks-placed_from : (write : ℕ → WriteFrame) (position e : ℕ) (xs : List Item) → count_by is_mark_entry (placed_from write position e xs) ≡ count_by is_publish xs
 unfolding placed_from
 marks-placed_from write position e [] = refl
 marks-placed_from write position e (Client c ∷ xs) =

@@ -23,7 +23,7 @@ use Rattle.tk_cli.specs.declared.got.Got.TheVariants.{Text}
 use Rattle.tk_cli.specs.declared.follow.Follow.{Follow as KeptFollow}
 use Rattle.tk_cli.specs.declared.follow.Target.{Target as KeptTarget}
 use Rattle.tk_cli.specs.declared.reader.Reader.{Reader as KeptReader}
-use Rattle.tk_cli.specs.Lists.{first_some}
+use Rattle.tk_table.specs.Lists.{first_some}
 use Rattle.tk_cli.specs.Entries.{entries}
 use Rattle.tk_cli.specs.Client.{Follow, next_of, new_follow, untried, follow_after, wanted}
 use Rattle.tk_cli.specs.Client.{Reader, new_reader, at_epoch, follow_at, places_from_cursor}

@@ -3,7 +3,7 @@ use Rattle.std.specs.Prelude.{ℕ, ◌==◌, Bool, List, flat_map}
 use Rattle.std.specs.List.{list_all, list_any}
 use Rattle.tk_shape.specs.declared.shape.Shape.{Shape}
 use Rattle.tk_frames.specs.Order.{Record}
-use Rattle.tk_cli.specs.Table.{window}
+use Rattle.tk_table.specs.Table.{window}
 
 -- the positions of every write in the window, the displaced ones among them
 abbrev pub positions_of : Shape → List Record → List ℕ

@@ -1,8 +1,10 @@
 -- What an order that is being made keeps beside its entries.
 use Rattle.std.specs.Prelude.{◌≡◌, ℕ, ◌+◌, ◌<◌, ◌≤◌, true, false, List, [], ◌∷◌, length, take, count_by, slice_index, IsTrue}
-use Rattle.std.specs.List.{list_all}
+use Rattle.std.specs.List.{list_all, AllByRecursion}
 use Rattle.tk_frames.specs.declared.entry.Placed.{Placed}
 use Rattle.tk_frames.specs.Order.{records, before, has_mark, is_mark_entry}
+use Rattle.tk_table.specs.Ordered.{HasBuckets}
+use Rattle.tk_table.specs.Laws.{IsStorable}
 use Rattle.tk_cli.specs.Sendable.{placed_has_block}
 use Rattle.tk_cli.specs.declared.order.Order.{Order}
 
@@ -24,3 +26,5 @@ pub record IsOrder (o : Order) : Type 0 where
   pub blocks : IsTrue (list_all (placed_has_block o.shape.block) o.placed.items)
   pub ends : AreEnds o.placed.items o.ends.items
   pub placed : ArePlacedFrom 1 o.placed.items
+  pub buckets : AllByRecursion (HasBuckets o.shape) (records o.placed.items)
+  pub storable : AllByRecursion (IsStorable o.shape) (records o.placed.items)

@@ -38,9 +38,15 @@ pub record IsReader (kept : KeptReader) (r : Reader) : Type 0 where
   pub follows : r.follows ≡ map follow_of kept.follows.items
   pub cursor : r.cursor ≡ kept.cursor
 
--- a reader for each client, by number, at the end of the run
-pub record AreReaders (S : Script) (w : BookWords) (H : History) (readers : List KeptReader)
-    : Type 0 where
+-- a reader for each client, by number, before turn g
+pub record AreReadersBefore (S : Script) (w : BookWords) (H : History) (g : ℕ)
+    (readers : List KeptReader) : Type 0 where
   pub counted : length readers ≡ S.shape.clients
+  pub logs : (c : ℕ) (d : KeptReader) → c < length readers →
+      (slice_index_or readers c d).logs ≡ S.shape.logs
   pub each : (c : ℕ) (d : KeptReader) → c < length readers →
-      IsReader (slice_index_or readers c d) (reader_before S w H c (turn_count S.shape))
+      IsReader (slice_index_or readers c d) (reader_before S w H c g)
+
+-- the same at the end of the run
+abbrev pub AreReaders : Script → BookWords → History → List KeptReader → Type 0
+AreReaders S w H readers = AreReadersBefore S w H (turn_count S.shape) readers

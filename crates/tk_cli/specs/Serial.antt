@@ -9,6 +9,8 @@ use Rattle.tk_script.specs.Grammar.{Spells}
 use Rattle.tk_script.specs.Built.{IsBuilt}
 use Rattle.tk_words.specs.Words.{WordBook, keyed, drawn}
 use Rattle.tk_cli.specs.Report.{report}
+use Rattle.tk_cli.specs.Exchange.{exchange, bytes_of}
+use Rattle.tk_cli.specs.Tapped.{TapsGain, TapsGainFronts, TapsKeepBut}
 
 -- where words come from: keys, or a tape
 abbrev pub book_from : Option Keys → Option RawTape → WordBook
@@ -20,12 +22,34 @@ book_from None None = drawn []
 abbrev pub book_of : Input → WordBook
 book_of input = book_from input.first.keys input.tape
 
--- the bytes spell an input that is built so far, and the output is the report of its serial run
-pub record IsSerialReport (bytes output : List ℕ) : Type 0 where
-  pub input : Input
+-- the report of an input's serial run, and what server j sees of it
+abbrev pub report_in : Input → List ℕ
+report_in input = report input.first (book_of input) (serial_history input.first.shape)
+
+abbrev pub seen_in : Input → ℕ → List ℕ
+seen_in input j =
+    bytes_of (exchange input.first (book_of input) (serial_history input.first.shape) j)
+
+-- the bytes spell this input, which is built so far
+pub record IsRunOf (bytes : List ℕ) (input : Input) : Type 0 where
   pub spelled : Spells bytes input
   pub built : IsBuilt input
-  pub reported : output ≡ report input.first (book_of input) (serial_history input.first.shape)
+
+-- the bytes spell an input, the output is the report of its serial run, and the taps gained what
+-- each server sees of it
+pub record RunsTo (bytes output : List ℕ) (tap tap' : ℕ → Option (List ℕ)) : Type 0 where
+  pub input : Input
+  pub run : IsRunOf bytes input
+  pub reported : output ≡ report_in input
+  pub taps : TapsGain input.first.shape.servers (seen_in input) tap tap'
+  pub others : TapsKeepBut input.first.shape.servers tap tap'
+
+-- the bytes spell an input, and the taps gained fronts of what each server sees of its serial run
+pub record RunsInto (bytes : List ℕ) (tap tap' : ℕ → Option (List ℕ)) : Type 0 where
+  pub input : Input
+  pub run : IsRunOf bytes input
+  pub taps : TapsGainFronts input.first.shape.servers (seen_in input) tap tap'
+  pub others : TapsKeepBut input.first.shape.servers tap tap'
 
 -- the bytes spell no input that is built so far
 abbrev pub SpellNothing : List ℕ → Type 0
@@ -35,23 +59,32 @@ SpellNothing bytes = (input : Input) → Spells bytes input → IsBuilt input �
 abbrev pub TakesAll : List ℕ → Option (List ℕ) → Option (List ℕ) → Type 0
 TakesAll bytes old new = (old ≡ before_taking bytes new) × (new ≡ emptied old)
 
--- all was taken from a source that had left, and has left' now; it spells an input, and a sink that held, and holds
--- held' now, gained its report
-pub record Reports (left left' held held' : Option (List ℕ)) : Type 0 where
+-- All was taken from a source that had left, and has left' now. It spells an input; the taps gained
+-- what each server sees of its serial run, and a sink that held, and holds held' now, its report.
+pub record Reports (left left' held held' : Option (List ℕ)) (tap tap' : ℕ → Option (List ℕ))
+    : Type 0 where
   pub bytes : List ℕ
   pub output : List ℕ
   pub all : TakesAll bytes left left'
-  pub report : IsSerialReport bytes output
+  pub run : RunsTo bytes output tap tap'
   pub written : held' ≡ gained held output
 
 -- the same, but that the sink gained a front of the report
-pub record ReportsFront (left left' held held' : Option (List ℕ)) : Type 0 where
+pub record ReportsFront (left left' held held' : Option (List ℕ)) (tap tap' : ℕ → Option (List ℕ))
+    : Type 0 where
   pub bytes : List ℕ
   pub output : List ℕ
   pub front : ℕ
   pub all : TakesAll bytes left left'
-  pub report : IsSerialReport bytes output
+  pub run : RunsTo bytes output tap tap'
   pub written : held' ≡ gained held (take front output)
+
+-- all was taken; it spells an input, and the taps gained fronts of what each server sees
+pub record TapsFronts (left left' : Option (List ℕ)) (tap tap' : ℕ → Option (List ℕ))
+    : Type 0 where
+  pub bytes : List ℕ
+  pub all : TakesAll bytes left left'
+  pub run : RunsInto bytes tap tap'
 
 -- all was taken, and it spells no input that is built so far
 pub record Refuses (left left' : Option (List ℕ)) : Type 0 where

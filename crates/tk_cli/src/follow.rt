@@ -3,7 +3,7 @@ ghost use Rattle.std.specs.Prelude.{length, map, find, slice_set, slice_index_or
 ghost use Rattle.std.specs.Option.{option_map, option_copied};
 ghost use Rattle.std.specs.List.{list_all, range_with_len};
 ghost use Rattle.tk_shape.specs.Lengths.{turn_count};
-ghost use Rattle.tk_cli.specs.Lists.{first_some};
+ghost use Rattle.tk_table.specs.Lists.{first_some};
 ghost use Rattle.tk_cli.specs.Client.{new_follow};
 ghost use Rattle.tk_cli.specs.Followed.{is_followed};
 ghost use Rattle.tk_cli.specs.Readers.{follow_of, target_of, answered, next_target};

@@ -1,29 +1,40 @@
 //! The top call: what the words ask for, done from a source to a sink, and the status that it ends with.
 #![tactic(auto)]
 
+mod asking;
 mod entries;
 mod follow;
 mod got;
 mod history_text;
+mod joining;
 mod log_text;
-mod lookup;
 mod order;
 mod ordering;
 mod outbox;
 mod outboxes;
 mod outgoing;
 mod printing;
+mod private_read;
 mod reader;
 mod reading;
 mod report;
 mod request;
+mod run_error;
 mod serial;
+mod server;
+mod servers;
+mod serving;
 mod status;
+mod taking;
+mod tapping;
 mod top;
+mod turns;
 mod writes;
 
 pub use status::{Status, status_line};
 pub use top::{INPUT_LIMIT, talek};
 
+#[cfg(test)]
+mod tap_tests;
 #[cfg(test)]
 mod tests;

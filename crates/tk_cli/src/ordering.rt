@@ -1,4 +1,4 @@
-ghost use Rattle.std.specs.Prelude.{◌≡◌, ◌+◌, ◌++◌, ◌∷◌, [], length, IsTrue, IfOk, OnOk};
+ghost use Rattle.std.specs.Prelude.{◌≡◌, ◌<◌, ◌+◌, ◌++◌, ◌∷◌, [], length, IsTrue, IfOk, OnOk};
 ghost use Rattle.std.specs.List.{list_all};
 ghost use Rattle.tk_frames.specs.Order.{records, before};
 ghost use Rattle.tk_frames.specs.declared.entry.Entry.TheVariants.{Write, Mark};
@@ -29,6 +29,8 @@ pub(crate) fn empty_order(alloc: Global, shape: &Shape) -> Result<Order, Memory>
 pub(crate) fn put(order: &mut Order, write: WriteFrame) -> Result<(), Memory>
     requires order { IsOrder order.old }
     requires block { length write.block ≡ order.old.shape.block }
+    requires first_in { write.first < order.old.shape.buckets }
+    requires second_in { write.second < order.old.shape.buckets }
     ensures order { OnOk result (IsOrder order.new) }
     ensures shape { order.new.shape ≡ order.old.shape }
     ensures placed { let before = order.old.placed.items in
@@ -64,17 +66,4 @@ pub(crate) fn mark(order: &mut Order) -> Result<(), Memory>
         entry: Entry::Mark(epoch),
     })?;
     Ok(())
-}
-
-/// The entries before the mark of an epoch; where it has none, all.
-pub(crate) fn entries_before(order: &Order, epoch: u32) -> &[Placed]
-    requires order { IsOrder order.now }
-    ensures before { records result.now ≡ before order.now.placed.items epoch }
-    ensures blocks { IsTrue (list_all (placed_has_block order.now.shape.block) result.now) }
-    ensures placed { ArePlacedFrom 1 result.now }
-{
-    match order.ends.get(epoch as usize) {
-        Some(end) => &order.placed[..*end],
-        None => order.placed.as_slice(),
-    }
 }

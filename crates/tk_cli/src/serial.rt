@@ -1,37 +1,59 @@
-ghost use Rattle.std.specs.Prelude.{◌≡◌, ◌≤◌, IfOk};
+ghost use Rattle.std.specs.Prelude.{◌≡◌, ◌<◌, ◌≤◌, ◌⊎◌, ℕ, IfOk, IfErr, OnOk, OnErr};
+ghost use Rattle.tk_io.specs.Content.{Rose};
 ghost use Rattle.tk_schedule.specs.Schedule.{serial_history};
 ghost use Rattle.tk_cli.specs.Report.{report};
+ghost use Rattle.tk_cli.specs.Exchange.{exchange, bytes_of};
+ghost use Rattle.tk_cli.specs.Tapped.{TapsGain, TapsGainFronts, TapsKeepBut};
 
-use crate::entries::order_of;
 use crate::outboxes::outboxes_of;
-use crate::reading::readers_of;
 use crate::report::push_report;
+use crate::run_error::RunError;
+use crate::turns::take_turns;
 use std::alloc::Global;
+use tk_io::Taps;
 use tk_schedule::History;
 use tk_script::Script;
-use tk_shape::Memory;
 use tk_words::Draws;
 
-/// The report of the serial run of a script.
-pub(crate) fn serial<D: Draws>(alloc: Global, script: &Script, draws: &D) -> Result<Vec<u8>, Memory>
+/// The report of the serial run of a script. What each server sees goes to its tap, turn after turn.
+pub(crate) fn serial<D: Draws, T: Taps>(
+    alloc: Global,
+    script: &Script,
+    draws: &D,
+    taps: &mut T,
+) -> Result<Vec<u8>, RunError>
     requires one_shape { D.shape draws.now ≡ script.now.shape }
-    requires one_bucket { script.now.shape.retained ≤ script.now.shape.depth }
     requires not_ahead { script.now.shape.ahead ≡ 0 }
     ensures report { let history = serial_history script.now.shape in
         IfOk result (λ out. out.items ≡ report script.now (D.book draws.now) history) }
+    ensures ok { let history = serial_history script.now.shape in
+        OnOk result (TapsGain script.now.shape.servers
+        (λ j. bytes_of (exchange script.now (D.book draws.now) history j))
+        (T.tap taps.old) (T.tap taps.new)) }
+    ensures err { let history = serial_history script.now.shape in
+        OnErr result (TapsGainFronts script.now.shape.servers
+        (λ j. bytes_of (exchange script.now (D.book draws.now) history j))
+        (T.tap taps.old) (T.tap taps.new)) }
+    ensures others { TapsKeepBut script.now.shape.servers (T.tap taps.old) (T.tap taps.new) }
+    ensures rose { IfErr result (λ e. e ≡ RunError.Taps
+        → Rose (T.faults taps.old) (T.faults taps.new)) }
+    ensures counts { T.faults taps.old ≤ T.faults taps.new }
 {
-    let history = History::serial(alloc, &script.shape)?;
-    let outboxes = outboxes_of(alloc, script)?;
-    let order = order_of(alloc, script, draws, &history, outboxes.as_slice())?;
-    let readers = readers_of(alloc, script, draws, &history, &order)?;
+    let Ok(history) = History::serial(alloc, &script.shape) else {
+        return Err(RunError::Memory);
+    };
+    let Ok(outboxes) = outboxes_of(alloc, script) else {
+        return Err(RunError::Memory);
+    };
+    let outboxes = outboxes.as_slice();
+    let readers = match take_turns(alloc, script, draws, &history, outboxes, taps) {
+        Ok(readers) => readers,
+        Err(error) => return Err(error),
+    };
     let mut out = Vec::new(alloc);
-    push_report(
-        alloc,
-        script,
-        &history,
-        readers.as_slice(),
-        outboxes.as_slice(),
-        &mut out,
-    )?;
+    let readers = readers.as_slice();
+    let Ok(()) = push_report(alloc, script, &history, readers, outboxes, &mut out) else {
+        return Err(RunError::Memory);
+    };
     Ok(out)
 }

@@ -7,7 +7,7 @@ use tk_io::{MemSink, MemSource, MemTaps, OpenGate};
 use tk_shape::{Bytes, Memory};
 
 /// A script of two clients with one text, over two phases of one tick, and its tape.
-const ONE_TEXT: &[u8] = b"talek 1
+pub(crate) const ONE_TEXT: &[u8] = b"talek 1
 shape 2 8 4 4 24 64 1 0 2 2 1 1
 drawn
 log 0 1
@@ -27,7 +27,7 @@ fill 32 36
 end
 ";
 
-const REPORT: &[u8] = b"report
+pub(crate) const REPORT: &[u8] = b"report
 order 1 1 0 1 mark
 reads 1 1 0 0
 order 2 1 0 1 mark
@@ -47,25 +47,29 @@ fn run<R: AllocGlobal + Threads + Wait + Sync>(
     sink: &mut MemSink,
 ) -> Result<Status, Memory> {
     let alloc = rt.alloc();
+    let Ok(mut taps) = MemTaps::new(alloc, 8, Vec::new(alloc)) else {
+        return Err(Memory);
+    };
+    run_tapped(rt, words, source, sink, &mut taps)
+}
+
+/// The same, with taps that are looked at.
+pub(crate) fn run_tapped<R: AllocGlobal + Threads + Wait + Sync>(
+    rt: &R,
+    words: &[&str],
+    source: &mut MemSource,
+    sink: &mut MemSink,
+    taps: &mut MemTaps,
+) -> Result<Status, Memory> {
+    let alloc = rt.alloc();
     let mut bytes = Vec::new(alloc);
     for word in words {
         bytes.push(Bytes::from_slice(alloc, word.as_bytes())?)?;
     }
-    let Ok(mut taps) = MemTaps::new(alloc, 8, Vec::new(alloc)) else {
-        return Err(Memory);
-    };
-    Ok(talek(
-        rt,
-        alloc,
-        bytes.as_slice(),
-        source,
-        sink,
-        &mut taps,
-        &OpenGate,
-    ))
+    Ok(talek(rt, alloc, bytes.as_slice(), source, sink, taps, &OpenGate))
 }
 
-fn source_of(alloc: Global, text: &[u8]) -> Result<MemSource, AllocError> {
+pub(crate) fn source_of(alloc: Global, text: &[u8]) -> Result<MemSource, AllocError> {
     Ok(MemSource::new(text.to_vec(alloc)?, 4096, Vec::new(alloc)))
 }
 
@@ -184,7 +188,7 @@ fill 39 144
 end
 ";
 
-const LARGER_REPORT: &[u8] = b"report
+pub(crate) const LARGER_REPORT: &[u8] = b"report
 order 1 1 0 1 2
 order 1 2 0 1 2 mark
 reads 1 2 0 0 0

@@ -1,9 +1,12 @@
-ghost use Rattle.std.specs.Prelude.{◌≡◌, ◌≢◌, ◌≤◌, ◌↔◌, ◌⊎◌, ℕ, List, IfOk, IfSome, IfNone};
+ghost use Rattle.std.specs.Prelude.{◌≡◌, ◌≢◌, ◌≤◌, ◌↔◌, ◌⊎◌, ℕ, List, IfOk, IfErr, IfSome, IfNone};
 ghost use Rattle.tk_io.specs.Content.{Rose, TakesUpTo};
 ghost use Rattle.tk_cli.specs.Requests.{AsksLater, AsksNothing};
-ghost use Rattle.tk_cli.specs.Serial.{IsSerialReport, SpellNothing, Reports, ReportsFront, Refuses};
+ghost use Rattle.tk_cli.specs.Serial.{RunsTo, RunsInto, SpellNothing};
+ghost use Rattle.tk_cli.specs.Serial.{Reports, ReportsFront, TapsFronts, Refuses};
+ghost use Rattle.tk_cli.specs.Tapped.{TapsKeep};
 
 use crate::request::{Request, request_of};
+use crate::run_error::RunError;
 use crate::serial::serial;
 use crate::status::Status;
 use std::alloc::Global;
@@ -11,27 +14,34 @@ use std::sync::Wait;
 use std::thread::Threads;
 use tk_io::{Gate, ReadError, Sink, Source, Taps, put_all, read_all};
 use tk_script::{Input, parse};
-use tk_shape::{Bytes, Memory};
+use tk_shape::Bytes;
 use tk_words::{DrawnDraws, Tape};
 
 /// The most bytes of an input.
 pub const INPUT_LIMIT: usize = 8388608;
 
-/// Does what the words ask for: reads the whole input from the source, and writes the whole output to the sink at once.
-/// The taps and the gate are not used yet.
+/// Does what the words ask for: reads the whole input from the source, gives the taps what each server sees, and then
+/// writes the whole output to the sink at once. The gate is not used yet.
 pub fn talek<R: Threads + Wait + Sync, S: Source, K: Sink, T: Taps, G: Gate>(
     _rt: &R,
     alloc: Global,
     words: &[Bytes],
     source: &mut S,
     sink: &mut K,
-    _taps: &mut T,
+    taps: &mut T,
     _gate: &G,
 ) -> Status
     ensures done { result ≡ Status.Done →
-        Reports (S.left source.old) (S.left source.new) (K.held sink.old) (K.held sink.new) }
+        Reports (S.left source.old) (S.left source.new) (K.held sink.old) (K.held sink.new)
+        (T.tap taps.old) (T.tap taps.new) }
     ensures write { result ≡ Status.Write →
-        ReportsFront (S.left source.old) (S.left source.new) (K.held sink.old) (K.held sink.new) }
+        ReportsFront (S.left source.old) (S.left source.new) (K.held sink.old) (K.held sink.new)
+        (T.tap taps.old) (T.tap taps.new)
+        ⊎ (TapsFronts (S.left source.old) (S.left source.new) (T.tap taps.old) (T.tap taps.new)
+        × (K.held sink.new ≡ K.held sink.old)) }
+    ensures memory { result ≡ Status.Memory →
+        TapsFronts (S.left source.old) (S.left source.new) (T.tap taps.old) (T.tap taps.new)
+        ⊎ TapsKeep (T.tap taps.old) (T.tap taps.new) }
     ensures usage { (result ≡ Status.Usage) ↔ AsksNothing words.now }
     ensures later { (result ≡ Status.Later 0) ↔ AsksLater words.now }
     ensures refused { (line : ℕ) → result ≡ Status.Later line → line ≢ 0 →
@@ -42,24 +52,39 @@ pub fn talek<R: Threads + Wait + Sync, S: Source, K: Sink, T: Taps, G: Gate>(
     ensures taken { let too_long = result ≡ Status.TooLong in (taken : List ℕ)
         × TakesUpTo INPUT_LIMIT (S.left source.old) (S.left source.new) too_long taken }
     ensures source_faults { S.faults source.old ≤ S.faults source.new }
-    ensures write_fault { result ≡ Status.Write → Rose (K.faults sink.old) (K.faults sink.new) }
+    ensures write_fault { result ≡ Status.Write → Rose (K.faults sink.old) (K.faults sink.new)
+        ⊎ Rose (T.faults taps.old) (T.faults taps.new) }
     ensures quiet { result ≢ Status.Done → result ≢ Status.Write → K.held sink.new ≡ K.held sink.old }
+    ensures quiet_taps { result ≢ Status.Done → result ≢ Status.Write → result ≢ Status.Memory
+        → TapsKeep (T.tap taps.old) (T.tap taps.new) }
     ensures sink_faults { K.faults sink.old ≤ K.faults sink.new }
-    ensures taps { _taps.new ≡ _taps.old }
+    ensures taps_faults { T.faults taps.old ≤ T.faults taps.new }
 {
     match request_of(words) {
-        Request::Serial => run_serial(alloc, source, sink),
+        Request::Serial => run_serial(alloc, source, sink, taps),
         Request::Later => Status::Later { line: 0 },
         Request::Nothing => Status::Usage,
     }
 }
 
 /// The word `serial`.
-fn run_serial<S: Source, K: Sink>(alloc: Global, source: &mut S, sink: &mut K) -> Status
+fn run_serial<S: Source, K: Sink, T: Taps>(
+    alloc: Global,
+    source: &mut S,
+    sink: &mut K,
+    taps: &mut T,
+) -> Status
     ensures done { result ≡ Status.Done →
-        Reports (S.left source.old) (S.left source.new) (K.held sink.old) (K.held sink.new) }
+        Reports (S.left source.old) (S.left source.new) (K.held sink.old) (K.held sink.new)
+        (T.tap taps.old) (T.tap taps.new) }
     ensures write { result ≡ Status.Write →
-        ReportsFront (S.left source.old) (S.left source.new) (K.held sink.old) (K.held sink.new) }
+        ReportsFront (S.left source.old) (S.left source.new) (K.held sink.old) (K.held sink.new)
+        (T.tap taps.old) (T.tap taps.new)
+        ⊎ (TapsFronts (S.left source.old) (S.left source.new) (T.tap taps.old) (T.tap taps.new)
+        × (K.held sink.new ≡ K.held sink.old)) }
+    ensures memory { result ≡ Status.Memory →
+        TapsFronts (S.left source.old) (S.left source.new) (T.tap taps.old) (T.tap taps.new)
+        ⊎ TapsKeep (T.tap taps.old) (T.tap taps.new) }
     ensures usage { result ≢ Status.Usage }
     ensures later { result ≢ Status.Later 0 }
     ensures refused { (line : ℕ) → result ≡ Status.Later line →
@@ -68,9 +93,13 @@ fn run_serial<S: Source, K: Sink>(alloc: Global, source: &mut S, sink: &mut K) -
     ensures taken { let too_long = result ≡ Status.TooLong in (taken : List ℕ)
         × TakesUpTo INPUT_LIMIT (S.left source.old) (S.left source.new) too_long taken }
     ensures source_faults { S.faults source.old ≤ S.faults source.new }
-    ensures write_fault { result ≡ Status.Write → Rose (K.faults sink.old) (K.faults sink.new) }
+    ensures write_fault { result ≡ Status.Write → Rose (K.faults sink.old) (K.faults sink.new)
+        ⊎ Rose (T.faults taps.old) (T.faults taps.new) }
     ensures quiet { result ≢ Status.Done → result ≢ Status.Write → K.held sink.new ≡ K.held sink.old }
+    ensures quiet_taps { result ≢ Status.Done → result ≢ Status.Write → result ≢ Status.Memory
+        → TapsKeep (T.tap taps.old) (T.tap taps.new) }
     ensures sink_faults { K.faults sink.old ≤ K.faults sink.new }
+    ensures taps_faults { T.faults taps.old ≤ T.faults taps.new }
 {
     let text = match read_all(alloc, source, INPUT_LIMIT) {
         Ok(text) => text,
@@ -78,10 +107,11 @@ fn run_serial<S: Source, K: Sink>(alloc: Global, source: &mut S, sink: &mut K) -
         Err(ReadError::Fault) => return Status::Read,
         Err(ReadError::TooLong) => return Status::TooLong,
     };
-    let report = match report_of(alloc, text.as_slice()) {
+    let report = match report_of(alloc, text.as_slice(), taps) {
         Ok(Some(report)) => report,
         Ok(None) => return Status::Later { line: 1 },
-        Err(Memory) => return Status::Memory,
+        Err(RunError::Memory) => return Status::Memory,
+        Err(RunError::Taps) => return Status::Write,
     };
     match put_all(sink, report.as_slice()) {
         Ok(()) => Status::Done,
@@ -89,12 +119,26 @@ fn run_serial<S: Source, K: Sink>(alloc: Global, source: &mut S, sink: &mut K) -
     }
 }
 
-/// The report of the serial run of an input; none for bytes that are no input of the form that is built.
-fn report_of(alloc: Global, text: &[u8]) -> Result<Option<Vec<u8>>, Memory>
-    ensures found { IfOk result (λ o. IfSome o (λ report. IsSerialReport text.now report.items)) }
+/// The report of the serial run of an input, of which the taps gain what each server sees; none for bytes that are no
+/// input of the form that is built.
+fn report_of<T: Taps>(alloc: Global, text: &[u8], taps: &mut T) -> Result<Option<Vec<u8>>, RunError>
+    ensures found { IfOk result (λ o. IfSome o (λ report.
+        RunsTo text.now report.items (T.tap taps.old) (T.tap taps.new))) }
     ensures none { IfOk result (λ o. IfNone o (SpellNothing text.now)) }
+    ensures kept { IfOk result (λ o. IfNone o (TapsKeep (T.tap taps.old) (T.tap taps.new))) }
+    ensures taps { IfErr result (λ e. e ≡ RunError.Taps
+        → RunsInto text.now (T.tap taps.old) (T.tap taps.new)) }
+    ensures memory { IfErr result (λ e. e ≡ RunError.Memory
+        → RunsInto text.now (T.tap taps.old) (T.tap taps.new)
+        ⊎ TapsKeep (T.tap taps.old) (T.tap taps.new)) }
+    ensures rose { IfErr result (λ e. e ≡ RunError.Taps
+        → Rose (T.faults taps.old) (T.faults taps.new)) }
+    ensures counts { T.faults taps.old ≤ T.faults taps.new }
 {
-    let Some(input) = parse(alloc, text)? else {
+    let Ok(parsed) = parse(alloc, text) else {
+        return Err(RunError::Memory);
+    };
+    let Some(input) = parsed else {
         return Ok(None);
     };
     let Input {
@@ -108,5 +152,8 @@ fn report_of(alloc: Global, text: &[u8]) -> Result<Option<Vec<u8>>, Memory>
         return Ok(None);
     };
     let draws = DrawnDraws::new(&script.shape, tape);
-    Ok(Some(serial(alloc, &script, &draws)?))
+    match serial(alloc, &script, &draws, taps) {
+        Ok(report) => Ok(Some(report)),
+        Err(error) => Err(error),
+    }
 }

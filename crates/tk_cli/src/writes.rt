@@ -22,6 +22,8 @@ pub(crate) fn text_write<D: Draws>(
     requires one_shape { D.shape draws.now ≡ shape.now }
     requires sound { IsTrue (can_send shape.now outgoing.now) }
     ensures block { IfOk result (λ w. length w.block ≡ shape.now.block) }
+    ensures first_in { IfOk result (λ w. w.first < shape.now.buckets) }
+    ensures second_in { IfOk result (λ w. w.second < shape.now.buckets) }
     ensures write { IfOk result (λ w.
         w ≡ write_of (words_of shape.now (D.book draws.now)) outgoing.now.turn client (Some (sending outgoing.now))) }
 {
@@ -57,6 +59,8 @@ pub(crate) fn dummy_write<D: Draws>(
     requires client_in { client < shape.now.clients }
     requires turn_in { turn < turn_count shape.now }
     ensures block { IfOk result (λ w. length w.block ≡ shape.now.block) }
+    ensures first_in { IfOk result (λ w. w.first < shape.now.buckets) }
+    ensures second_in { IfOk result (λ w. w.second < shape.now.buckets) }
     ensures write { IfOk result (λ w. w ≡ write_of (words_of shape.now (D.book draws.now)) turn client None) }
 {
     let mut hits = vec![in alloc; 0u32; shape.hits as usize]?;

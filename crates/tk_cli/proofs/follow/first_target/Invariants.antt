@@ -1,7 +1,7 @@
 -- The places so far give nothing.
 use Rattle.std.proofs.Common.{◌≡◌, ◌-◌, map}
 use Rattle.std.specs.List.{range_with_len}
-use Rattle.tk_cli.specs.Lists.{first_some}
+use Rattle.tk_table.specs.Lists.{first_some}
 use Rattle.tk_cli.specs.Readers.{follow_of, next_target}
 use Rattle.tk_cli.proofs.follow.first_target.Given as goal
 

@@ -1,19 +1,32 @@
--- The report is that of the serial history.
-use Rattle.std.proofs.Common.{◌∙◌, ◌++◌, ap, sym, subst, List, ℕ}
+-- Where the run ends early, or its report finds no memory, the taps have fronts of the exchange.
+use Rattle.std.proofs.Common.{ℕ, subst}
+use Rattle.tk_schedule.specs.Schedule.{serial_history}
 use Rattle.tk_schedule.specs.declared.history.History.{History}
-use Rattle.tk_words.specs.Words.{words_of}
-use Rattle.tk_cli.specs.Report.{report_of}
-use Rattle.tk_cli.specs.Readers.{AreReaders}
+use Rattle.tk_cli.specs.Exchange.{exchange, bytes_of}
+use Rattle.tk_cli.specs.Tapped.{TapsGain, TapsGainFronts}
+use Rattle.tk_cli.proofs.TapLaws.{fronts-of_all}
 use Rattle.tk_cli.proofs.serial.serial.Goals as goal
 
-pub returns : goal.returns
-returns g c =
+pub returns-in-Err-clause-err : goal.returns-in-Err-clause-err
+returns-in-Err-clause-err g c =
     let S = c.args.script.now in
-    let words = words_of S.shape (g.D.Draws.book c.args.draws.now) in
-    let history = c.in_ok-history.history in
-    let readers = subst (AreReaders S words history) (sym c.as_slice-2.ensures.value) c.in_ok-readers.ensures in
-    record {
-      report = c.in_ok-push_report.ensures words readers
-          ∙ ap (λ (xs : List ℕ). xs ++ report_of S words history) c.new-out.ensures.items
-          ∙ ap (λ (h : History). report_of S words h) c.in_ok-history.ensures.serial;
-    }
+    let book = g.D.Draws.book c.args.draws.now in
+    let old = g.T.Taps.tap c.args.taps.now in
+    let new = g.T.Taps.tap c.take_turns.new.taps in
+    subst (λ (h : History). TapsGainFronts S.shape.servers
+    (λ (j : ℕ). bytes_of (exchange S book h j)) old new)
+    c.in-Ok.ensures.serial c.in-Err.ensures.err
+
+pub returns-in_default-push_report-clause-err : goal.returns-in_default-push_report-clause-err
+returns-in_default-push_report-clause-err g c =
+    let S = c.args.script.now in
+    let book = g.D.Draws.book c.args.draws.now in
+    let old = g.T.Taps.tap c.args.taps.now in
+    let new = g.T.Taps.tap c.take_turns.new.taps in
+    let seen = λ (j : ℕ). bytes_of (exchange S book (serial_history S.shape) j) in
+    let all =
+    subst (λ (h : History). TapsGain S.shape.servers
+    (λ (j : ℕ). bytes_of (exchange S book h j)) old new)
+    c.in-Ok.ensures.serial c.in-Ok-take_turns.ensures.ok
+    in
+    fronts-of_all S.shape.servers seen old new all

@@ -3,7 +3,7 @@ use Rattle.std.proofs.Common.{◌≡◌, ◌∙◌, sym, ap, ◌-◌, List, leng
 use Rattle.std.specs.List.{range_with_len}
 use Rattle.std.specs.Option.{option_map, option_or}
 use Rattle.tk_cli.specs.declared.follow.Follow.{Follow}
-use Rattle.tk_cli.specs.Lists.{first_some}
+use Rattle.tk_table.specs.Lists.{first_some}
 use Rattle.tk_cli.specs.Readers.{follow_of, target_of, next_target}
 use Rattle.tk_cli.proofs.ReaderLaws.{target-kept}
 use Rattle.tk_cli.proofs.reader.Reader.target.Goals as goal

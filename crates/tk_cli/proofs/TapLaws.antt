@@ -1,0 +1,263 @@
+-- What taps gained, call after call, and what servers gave to them.
+use Rattle.std.proofs.Common.{◌≡◌, ◌≢◌, refl, ap, sym, subst, ◌∙◌, arith, inl, inr}
+use Rattle.std.proofs.Common.{ℕ, zero, suc, ◌+◌, ◌-◌, ◌<◌, ◌≤◌, ◌⊎◌}
+use Rattle.std.proofs.Common.{List, [], ◌∷◌, ◌++◌, length, take, set, append_assoc, append-nil}
+use Rattle.std.specs.Prelude.{Option, Some, None, slice_index_or}
+use Rattle.std.proofs.lemmas.Bool.{cases_lt}
+use Rattle.std.proofs.lemmas.Grind.{get_or-set_at}
+use Rattle.std.proofs.lemmas.List.{take_all, take-append-le, get_or-set_other, length-set}
+use Rattle.tk_shape.specs.declared.shape.Shape.{Shape}
+use Rattle.tk_frames.specs.Order.{Record}
+use Rattle.tk_io.specs.Content.{gained}
+use Rattle.tk_cli.specs.declared.server.Server.{Server}
+use Rattle.tk_cli.specs.Servers.{IsServer, AreServers, nothing_seen}
+use Rattle.tk_cli.specs.Tapped.{GainsFront, TapsGain, TapsGainFronts}
+
+-- ---- one tap
+
+abbrev Tap : Type 0
+Tap = Option (List ℕ)
+
+pub gained-twice : (t : Tap) (a b : List ℕ) → gained (gained t a) b ≡ gained t (a ++ b)
+gained-twice None a b = refl
+gained-twice (Some held) a b = ap {B = Tap} Some (append_assoc held a b)
+
+pub gained-nothing : (t : Tap) → gained t [] ≡ t
+gained-nothing None = refl
+gained-nothing (Some held) = ap {B = Tap} Some (append-nil held)
+
+-- all of it is a front of it
+pub front-of_all : (t u : Tap) (a : List ℕ) → u ≡ gained t a → GainsFront t u a
+front-of_all t u a all =
+    (length a, all ∙ ap (gained t) (sym (take_all (length a) a (omega arith))))
+
+front_longer : (n : ℕ) (a b : List ℕ) → (m : ℕ) × (take n a ≡ take m (a ++ b))
+front_longer n a b =
+    elim (cases_lt (length a) n) [
+      | inl past ↦ (
+        length a,
+        take_all n a (omega (arith, past)) ∙ sym (take_all (length a) a (omega arith))
+            ∙ sym (take-append-le (length a) a b (omega arith)),
+      )
+      | inr within ↦ (n, sym (take-append-le n a b within))
+    ]
+
+-- a front of what comes first is a front of both
+pub front-of_first : (t u : Tap) (a b : List ℕ) → GainsFront t u a → GainsFront t u (a ++ b)
+front-of_first t u a b front =
+    let longer = front_longer front.0 a b in
+    (longer.0, front.1 ∙ ap (gained t) longer.1)
+
+take_past : (a : List ℕ) (m n : ℕ) (b : List ℕ) → m ≡ length a + n →
+    take m (a ++ b) ≡ a ++ take n b
+take_past [] m n b here = ap (λ (k : ℕ). take k b) (omega (arith, here))
+take_past (x ∷ a) zero n b here = absurd (omega (arith, here))
+take_past (x ∷ a) (suc m) n b here =
+    ap (λ (xs : List ℕ). x ∷ xs) (take_past a m n b (omega (arith, here)))
+
+-- a front of what comes second, where the first is there
+pub front-of_second : (t u v : Tap) (a b : List ℕ) → u ≡ gained t a → GainsFront u v b →
+    GainsFront t v (a ++ b)
+front-of_second t u v a b first front =
+    let n = front.0 in (
+      length a + n,
+      front.1 ∙ ap (λ (w : Tap). gained w (take n b)) first
+          ∙ gained-twice t a (take n b)
+          ∙ ap (gained t) (sym (take_past a (length a + n) n b refl)),
+    )
+
+-- ---- all taps
+
+abbrev Bytes : Type 0
+Bytes = ℕ → List ℕ
+
+abbrev AllTaps : Type 0
+AllTaps = ℕ → Tap
+
+pub taps-twice : (n : ℕ) (a b : Bytes) (t u v : AllTaps) → TapsGain n a t u → TapsGain n b u v →
+    TapsGain n (λ j. a j ++ b j) t v
+taps-twice n a b t u v first second j low high =
+    second j low high ∙ ap (λ (w : Tap). gained w (b j)) (first j low high)
+    ∙ gained-twice (t j) (a j) (b j)
+
+pub taps-then_fronts : (n : ℕ) (a b : Bytes) (t u v : AllTaps) →
+    TapsGain n a t u → TapsGainFronts n b u v → TapsGainFronts n (λ j. a j ++ b j) t v
+taps-then_fronts n a b t u v first second j low high =
+    front-of_second (t j) (u j) (v j) (a j) (b j) (first j low high) (second j low high)
+
+pub fronts-of_first : (n : ℕ) (a b : Bytes) (t u : AllTaps) → TapsGainFronts n a t u →
+    TapsGainFronts n (λ j. a j ++ b j) t u
+fronts-of_first n a b t u fronts j low high =
+    front-of_first (t j) (u j) (a j) (b j) (fronts j low high)
+
+pub fronts-of_all : (n : ℕ) (a : Bytes) (t u : AllTaps) → TapsGain n a t u → TapsGainFronts n a t u
+fronts-of_all n a t u all j low high = front-of_all (t j) (u j) (a j) (all j low high)
+
+-- taps that gained nothing have a front of anything
+pub fronts-of_none : (n : ℕ) (a : Bytes) (t u : AllTaps) →
+    ((j : ℕ) → 1 ≤ j → j ≤ n → u j ≡ t j) → TapsGainFronts n a t u
+fronts-of_none n a t u stay j low high = (0, stay j low high ∙ sym (gained-nothing (t j)))
+
+-- what bytes give for the taps alone matters
+abbrev SameBytes : ℕ → Bytes → Bytes → Type 0
+SameBytes n a b = (j : ℕ) → 1 ≤ j → j ≤ n → a j ≡ b j
+
+pub taps-same : (n : ℕ) (a b : Bytes) (t u : AllTaps) → SameBytes n a b → TapsGain n a t u →
+    TapsGain n b t u
+taps-same n a b t u same all j low high = all j low high ∙ ap (gained (t j)) (same j low high)
+
+pub fronts-same : (n : ℕ) (a b : Bytes) (t u : AllTaps) → SameBytes n a b →
+    TapsGainFronts n a t u → TapsGainFronts n b t u
+fronts-same n a b t u same fronts j low high =
+    subst (GainsFront (t j) (u j)) (same j low high) (fronts j low high)
+
+-- ---- servers that give to their taps
+
+-- a server stands for what another does and shows the same, and has seen nothing since
+abbrev pub IsGiven : Server → Server → Type 0
+IsGiven s t = (shape : Shape) (R shown : List Record) (bytes : List ℕ) →
+    IsServer shape R shown bytes s → IsServer shape R shown [] t
+
+-- the first n servers gave what they saw to their taps, and nothing else came about
+pub record GaveTo (n : ℕ) (from to : List Server) (old new : ℕ → Option (List ℕ)) : Type 0 where
+  pub counted : length to ≡ length from
+  pub given : (k : ℕ) (d : Server) → k < n →
+      IsGiven (slice_index_or from k d) (slice_index_or to k d)
+  pub left : (k : ℕ) (d : Server) → n ≤ k → slice_index_or to k d ≡ slice_index_or from k d
+  pub taps : (k : ℕ) (d : Server) → k < n →
+      new (k + 1) ≡ gained (old (k + 1)) (slice_index_or from k d).seen.items
+  pub others : (j : ℕ) → (j ≡ 0) ⊎ (n < j) → new j ≡ old j
+
+-- one more server gives what it saw
+pub gave-more : (n : ℕ) (from to : List Server) (old mid new : AllTaps) (s given : Server) →
+    GaveTo n from to old mid → n < length to → s ≡ slice_index_or to n s → IsGiven s given →
+    new (n + 1) ≡ gained (mid (n + 1)) s.seen.items →
+    ((j : ℕ) → j ≢ n + 1 → new j ≡ mid j) →
+    GaveTo (n + 1) from (set to n given) old new
+gave-more n from to old mid new s next gave within here is tap stay =
+    record {
+      counted = length-set to n next ∙ gave.counted;
+      given = λ k d below. elim (cases_lt k n) [
+        | inl before ↦
+            subst (IsGiven (slice_index_or from k d))
+            (sym (get_or-set_other to n k next d (λ same. omega (arith, same, before))))
+            (gave.given k d before)
+        | inr at ↦
+            let same : k ≡ n = omega (arith, below, at) in
+            subst (IsGiven (slice_index_or from k d))
+            (sym (get_or-set_at to n k next d same within))
+            (subst (λ (x : Server). IsGiven x next) (sym (was k d same)) is)
+      ];
+      left = λ k d past.
+          get_or-set_other to n k next d (λ same. omega (arith, same, past))
+          ∙ gave.left k d (omega (arith, past));
+      taps = λ k d below. elim (cases_lt k n) [
+        | inl before ↦
+            stay (k + 1) (λ same. omega (arith, same, before)) ∙ gave.taps k d before
+        | inr at ↦
+            let same : k ≡ n = omega (arith, below, at) in
+            ap (λ (i : ℕ). new (i + 1)) same ∙ tap
+            ∙ ap (λ (x : Tap). gained x s.seen.items) (gave.others (n + 1) (inr (omega arith)))
+            ∙ ap (λ (i : ℕ). gained (old (i + 1)) s.seen.items) (sym same)
+            ∙ ap (λ (x : Server). gained (old (k + 1)) x.seen.items) (sym (was k d same))
+      ];
+      others = λ j past.
+          stay j (not_one j past) ∙ gave.others j (still j past);
+    }
+  where
+    found_at : (xs : List Server) (i : ℕ) (d x : Server) → i < length xs →
+        x ≡ slice_index_or xs i x → slice_index_or xs i d ≡ x
+    found_at [] i d x inside at = absurd (omega (arith, inside))
+    found_at (y ∷ xs) zero d x inside at = sym at
+    found_at (y ∷ xs) (suc i) d x inside at = found_at xs i d x (omega (arith, inside)) at
+
+    was : (k : ℕ) (d : Server) → k ≡ n → slice_index_or from k d ≡ s
+    was k d same =
+        ap (λ (i : ℕ). slice_index_or from i d) same ∙ sym (gave.left n d (omega arith))
+        ∙ found_at to n d s within here
+
+    not_one : (j : ℕ) → (j ≡ 0) ⊎ (n + 1 < j) → j ≢ n + 1
+    not_one j (inl e) same = omega (arith, e, same)
+    not_one j (inr h) same = omega (arith, h, same)
+
+    still : (j : ℕ) → (j ≡ 0) ⊎ (n + 1 < j) → (j ≡ 0) ⊎ (n < j)
+    still j (inl e) = inl e
+    still j (inr h) = inr (omega (arith, h))
+
+-- ---- when all gave, or one of them couldn't
+
+server_at : (shape : Shape) (R shown : List Record) (seen : ℕ → List ℕ) (from : List Server) →
+    AreServers shape R shown seen from → (k : ℕ) (d : Server) → k < length from →
+    (slice_index_or from k d).seen.items ≡ seen (k + 1)
+server_at shape R shown seen from are k d within = (are.each k d within).seen
+
+pub gave-servers : (n : ℕ) (from to : List Server) (old new : AllTaps) →
+    GaveTo n from to old new → length to ≤ n →
+    (shape : Shape) (R shown : List Record) (seen : ℕ → List ℕ) →
+    AreServers shape R shown seen from → AreServers shape R shown nothing_seen to
+gave-servers n from to old new gave all shape R shown seen are =
+    record {
+      counted = gave.counted ∙ are.counted;
+      each = λ k d within.
+          gave.given k d (omega (arith, within, all)) shape R shown (seen (k + 1))
+          (are.each k d (omega (arith, within, gave.counted)));
+    }
+
+-- the tap of a server by its number
+tap_of : (n : ℕ) (from to : List Server) (old new : AllTaps) → GaveTo n from to old new →
+    (shape : Shape) (R shown : List Record) (seen : ℕ → List ℕ) →
+    AreServers shape R shown seen from → (d : Server) (j : ℕ) → 1 ≤ j → j ≤ n →
+    j ≤ length from → new j ≡ gained (old j) (seen j)
+tap_of n from to old new gave shape R shown seen are d j low below high =
+    let back : (j - 1) + 1 ≡ j = omega (arith, low) in
+    subst (λ (i : ℕ). new i ≡ gained (old i) (seen i)) back
+    (gave.taps (j - 1) d (omega (arith, low, below))
+    ∙ ap (gained (old ((j - 1) + 1)))
+    (server_at shape R shown seen from are (j - 1) d (omega (arith, low, high))))
+
+any_server : (from : List Server) (j : ℕ) → 1 ≤ j → j ≤ length from → Server
+any_server [] j low high = absurd (omega (arith, low, high))
+any_server (s ∷ from) j low high = s
+
+pub gave-taps : (n : ℕ) (from to : List Server) (old new : AllTaps) →
+    GaveTo n from to old new → length to ≤ n →
+    (shape : Shape) (R shown : List Record) (seen : ℕ → List ℕ) →
+    AreServers shape R shown seen from → TapsGain shape.servers seen old new
+gave-taps n from to old new gave all shape R shown seen are j low high =
+    let within : j ≤ length from = omega (arith, high, are.counted) in
+    tap_of n from to old new gave shape R shown seen are (any_server from j low within) j low
+    (omega (arith, within, all, gave.counted)) within
+
+-- one of them gave a front, and those after it nothing
+pub gave-fronts : (n : ℕ) (from to : List Server) (old mid new : AllTaps) (s : Server) →
+    GaveTo n from to old mid → n < length to → s ≡ slice_index_or to n s →
+    GainsFront (mid (n + 1)) (new (n + 1)) s.seen.items →
+    ((j : ℕ) → j ≢ n + 1 → new j ≡ mid j) →
+    (shape : Shape) (R shown : List Record) (seen : ℕ → List ℕ) →
+    AreServers shape R shown seen from → TapsGainFronts shape.servers seen old new
+gave-fronts n from to old mid new s gave within here front stay shape R shown seen are j low high =
+    elim (cases_lt j (n + 1)) [
+      | inl before ↦
+          front-of_all (old j) (new j) (seen j)
+          (stay j (λ same. omega (arith, same, before))
+          ∙ tap_of n from to old mid gave shape R shown seen are s j low (omega (arith, before))
+          (omega (arith, high, are.counted)))
+      | inr at ↦ elim (cases_lt (n + 1) j) [
+        | inl past ↦ (
+          0,
+          stay j (λ same. omega (arith, same, past)) ∙ gave.others j (inr (omega (arith, past)))
+              ∙ sym (gained-nothing (old j)),
+        )
+        | inr upto ↦
+            let same : n + 1 ≡ j = omega (arith, at, upto) in
+            subst (λ (i : ℕ). GainsFront (old i) (new i) (seen i)) same
+            (subst (λ (t : Tap). GainsFront t (new (n + 1)) (seen (n + 1)))
+            (gave.others (n + 1) (inr (omega arith)))
+            (subst (GainsFront (mid (n + 1)) (new (n + 1))) saw front))
+      ]
+    ]
+  where
+    saw : s.seen.items ≡ seen (n + 1)
+    saw =
+        ap (λ (x : Server). x.seen.items) (here ∙ gave.left n s (omega arith))
+        ∙ server_at shape R shown seen from are n s (omega (arith, within, gave.counted))

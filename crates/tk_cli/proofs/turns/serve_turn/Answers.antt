@@ -1,0 +1,74 @@
+-- Servers that answered the reads of a turn may take its entries, and then stand before the next.
+use Rattle.std.proofs.Common.{◌++◌, ℕ, []}
+use Rattle.std.specs.List.{flat_map}
+use Rattle.tk_words.specs.Words.{words_of}
+use Rattle.tk_frames.specs.Order.{records}
+use Rattle.tk_frames.specs.Spelling.{placed_frame}
+use Rattle.tk_cli.specs.Servers.{nothing_seen, shown_after}
+use Rattle.tk_cli.specs.Turns.{placed_before, seen_of_reads}
+use Rattle.tk_cli.proofs.AskingLaws.{on_ok_always, on_ok_then}
+use Rattle.tk_cli.proofs.ShownLaws.{ordered-front}
+use Rattle.tk_cli.proofs.TurnLaws.{shown-ordered, shown-storable, servers-next, turn-seen}
+use Rattle.tk_cli.proofs.turns.serve_turn.Goals as goal
+
+pub apply_all-requires : goal.apply_all-requires
+apply_all-requires g c =
+    let S = c.args.script.now in
+    let book = g.D.Draws.book c.args.draws.now in
+    let words = words_of S.shape book in
+    let H = c.args.history.now in
+    let turn = c.args.turn in
+    let E = placed_before S words H turn in
+    let shown = shown_after [] [] E in
+    let entries_seen = λ (j : ℕ). nothing_seen j ++ flat_map placed_frame c.args.placed.now in
+    let saw = c.in_ok-see_all.ensures S.shape (records E) shown nothing_seen c.requires.servers in
+    record {
+      shape = S.shape;
+      R = records E;
+      shown = shown;
+      seen = seen_of_reads S book H turn S.shape.clients entries_seen;
+      servers_are =
+          c.in_ok-read_turn.ensures.servers (records E) shown entries_seen saw c.requires.turn.over;
+      may = c.requires.turn.may;
+    }
+
+pub returns-clause-servers : goal.returns-clause-servers
+returns-clause-servers g c =
+    let S = c.args.script.now in
+    let book = g.D.Draws.book c.args.draws.now in
+    let words = words_of S.shape book in
+    let H = c.args.history.now in
+    let turn = c.args.turn in
+    let E = placed_before S words H turn in
+    let shown = shown_after [] [] E in
+    let entries_seen = λ (j : ℕ). nothing_seen j ++ flat_map placed_frame c.args.placed.now in
+    let saw = c.in_ok-see_all.ensures S.shape (records E) shown nothing_seen c.requires.servers in
+    let answered =
+    c.in_ok-read_turn.ensures.servers (records E) shown entries_seen saw c.requires.turn.over
+    in
+    let seen = seen_of_reads S book H turn S.shape.clients entries_seen in
+    let took =
+    c.apply_all.ensures S.shape (records E) shown seen answered c.requires.turn.may
+    in
+    on_ok_then c.apply_all.result
+    (λ are. turn-seen S book H turn c.args.placed.now c.apply_all.new.servers
+    c.requires.turn.entries
+    (servers-next S words H turn c.args.placed.now seen c.apply_all.new.servers
+    c.requires.turn.entries are))
+    took
+
+pub returns-clause-readers : goal.returns-clause-readers
+returns-clause-readers g c =
+    let S = c.args.script.now in
+    let words = words_of S.shape (g.D.Draws.book c.args.draws.now) in
+    let E = placed_before S words c.args.history.now c.args.turn in
+    let shown = shown_after [] [] E in
+    let entries_seen = λ (j : ℕ). nothing_seen j ++ flat_map placed_frame c.args.placed.now in
+    let ordered =
+    ordered-front S.shape (records E) (records c.args.placed.now) c.requires.turn.may.ordered
+    in
+    let saw = c.in_ok-see_all.ensures S.shape (records E) shown nothing_seen c.requires.servers in
+    on_ok_always c.apply_all.result
+    (c.in_ok-read_turn.ensures.readers (records E) shown entries_seen saw
+    (shown-ordered S.shape E ordered) (shown-storable S.shape E c.requires.turn.storable)
+    c.requires.turn.over)

@@ -1,0 +1,60 @@
+-- Turn after turn the taps gain what the servers see.
+use Rattle.std.proofs.Common.{◌≡◌, ◌∙◌, arith, refl, sym, le_trans}
+use Rattle.tk_shape.specs.Lengths.{turn_count}
+use Rattle.tk_words.specs.Words.{words_of}
+use Rattle.tk_cli.proofs.TurnLaws.{placed-first, servers-first, taps-first, taps-next, taps-all}
+use Rattle.tk_cli.proofs.TurnLaws.{fronts-next}
+use Rattle.tk_cli.proofs.turns.take_all_turns.Goals as goal
+
+pub turns-init : goal.turns-init
+turns-init g c =
+    let S = c.args.script.now in
+    let book = g.D.Draws.book c.args.draws.now in
+    let words = words_of S.shape book in
+    let H = c.args.history.now in
+    record {
+      order = c.requires.order;
+      shape = c.requires.shape;
+      before = c.requires.empty ∙ sym (placed-first S words H);
+      servers = servers-first S words H c.args.servers.now c.requires.servers;
+      readers = c.requires.readers;
+      taps = taps-first S book H (g.T.Taps.tap c.args.taps.now);
+      others = λ j out. refl;
+      counts = omega arith;
+    }
+
+pub returns-in-Err-clause-err : goal.returns-in-Err-clause-err
+returns-in-Err-clause-err g c =
+    let S = c.args.script.now in
+    let tap = g.T.Taps.tap in
+    fronts-next S (g.D.Draws.book c.args.draws.now) c.args.history.now c.turns.turn
+    (tap c.args.taps.now) (tap c.turns.taps) (tap c.take_turn-taken.new.taps)
+    (omega (arith, c.turns-test.true))
+    c.turns.invariant.taps c.in-Err.ensures.err
+
+pub returns-clause-ok : goal.returns-clause-ok
+returns-clause-ok g c =
+    let S = c.args.script.now in
+    let tap = g.T.Taps.tap in
+    let all : c.turns.turn ≡ turn_count S.shape = omega arith in
+    taps-all S (g.D.Draws.book c.args.draws.now) c.args.history.now c.turns.turn
+    (tap c.args.taps.now) (tap c.turns.taps) all c.turns.invariant.taps
+
+pub turns-preserved : goal.turns-preserved
+turns-preserved g c =
+    let S = c.args.script.now in
+    let tap = g.T.Taps.tap in
+    let is = c.turns.invariant in
+    let took = c.in-Ok.ensures in
+    record {
+      order = took.order;
+      shape = took.shape;
+      before = took.before;
+      servers = took.servers;
+      readers = took.readers;
+      taps = taps-next S (g.D.Draws.book c.args.draws.now) c.args.history.now c.turns.turn
+          (tap c.args.taps.now) (tap c.turns.taps) (tap c.take_turn-taken.new.taps)
+          is.taps took.ok;
+      others = λ j out. took.others j out ∙ is.others j out;
+      counts = le_trans is.counts took.counts;
+    }

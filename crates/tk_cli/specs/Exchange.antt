@@ -1,0 +1,107 @@
+-- What each server sees of a run, and what it replies.
+use Rattle.std.specs.Prelude.{ℕ, ◌-◌, List, [], ◌∷◌, ◌++◌, map, flat_map, slice_index_or}
+use Rattle.std.specs.Prelude.{Option, Some, None}
+use Rattle.std.specs.List.{range_with_len}
+use Rattle.tk_shape.specs.declared.shape.Shape.{Shape}
+use Rattle.tk_shape.specs.Lengths.{turn_count, vector_len, width}
+use Rattle.tk_schedule.specs.declared.history.History.{History}
+use Rattle.tk_schedule.specs.Schedule.{epoch_at}
+use Rattle.tk_script.specs.declared.script.Script.{Script}
+use Rattle.tk_kernel.specs.Chosen.{chosen_sum}
+use Rattle.tk_bits.specs.Shares.{shares}
+use Rattle.tk_words.specs.Words.{WordBook, BookWords, words_of, fresh_vectors}
+use Rattle.tk_frames.specs.declared.write_frame.WriteFrame.{WriteFrame}
+use Rattle.tk_frames.specs.declared.read_frame.ReadFrame.{ReadFrame}
+use Rattle.tk_frames.specs.declared.reply_frame.ReplyFrame.{ReplyFrame}
+use Rattle.tk_frames.specs.Spelling.{placed_frame, read_frame, reply_frame}
+use Rattle.tk_frames.specs.Order.{Record}
+use Rattle.tk_table.specs.Table.{layout, blocks_of}
+use Rattle.tk_cli.specs.Client.{Target}
+use Rattle.tk_cli.specs.Entries.{write_at, entries_at}
+use Rattle.tk_cli.specs.Report.{target_at, read_over}
+
+-- ---- a read
+
+-- the buckets of a client's read: those of its target, or for a dummy those that are drawn
+abbrev pub pair_for : BookWords → ℕ → ℕ → Option Target → ℕ × ℕ
+pair_for w g c None = w.fresh_pair g c
+pair_for w g c (Some t) = w.pair t.log t.number
+
+unfoldable pub read_pair : Script → BookWords → History → ℕ → ℕ → ℕ × ℕ
+read_pair S w H g c = pair_for w g c (target_at S w H g c)
+
+-- the vector of server j among the shares of a bucket
+abbrev pub share_at : Shape → ℕ → ℕ → List (List ℕ) → List ℕ
+share_at shape j bucket drawn =
+    slice_index_or (shares (vector_len shape) bucket drawn) (j - 1) []
+
+-- the read frame that a client sends to server j in a turn
+unfoldable pub read_at : Script → WordBook → History → ℕ → ℕ → ℕ → ReadFrame
+read_at S b H g c j =
+    let pair = read_pair S (words_of S.shape b) H g c in
+    let drawn = fresh_vectors S.shape b g c in
+    record {
+      client = c;
+      turn = g;
+      epoch = epoch_at H g c;
+      first = share_at S.shape j pair.0 drawn.first;
+      second = share_at S.shape j pair.1 drawn.second;
+    }
+
+-- the reply to a read over these writes
+abbrev pub reply_to : Shape → List Record → ReadFrame → ReplyFrame
+reply_to shape R r =
+    let blocks = blocks_of (layout shape R) in
+    record {
+      client = r.client;
+      turn = r.turn;
+      epoch = r.epoch;
+      first = chosen_sum (width shape) blocks r.first;
+      second = chosen_sum (width shape) blocks r.second;
+    }
+
+-- a read frame, and behind it the reply over these writes
+unfoldable pub with_reply : Shape → List Record → ReadFrame → List (List ℕ)
+with_reply shape R r = read_frame r ∷ reply_frame (reply_to shape R r) ∷ []
+
+-- ---- a run
+
+-- What a turn or a client's read in it gives is told by functions: write gives each turn's and
+-- client's write, and reads the frames of each turn's and client's read.
+
+-- the frames of a turn: those of its entries in order, and then for each client those of its read
+abbrev pub turn_frames :
+    Shape → History → (ℕ → ℕ → WriteFrame) → (ℕ → ℕ → List (List ℕ)) → ℕ → List (List ℕ)
+turn_frames shape H write reads g =
+    map placed_frame (entries_at write H g) ++ flat_map (reads g) (range_with_len 0 shape.clients)
+
+-- the frames of the turns before turn g, turn after turn
+unfoldable pub frames_before :
+    Shape → History → (ℕ → ℕ → WriteFrame) → (ℕ → ℕ → List (List ℕ)) → ℕ → List (List ℕ)
+frames_before shape H write reads g =
+    flat_map (turn_frames shape H write reads) (range_with_len 0 g)
+
+-- a client's read in a turn as server j sees it
+abbrev pub read_seen : Script → WordBook → History → ℕ → ℕ → ℕ → List (List ℕ)
+read_seen S b H j g c = read_frame (read_at S b H g c j) ∷ []
+
+-- the same with the reply of server j behind it
+abbrev pub read_answered : Script → WordBook → History → ℕ → ℕ → ℕ → List (List ℕ)
+read_answered S b H j g c =
+    with_reply S.shape (read_over S (words_of S.shape b) H g c) (read_at S b H g c j)
+
+-- the frames that server j sees of a run
+abbrev pub view : Script → WordBook → History → ℕ → List (List ℕ)
+view S b H j =
+    let w = words_of S.shape b in
+    frames_before S.shape H (write_at S w) (read_seen S b H j) (turn_count S.shape)
+
+-- the same with each read's reply behind it
+abbrev pub exchange : Script → WordBook → History → ℕ → List (List ℕ)
+exchange S b H j =
+    let w = words_of S.shape b in
+    frames_before S.shape H (write_at S w) (read_answered S b H j) (turn_count S.shape)
+
+-- frames one behind the other
+abbrev pub bytes_of : List (List ℕ) → List ℕ
+bytes_of frames = flat_map (λ f. f) frames

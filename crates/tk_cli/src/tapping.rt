@@ -1,0 +1,53 @@
+ghost use Rattle.std.specs.Prelude.{◌≡◌, ◌≢◌, ◌≤◌, ℕ, [], List, length, OnOk, OnErr};
+ghost use Rattle.tk_io.specs.Content.{Rose, gained};
+ghost use Rattle.tk_shape.specs.declared.shape.Shape.{Shape};
+ghost use Rattle.tk_frames.specs.Order.{Record};
+ghost use Rattle.tk_cli.specs.Servers.{IsServer, AreServers, nothing_seen};
+ghost use Rattle.tk_cli.specs.Tapped.{GainsFront, TapsGain, TapsGainFronts, TapsKeepBut};
+
+use crate::server::Server;
+use tk_io::{Failed, Taps};
+
+/// Gives what each server saw to its tap, in one call a server; then nothing is seen that isn't given.
+pub(crate) fn give_all<T: Taps>(servers: &mut [Server], taps: &mut T) -> Result<(), Failed>
+    requires { length servers.old ≤ 8 }
+    ensures servers { (shape : Shape) (R shown : List Record) (seen : ℕ → List ℕ)
+        → AreServers shape R shown seen servers.old
+        → OnOk result (AreServers shape R shown nothing_seen servers.new) }
+    ensures ok { (shape : Shape) (R shown : List Record) (seen : ℕ → List ℕ)
+        → AreServers shape R shown seen servers.old
+        → OnOk result (TapsGain shape.servers seen (T.tap taps.old) (T.tap taps.new)) }
+    ensures err { (shape : Shape) (R shown : List Record) (seen : ℕ → List ℕ)
+        → AreServers shape R shown seen servers.old
+        → OnErr result (TapsGainFronts shape.servers seen (T.tap taps.old) (T.tap taps.new)) }
+    ensures others { TapsKeepBut (length servers.old) (T.tap taps.old) (T.tap taps.new) }
+    ensures rose { OnErr result (Rose (T.faults taps.old) (T.faults taps.new)) }
+    ensures counts { T.faults taps.old ≤ T.faults taps.new }
+{
+    'giving: for (i, server) in servers.iter_mut().enumerate() {
+        let Ok(()) = give(server, i as u32 + 1, taps) else {
+            return Err(Failed);
+        };
+    }
+    Ok(())
+}
+
+/// Gives what a server saw to the tap of its number.
+fn give<T: Taps>(server: &mut Server, number: u32, taps: &mut T) -> Result<(), Failed>
+    requires low { 1 ≤ number }
+    requires high { number ≤ 8 }
+    ensures server { (shape : Shape) (R shown : List Record) (bytes : List ℕ)
+        → IsServer shape R shown bytes server.old
+        → OnOk result (IsServer shape R shown [] server.new) }
+    ensures ok { let seen = server.old.seen.items in
+        OnOk result (T.tap taps.new number ≡ gained (T.tap taps.old number) seen) }
+    ensures err { let seen = server.old.seen.items in
+        OnErr result (GainsFront (T.tap taps.old number) (T.tap taps.new number) seen) }
+    ensures others { (j : ℕ) → j ≢ number → T.tap taps.new j ≡ T.tap taps.old j }
+    ensures rose { OnErr result (Rose (T.faults taps.old) (T.faults taps.new)) }
+    ensures counts { T.faults taps.old ≤ T.faults taps.new }
+{
+    taps.put(number, server.seen.as_slice())?;
+    server.seen.clear();
+    Ok(())
+}
