@@ -35,10 +35,10 @@ pub fn talek<R: Threads + Wait + Sync, S: Source, K: Sink, T: Taps, G: Gate>(
         Reports (S.left source.old) (S.left source.new) (K.held sink.old) (K.held sink.new)
         (T.tap taps.old) (T.tap taps.new) }
     ensures write { result ≡ Status.Write →
-        ReportsFront (S.left source.old) (S.left source.new) (K.held sink.old) (K.held sink.new)
-        (T.tap taps.old) (T.tap taps.new)
+        (ReportsFront (S.left source.old) (S.left source.new) (K.held sink.old) (K.held sink.new)
+        (T.tap taps.old) (T.tap taps.new) × Rose (K.faults sink.old) (K.faults sink.new))
         ⊎ (TapsFronts (S.left source.old) (S.left source.new) (T.tap taps.old) (T.tap taps.new)
-        × (K.held sink.new ≡ K.held sink.old)) }
+        × (K.held sink.new ≡ K.held sink.old) × Rose (T.faults taps.old) (T.faults taps.new)) }
     ensures memory { result ≡ Status.Memory →
         TapsFronts (S.left source.old) (S.left source.new) (T.tap taps.old) (T.tap taps.new)
         ⊎ TapsKeep (T.tap taps.old) (T.tap taps.new) }
@@ -52,8 +52,6 @@ pub fn talek<R: Threads + Wait + Sync, S: Source, K: Sink, T: Taps, G: Gate>(
     ensures taken { let too_long = result ≡ Status.TooLong in (taken : List ℕ)
         × TakesUpTo INPUT_LIMIT (S.left source.old) (S.left source.new) too_long taken }
     ensures source_faults { S.faults source.old ≤ S.faults source.new }
-    ensures write_fault { result ≡ Status.Write → Rose (K.faults sink.old) (K.faults sink.new)
-        ⊎ Rose (T.faults taps.old) (T.faults taps.new) }
     ensures quiet { result ≢ Status.Done → result ≢ Status.Write → K.held sink.new ≡ K.held sink.old }
     ensures quiet_taps { result ≢ Status.Done → result ≢ Status.Write → result ≢ Status.Memory
         → TapsKeep (T.tap taps.old) (T.tap taps.new) }
@@ -78,10 +76,10 @@ fn run_serial<S: Source, K: Sink, T: Taps>(
         Reports (S.left source.old) (S.left source.new) (K.held sink.old) (K.held sink.new)
         (T.tap taps.old) (T.tap taps.new) }
     ensures write { result ≡ Status.Write →
-        ReportsFront (S.left source.old) (S.left source.new) (K.held sink.old) (K.held sink.new)
-        (T.tap taps.old) (T.tap taps.new)
+        (ReportsFront (S.left source.old) (S.left source.new) (K.held sink.old) (K.held sink.new)
+        (T.tap taps.old) (T.tap taps.new) × Rose (K.faults sink.old) (K.faults sink.new))
         ⊎ (TapsFronts (S.left source.old) (S.left source.new) (T.tap taps.old) (T.tap taps.new)
-        × (K.held sink.new ≡ K.held sink.old)) }
+        × (K.held sink.new ≡ K.held sink.old) × Rose (T.faults taps.old) (T.faults taps.new)) }
     ensures memory { result ≡ Status.Memory →
         TapsFronts (S.left source.old) (S.left source.new) (T.tap taps.old) (T.tap taps.new)
         ⊎ TapsKeep (T.tap taps.old) (T.tap taps.new) }
@@ -93,8 +91,6 @@ fn run_serial<S: Source, K: Sink, T: Taps>(
     ensures taken { let too_long = result ≡ Status.TooLong in (taken : List ℕ)
         × TakesUpTo INPUT_LIMIT (S.left source.old) (S.left source.new) too_long taken }
     ensures source_faults { S.faults source.old ≤ S.faults source.new }
-    ensures write_fault { result ≡ Status.Write → Rose (K.faults sink.old) (K.faults sink.new)
-        ⊎ Rose (T.faults taps.old) (T.faults taps.new) }
     ensures quiet { result ≢ Status.Done → result ≢ Status.Write → K.held sink.new ≡ K.held sink.old }
     ensures quiet_taps { result ≢ Status.Done → result ≢ Status.Write → result ≢ Status.Memory
         → TapsKeep (T.tap taps.old) (T.tap taps.new) }
