@@ -1,6 +1,7 @@
 pub mod Sendable
 pub mod StatusLines
 pub mod Requests
+pub mod Handles
 pub mod Followed
 pub mod Outboxes
 pub mod Orders

@@ -1,7 +1,6 @@
 -- What the words ask for.
-use Rattle.std.specs.Prelude.{◌≡◌, ℕ, ◌<◌, ◌^◌, ◌⊎◌, List, [], ◌∷◌, length, codes, decimal, IsTrue}
-use Rattle.std.specs.List.{list_all}
-use Rattle.hex.specs.Hex.{is_hex_digit}
+use Rattle.std.specs.Prelude.{◌≡◌, ℕ, ◌<◌, ◌^◌, ◌⊎◌, List, [], ◌∷◌, length, codes, decimal, Ok}
+use Rattle.hex.specs.Hex.{decode_of}
 
 abbrev pub Words : Type 0
 Words = List (List ℕ)
@@ -15,18 +14,28 @@ AsksSerial _ = ⊥
 abbrev pub IsDecimalBelow : ℕ → List ℕ → Type 0
 IsDecimalBelow limit text = (n : ℕ) × (n < limit) × (text ≡ decimal n)
 
--- 64 hexadecimal digits
-abbrev pub IsRoot : List ℕ → Type 0
-IsRoot text = (length text ≡ 64) × IsTrue (list_all is_hex_digit text)
+-- 64 hexadecimal digits, in either case, for the 32 bytes of a root
+abbrev pub SpellsRoot : List ℕ → List ℕ → Type 0
+SpellsRoot digits root = (length digits ≡ 64) × (decode_of digits ≡ Ok root)
 
--- A form that isn't built yet: a run with threads; a server's view or a mirrored tape, with a number of 32 bits; a log's
--- handle, with an id of 64 bits and a root.
+-- the handle of a log: an id of 64 bits in plain decimal, and a root
+abbrev pub AsksHandle : Words → (id : ℕ) → (root : List ℕ) → Type 0
+AsksHandle (word ∷ number ∷ digits ∷ []) id root =
+    (word ≡ codes "handle") × ((id < 2 ^ 64) × (number ≡ decimal id)) × SpellsRoot digits root
+AsksHandle _ id root = ⊥
+
+-- the handle of some log
+abbrev pub AsksSomeHandle : Words → Type 0
+AsksSomeHandle words = (id : ℕ) × (root : List ℕ) × AsksHandle words id root
+
+-- A form that isn't built yet: a run with threads; a server's view or a mirrored tape, with a
+-- number of 32 bits.
 abbrev pub AsksLater : Words → Type 0
 AsksLater (word ∷ []) = word ≡ codes "run"
-AsksLater (word ∷ number ∷ []) = ((word ≡ codes "view") ⊎ (word ≡ codes "mirror")) × IsDecimalBelow (2 ^ 32) number
-AsksLater (word ∷ id ∷ root ∷ []) = (word ≡ codes "handle") × IsDecimalBelow (2 ^ 64) id × IsRoot root
+AsksLater (word ∷ number ∷ []) =
+    ((word ≡ codes "view") ⊎ (word ≡ codes "mirror")) × IsDecimalBelow (2 ^ 32) number
 AsksLater _ = ⊥
 
 -- none of the forms
 abbrev pub AsksNothing : Words → Type 0
-AsksNothing words = ¬ (AsksSerial words ⊎ AsksLater words)
+AsksNothing words = ¬ (AsksSerial words ⊎ AsksSomeHandle words ⊎ AsksLater words)

@@ -5,6 +5,7 @@ mod asking;
 mod entries;
 mod follow;
 mod got;
+mod handle_word;
 mod history_text;
 mod joining;
 mod log_text;

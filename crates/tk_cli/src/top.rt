@@ -1,10 +1,12 @@
 ghost use Rattle.std.specs.Prelude.{◌≡◌, ◌≢◌, ◌≤◌, ◌↔◌, ◌⊎◌, ℕ, List, IfOk, IfErr, IfSome, IfNone};
 ghost use Rattle.tk_io.specs.Content.{Rose, TakesUpTo};
-ghost use Rattle.tk_cli.specs.Requests.{AsksLater, AsksNothing};
+ghost use Rattle.tk_cli.specs.Handles.{Puts, handle_text};
+ghost use Rattle.tk_cli.specs.Requests.{AsksHandle, AsksLater, AsksNothing, AsksSerial, AsksSomeHandle};
 ghost use Rattle.tk_cli.specs.Serial.{RunsTo, RunsInto, SpellNothing};
 ghost use Rattle.tk_cli.specs.Serial.{Reports, ReportsFront, TapsFronts, Refuses};
 ghost use Rattle.tk_cli.specs.Tapped.{TapsKeep};
 
+use crate::handle_word::run_handle;
 use crate::request::{Request, request_of};
 use crate::run_error::RunError;
 use crate::serial::serial;
@@ -20,8 +22,8 @@ use tk_words::{DrawnDraws, Tape};
 /// The most bytes of an input.
 pub const INPUT_LIMIT: usize = 8388608;
 
-/// Does what the words ask for: reads the whole input from the source, gives the taps what each server sees, and then
-/// writes the whole output to the sink at once. The gate is not used yet.
+/// Does what the words ask for. A serial run reads the whole input from the source, gives the taps what each server
+/// sees, and then writes the whole output to the sink at once. The gate is not used yet.
 pub fn talek<R: Threads + Wait + Sync, S: Source, K: Sink, T: Taps, G: Gate>(
     _rt: &R,
     alloc: Global,
@@ -31,10 +33,10 @@ pub fn talek<R: Threads + Wait + Sync, S: Source, K: Sink, T: Taps, G: Gate>(
     taps: &mut T,
     _gate: &G,
 ) -> Status
-    ensures done { result ≡ Status.Done →
+    ensures done { AsksSerial words.now → result ≡ Status.Done →
         Reports (S.left source.old) (S.left source.new) (K.held sink.old) (K.held sink.new)
         (T.tap taps.old) (T.tap taps.new) }
-    ensures write { result ≡ Status.Write →
+    ensures write { AsksSerial words.now → result ≡ Status.Write →
         (ReportsFront (S.left source.old) (S.left source.new) (K.held sink.old) (K.held sink.new)
         (T.tap taps.old) (T.tap taps.new) × Rose (K.faults sink.old) (K.faults sink.new))
         ⊎ (TapsFronts (S.left source.old) (S.left source.new) (T.tap taps.old) (T.tap taps.new)
@@ -42,12 +44,17 @@ pub fn talek<R: Threads + Wait + Sync, S: Source, K: Sink, T: Taps, G: Gate>(
     ensures memory { result ≡ Status.Memory →
         TapsFronts (S.left source.old) (S.left source.new) (T.tap taps.old) (T.tap taps.new)
         ⊎ TapsKeep (T.tap taps.old) (T.tap taps.new) }
+    ensures handle { (id : ℕ) (root : List ℕ) → AsksHandle words.now id root →
+        Puts result (handle_text id root) (K.held sink.old) (K.held sink.new)
+        (K.faults sink.old) (K.faults sink.new) }
     ensures usage { (result ≡ Status.Usage) ↔ AsksNothing words.now }
     ensures later { (result ≡ Status.Later 0) ↔ AsksLater words.now }
     ensures refused { (line : ℕ) → result ≡ Status.Later line → line ≢ 0 →
         (line ≡ 1) × Refuses (S.left source.old) (S.left source.new) }
-    ensures unread { AsksNothing words.now ⊎ AsksLater words.now →
+    ensures unread { AsksNothing words.now ⊎ AsksLater words.now ⊎ AsksSomeHandle words.now →
         S.left source.new ≡ S.left source.old }
+    ensures untapped { AsksNothing words.now ⊎ AsksLater words.now ⊎ AsksSomeHandle words.now →
+        TapsKeep (T.tap taps.old) (T.tap taps.new) }
     ensures read { result ≡ Status.Read → Rose (S.faults source.old) (S.faults source.new) }
     ensures taken { let too_long = result ≡ Status.TooLong in (taken : List ℕ)
         × TakesUpTo INPUT_LIMIT (S.left source.old) (S.left source.new) too_long taken }
@@ -60,6 +67,7 @@ pub fn talek<R: Threads + Wait + Sync, S: Source, K: Sink, T: Taps, G: Gate>(
 {
     match request_of(words) {
         Request::Serial => run_serial(alloc, source, sink, taps),
+        Request::Handle { id, root } => run_handle(alloc, id, &root, sink),
         Request::Later => Status::Later { line: 0 },
         Request::Nothing => Status::Usage,
     }
