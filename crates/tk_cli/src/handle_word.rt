@@ -9,12 +9,7 @@ use tk_io::{Sink, put_all};
 use tk_shape::Memory;
 
 /// Writes the line of a handle to a sink.
-pub(crate) fn run_handle<K: Sink>(
-    alloc: Global,
-    id: u64,
-    root: &[u8; 32],
-    sink: &mut K,
-) -> Status
+pub(crate) fn run_handle<K: Sink>(alloc: Global, id: u64, root: &[u8; 32], sink: &mut K) -> Status
     ensures puts { Puts result (handle_text id root.now) (K.held sink.old) (K.held sink.new)
         (K.faults sink.old) (K.faults sink.new) }
     ensures usage { result ≢ Status.Usage }
