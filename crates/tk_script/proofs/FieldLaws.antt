@@ -55,6 +55,11 @@ field_is text field rest n behind whole lacks end small last e =
 abbrev pub IsWord : ℕ → Type 0
 IsWord n = n < 2 ^ 32
 
+pub words-push : (ns : List ℕ) (n : ℕ) → AllByRecursion IsWord ns → IsWord n →
+    AllByRecursion IsWord (ns ++ n ∷ [])
+words-push [] n words small = (small, tt)
+words-push (m ∷ ns) n words small = (words.0, words-push ns n words.1 small)
+
 -- numbers, with one space in front of each
 abbrev pub spaced : List ℕ → List ℕ
 spaced [] = []

@@ -11,3 +11,18 @@ pub mod OptionLaws
 pub mod PieceLaws
 pub mod ScriptLaws
 pub mod SpellingLaws
+pub mod CountedLaws
+pub mod KeyLaws
+pub mod PartLaws
+pub mod CauseLaws
+pub mod HexLaws
+pub mod TapeLineLaws
+pub mod SaidLaws
+pub mod PlaceLaws
+pub mod AnswerLaws
+pub mod SectionLaws
+mod Refused
+pub mod TextOfLaws
+pub mod FeedLaws
+pub mod PiecesLaws
+pub mod PrintedLaws

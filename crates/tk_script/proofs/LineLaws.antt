@@ -2,11 +2,12 @@
 use Rattle.std.proofs.Common.{◌≡◌, ◌≢◌, ℕ, zero, suc, ◌+◌, ◌<◌, List, [], ◌∷◌, length, take, drop, get_or, Bool, true, false, cond, refl, ap, ◌∙◌, arith, eqb, eq-eqb, ne_eqb}
 use Rattle.tk_script.specs.Grammar.{Line, lines_of, onto_first}
 
-lines_of-feed : (b : ℕ) (bs : List ℕ) → b ≡ 0x0A → lines_of (b ∷ bs) ≡ [] ∷ lines_of bs
+pub lines_of-feed : (b : ℕ) (bs : List ℕ) → b ≡ 0x0A → lines_of (b ∷ bs) ≡ [] ∷ lines_of bs
 unfolding lines_of
 lines_of-feed b bs feed = rw (eq-eqb b 0x0A feed) refl
 
-lines_of-other : (b : ℕ) (bs : List ℕ) → b ≢ 0x0A → lines_of (b ∷ bs) ≡ onto_first b (lines_of bs)
+pub lines_of-other : (b : ℕ) (bs : List ℕ) → b ≢ 0x0A →
+    lines_of (b ∷ bs) ≡ onto_first b (lines_of bs)
 unfolding lines_of
 lines_of-other b bs other = rw (ne_eqb b 0x0A other) refl
 

@@ -1,12 +1,14 @@
 -- The lines of the texts.
-use Rattle.std.proofs.Common.{◌≡◌, ◌≢◌, ℕ, ◌+◌, ◌<◌, ◌≤◌, ◌^◌, List, [], ◌∷◌, ◌++◌, map, IsTrue, codes, decimal, true, Bool, refl, ap, sym, subst, ◌∙◌, arith}
+use Rattle.std.proofs.Common.{◌≡◌, ◌≢◌, ℕ, ◌+◌, ◌<◌, ◌≤◌, ◌^◌, List, [], ◌∷◌, ◌++◌, map, IsTrue, codes, decimal, refl, ap, sym, ◌∙◌, arith}
 use Rattle.std.specs.List.{list_all}
 use Rattle.tk_shape.specs.declared.shape.Shape.{Shape}
 use Rattle.tk_script.specs.declared.say.Say.{Say}
 use Rattle.tk_script.specs.Grammar.{Line, say_line}
 use Rattle.tk_script.specs.SoundScript.{is_say, are_in_order}
 use Rattle.tk_script.proofs.SoundLaws.{are_in_order-front, parts}
+use Rattle.tk_script.specs.Reading.{When, is_by, last_when}
 use Rattle.tk_script.proofs.FieldLaws.{one_number}
+use Rattle.tk_script.proofs.SaidLaws.{in_order_push}
 use Rattle.std.specs.Prelude.{nat_le, nat_lt, length}
 use Rattle.std.proofs.lemmas.Bool.Decides.{nat_tests}
 use Rattle.std.proofs.lemmas.List.{append_cancel_left}
@@ -54,7 +56,7 @@ say_words shape say sound =
     strictly : (n m k : ℕ) → IsTrue (nat_lt n m) → m ≤ k → k < 2 ^ 32 → n < 2 ^ 32
     strictly n m k low high small = grind (arith, nat_tests)
 
-same_say : (x y : Say) → x.phase ≡ y.phase → x.tick ≡ y.tick → x.log ≡ y.log → x.text ≡ y.text →
+pub same_say : (x y : Say) → x.phase ≡ y.phase → x.tick ≡ y.tick → x.log ≡ y.log → x.text ≡ y.text →
     x ≡ y
 same_say x y p t g w = λ i. record { phase = p i; tick = t i; log = g i; text = w i }
 
@@ -142,20 +144,24 @@ module _ (shape : Shape) (text : List Line) (says : List Say) (rest : List Line)
   pub says-front : (text ≡ map say_line says ++ rest) × IsTrue (list_all (is_say shape) says)
   says-front = Reads-front say_line (is_say shape) IsEnded text says rest r
 
--- a text that may not come next is in no list in order
-pub refused : (seen says : List Say) (say y : Say) (others : List Say) (b : Bool) → seen ≡ says →
-    IsTrue (are_in_order says) →
-    (IsTrue (are_in_order seen) → b ≡ are_in_order (seen ++ say ∷ [])) → say ≡ y →
-    IsTrue (are_in_order (says ++ y ∷ others)) → b ≡ true
-refused seen says say y others b same ordered test one later =
-    test (subst (λ s. IsTrue (are_in_order s)) (sym same) ordered)
-    ∙ ap (λ s. are_in_order (s ++ say ∷ [])) same
-    ∙ ap (λ k. are_in_order (says ++ k ∷ [])) one ∙ are_in_order-front says y others later
+-- a text in a list in order is said no earlier than those in front of it
+pub comes_by : (says : List Say) (y : Say) (others : List Say) → IsTrue (are_in_order says) →
+    IsTrue (are_in_order (says ++ y ∷ others)) →
+    IsTrue (is_by (last_when says) (y.phase, y.tick))
+comes_by says y others ordered later =
+    in_order_push says y ordered ∙ are_in_order-front says y others later
 
-pub accepted : (seen says : List Say) (say : Say) (b : Bool) → seen ≡ says →
-    IsTrue (are_in_order says) →
-    (IsTrue (are_in_order seen) → b ≡ are_in_order (seen ++ say ∷ [])) → b ≡ true →
-    IsTrue (are_in_order (says ++ say ∷ []))
-accepted seen says say b same ordered test may =
-    ap (λ s. are_in_order (s ++ say ∷ [])) (sym same)
-    ∙ sym (test (subst (λ s. IsTrue (are_in_order s)) (sym same) ordered)) ∙ may
+-- one that is said no earlier than the last may come behind
+pub accepted : (seen says : List Say) (say : Say) (last : When) → seen ≡ says →
+    last ≡ last_when seen → IsTrue (are_in_order says) →
+    IsTrue (is_by last (say.phase, say.tick)) → IsTrue (are_in_order (says ++ say ∷ []))
+accepted seen says say last same e ordered by =
+    sym (in_order_push says say ordered)
+    ∙ ap (λ w. is_by w (say.phase, say.tick)) (sym (e ∙ ap last_when same)) ∙ by
+
+-- the text that is added is the last
+pub last_when-push : (says : List Say) (say : Say) →
+    last_when (says ++ say ∷ []) ≡ (say.phase, say.tick)
+last_when-push [] say = refl
+last_when-push (y ∷ []) say = refl
+last_when-push (y ∷ z ∷ says) say = last_when-push (z ∷ says) say

@@ -1,6 +1,6 @@
--- The lines of a drawn script and of its tape.
-use Rattle.std.proofs.Common.{◌≡◌, ℕ, ◌-◌, ◌≤◌, ◌^◌, List, [], ◌∷◌, ◌++◌, length, take, min, map, codes, Option, Some, None, ap, sym, ◌∙◌, subst, arith, append_assoc}
-use Rattle.std.specs.Prelude.{IsSomeAnd, IsTrue, nat_le}
+-- The lines of a script and of its tape.
+use Rattle.std.proofs.Common.{◌≡◌, ℕ, ◌≤◌, List, [], ◌∷◌, ◌++◌, map, codes, Bool, true, false, Option, Some, None, Result, Ok, Err, refl, ap, sym, ◌∙◌, subst, arith, append_assoc}
+use Rattle.std.specs.Prelude.{IsTrue, nat_le, is_some, IfOk}
 use Rattle.std.proofs.lemmas.Bool.Decides.{nat_tests}
 use Rattle.std.proofs.Math.Nat.{ℕ_set}
 use Rattle.std.proofs.Math.Bool.{Bool-set}
@@ -11,9 +11,11 @@ use Rattle.tk_script.specs.declared.script.Script.{Script}
 use Rattle.tk_script.specs.declared.keys.Keys.{Keys}
 use Rattle.tk_script.specs.declared.input.RawTape.{RawTape}
 use Rattle.tk_script.specs.declared.input.Input.{Input}
-use Rattle.tk_script.specs.Grammar.{Line, shape_line, kind_line, role_line, say_line, SpellsKeys, BeginsWithScript, BeginsWithTape, TapeFor}
+use Rattle.tk_script.specs.declared.error.ScriptError.{ScriptError}
+use Rattle.tk_script.specs.Built.{IsBuiltShape}
+use Rattle.tk_script.specs.Grammar.{Line, shape_line, kind_line, role_line, say_line, lines_of, SpellsKeys, BeginsWithScript, TapeFor, Spells, kept_of}
+use Rattle.tk_script.specs.KeyLines.{kind_words, MayBeOfKind}
 use Rattle.tk_script.specs.SoundScript.{IsScript, tape_fits}
-use Rattle.tk_script.specs.Built.{IsBuiltShape, IsBuiltScript}
 
 -- a script's parts make it
 pub same_script : (S T : Script) → S.shape ≡ T.shape → S.keys ≡ T.keys → S.roles ≡ T.roles →
@@ -33,77 +35,125 @@ same_tape s t b g = λ i. record { bytes = b i; got = g i }
 pub same_input : (x y : Input) → x.first ≡ y.first → x.tape ≡ y.tape → x ≡ y
 same_input x y s t = λ i. record { first = s i; tape = t i }
 
--- what stands behind the first three lines of a drawn script
-abbrev pub behind_head : Script → List Line → List Line
-behind_head S rest = map role_line S.roles ++ (map say_line S.says ++ codes "end" ∷ rest)
+-- what stands behind the first three lines of a script
+abbrev pub behind_head : Script → List Line → List Line → List Line
+behind_head S key_lines rest =
+    map role_line S.roles ++ (key_lines ++ (map say_line S.says ++ codes "end" ∷ rest))
 
 -- four lists, joined from their end
 pub from_end : {A : Type 0} (a b c d : List A) → a ++ b ++ c ++ d ≡ a ++ (b ++ (c ++ d))
 from_end a b c d = append_assoc (a ++ b) c d ∙ append_assoc a b (c ++ d)
 
-pub drawn_lines : (lines : List Line) (S : Script) (rest : List Line) →
-    BeginsWithScript lines S rest → S.keys ≡ None →
-    lines ≡ codes "talek 1" ∷ shape_line S.shape ∷ codes "drawn" ∷ behind_head S rest
-drawn_lines lines S rest s drawn =
-    let none = subst (SpellsKeys s.key_lines) drawn s.keys in
-    let roles = map role_line S.roles in
-    let others = map say_line S.says ++ codes "end" ∷ rest in
+kind_is : (keys : Option Keys) → kind_line keys ≡ kind_words (is_some keys)
+kind_is None = refl
+kind_is (Some keys) = refl
+
+-- the lines of a script, one after the other
+pub script_lines : (lines : List Line) (S : Script) (rest : List Line)
+    (s : BeginsWithScript lines S rest) →
+    lines ≡ codes "talek 1" ∷ shape_line S.shape ∷ kind_words (is_some S.keys)
+    ∷ behind_head S s.key_lines rest
+script_lines lines S rest s =
     s.whole
-    ∙ ap (λ k. codes "talek 1" ∷ shape_line S.shape ∷ kind_line
-    k ∷ (roles ++ s.key_lines ++ map say_line S.says ++ codes "end" ∷ rest)) drawn
-    ∙ ap (λ t. codes "talek 1" ∷ shape_line S.shape ∷ codes "drawn" ∷ t)
-    (from_end roles s.key_lines (map say_line S.says) (codes "end" ∷ rest)
-    ∙ ap (λ ks. roles ++ (ks ++ others)) none)
+    ∙ ap (λ k. codes "talek 1" ∷ shape_line S.shape ∷ k
+    ∷ (map role_line S.roles ++ s.key_lines ++ map say_line S.says ++ codes "end" ∷ rest))
+    (kind_is S.keys)
+    ∙ ap (λ t. codes "talek 1" ∷ shape_line S.shape ∷ kind_words (is_some S.keys) ∷ t)
+    (from_end (map role_line S.roles) s.key_lines (map say_line S.says) (codes "end" ∷ rest))
+
+-- lines that are a script's are read so
+pub script_begins : (lines : List Line) (S : Script) (key_lines rest : List Line) →
+    SpellsKeys key_lines S.keys →
+    lines ≡ codes "talek 1" ∷ shape_line S.shape ∷ kind_words (is_some S.keys)
+    ∷ behind_head S key_lines rest →
+    BeginsWithScript lines S rest
+script_begins lines S key_lines rest spelled whole = record {
+  key_lines = key_lines;
+  keys = spelled;
+  whole = whole
+      ∙ ap (λ t. codes "talek 1" ∷ shape_line S.shape ∷ kind_words (is_some S.keys) ∷ t)
+      (sym (from_end (map role_line S.roles) key_lines (map say_line S.says) (codes "end" ∷ rest)))
+      ∙ ap (λ k. codes "talek 1" ∷ shape_line S.shape ∷ k
+      ∷ (map role_line S.roles ++ key_lines ++ map say_line S.says ++ codes "end" ∷ rest))
+      (sym (kind_is S.keys));
+}
 
 le_of : (a b : ℕ) → IsTrue (nat_le a b) → a ≤ b
 le_of a b h = grind (arith, nat_tests)
 
-pub built_shape : (S : Script) → IsBuiltScript S → IsBuiltShape S.shape
-built_shape S b = record {
-  one_bucket = b.one_bucket;
-  not_ahead = b.not_ahead;
-  tape_short = le_of (tape_len S.shape) 2097152
-      (subst (λ k. IsTrue (tape_fits S.shape k)) b.drawn S.sound.tape_fits);
-}
+of_le : (a b : ℕ) → a ≤ b → IsTrue (nat_le a b)
+of_le a b h = grind (arith, nat_tests)
 
--- what is kept and counted of a tape
-abbrev pub raw_tape : Shape → List ℕ → RawTape
-raw_tape shape bytes = record { bytes = take (tape_len shape) bytes; got = length bytes }
+-- a script's tape is not too long for its kind
+pub may_be : (shape : Shape) (keys : Option Keys) → IsTrue (tape_fits shape keys) →
+    MayBeOfKind shape (is_some keys)
+may_be shape None fits = le_of (tape_len shape) 2097152 fits
+may_be shape (Some keys) fits = tt
 
--- the tape of a drawn script
+pub tape_fits_kind : (shape : Shape) (keys : Option Keys) (keyed : Bool) → is_some keys ≡ keyed →
+    MayBeOfKind shape keyed → IsTrue (tape_fits shape keys)
+tape_fits_kind shape None keyed kind may =
+    of_le (tape_len shape) 2097152 (subst (MayBeOfKind shape) (sym kind) may)
+tape_fits_kind shape (Some keys) keyed kind may = refl
+
+-- ---- the tape of an input
+
+-- a keyed script has none
+pub keyed_tape : (shape : Shape) (keys : Option Keys) (lines : List Line) (tape : Option RawTape) →
+    is_some keys ≡ true → TapeFor shape keys lines tape → (lines ≡ []) × (tape ≡ None)
+keyed_tape shape None lines tape keyed h = absurd (cc keyed)
+keyed_tape shape (Some keys) lines tape keyed h = h
+
+pub tape_of_keyed : (shape : Shape) (keys : Option Keys) (lines : List Line) →
+    is_some keys ≡ true → lines ≡ [] → TapeFor shape keys lines None
+tape_of_keyed shape None lines keyed none = absurd (cc keyed)
+tape_of_keyed shape (Some keys) lines keyed none = (none, refl)
+
+-- a drawn script has one
 pub record IsDrawnTape (shape : Shape) (lines : List Line) (tape : Option RawTape) : Type 0 where
-  pub bytes : List ℕ
-  pub begins : BeginsWithTape lines bytes []
-  pub whole : tape ≡ Some (raw_tape shape bytes)
-
-tape_by : (shape : Shape) (keys : Option Keys) (lines : List Line) (tape : Option RawTape) →
-    keys ≡ None → TapeFor shape keys lines tape →
-    TapeFor shape None lines tape
-tape_by shape keys lines tape drawn h = subst (λ k. TapeFor shape k lines tape) drawn h
+  pub value : RawTape
+  pub is : tape ≡ Some value
+  pub spelled : TapeFor shape None lines (Some value)
 
 pub drawn_tape : (shape : Shape) (keys : Option Keys) (lines : List Line) (tape : Option RawTape) →
-    keys ≡ None → TapeFor shape keys lines tape →
-    IsDrawnTape shape lines tape
-drawn_tape shape keys lines tape drawn h =
-    let t = tape_by shape keys lines tape drawn h in
-    record { bytes = t.0; begins = t.1; whole = t.2 }
+    is_some keys ≡ false → TapeFor shape keys lines tape → IsDrawnTape shape lines tape
+drawn_tape shape None lines tape drawn h = record {
+  value = kept_of shape h.0;
+  is = h.2;
+  spelled = (h.0, h.1, refl);
+}
+drawn_tape shape (Some keys) lines tape drawn h = absurd (cc drawn)
 
--- a tape of which nothing was cut off is the one that is spelled
-pub tape_found : (shape : Shape) (keys : Option Keys) (lines after : List Line) (tape : RawTape)
-    (bytes : List ℕ) → keys ≡ None →
-    BeginsWithTape lines bytes after → after ≡ [] → tape.bytes ≡ take (tape_len shape) bytes →
-    tape.got ≡ min (length bytes) (2 ^ 64 - 1) →
-    tape.got ≡ tape_len shape → tape_len shape ≤ 2097152 → TapeFor shape keys lines (Some tape)
-tape_found shape keys lines after tape bytes drawn begins last kept got want short =
-    let counted : tape.got ≡ length bytes = omega (arith, got, want, short) in
-    let whole = subst (BeginsWithTape lines bytes) last begins in
-    let found : TapeFor shape None lines (Some tape) =
-    (bytes, whole, ap Some (same_tape tape (raw_tape shape bytes) kept counted)) in
-    subst (λ k. TapeFor shape k lines (Some tape)) (sym drawn) found
+pub tape_of_drawn : (shape : Shape) (keys : Option Keys) (lines : List Line) (tape : RawTape) →
+    is_some keys ≡ false → TapeFor shape None lines (Some tape) →
+    TapeFor shape keys lines (Some tape)
+tape_of_drawn shape None lines tape drawn h = h
+tape_of_drawn shape (Some keys) lines tape drawn h = absurd (cc drawn)
 
--- a tape that is counted has as many bytes as it should
-pub tape_length : (shape : Shape) (tape : Option RawTape) (bytes : List ℕ) →
-    tape ≡ Some (raw_tape shape bytes) →
-    IsSomeAnd tape (λ t. t.got ≡ tape_len shape) → length bytes ≡ tape_len shape
-tape_length shape tape bytes whole counted = subst (λ t. IsSomeAnd t (λ x. x.got ≡ tape_len shape))
-    whole counted
+-- the input of a keyed script is spelled where nothing follows
+pub keyed_found : (r : Result Input ScriptError) (S : Script) (text : List ℕ) (rest : List Line) →
+    BeginsWithScript (lines_of text) S rest → is_some S.keys ≡ true →
+    IfOk r (λ input. (rest ≡ []) × (input ≡ record { first = S; tape = None })) →
+    IfOk r (λ input. Spells text input)
+keyed_found (Err e) S text rest begins keyed h = h
+keyed_found (Ok input) S text rest begins keyed h =
+    subst (Spells text) (sym h.1) (record {
+      rest = rest;
+      script = begins;
+      tape = tape_of_keyed S.shape S.keys rest keyed h.0;
+    })
+
+pub keyed_built : (r : Result Input ScriptError) (S : Script) (rest : List Line) →
+    IsBuiltShape S.shape →
+    IfOk r (λ input. (rest ≡ []) × (input ≡ record { first = S; tape = None })) →
+    IfOk r (λ input. IsBuiltShape input.first.shape)
+keyed_built (Err e) S rest built h = h
+keyed_built (Ok input) S rest built h =
+    subst (λ (i : Input). IsBuiltShape i.first.shape) (sym h.1) built
+
+-- what is known of a tape's text holds of the text that was read
+pub drawn_here : (y z : Shape) (ls ms : List Line) (tape : RawTape) → y ≡ z → ls ≡ ms →
+    TapeFor z None ms (Some tape) → TapeFor y None ls (Some tape)
+drawn_here y z ls ms tape shape lines h =
+    subst (λ s. TapeFor s None ls (Some tape)) (sym shape)
+    (subst (λ t. TapeFor z None t (Some tape)) (sym lines) h)

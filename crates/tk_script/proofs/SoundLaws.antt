@@ -1,6 +1,6 @@
 -- Tests on lists that grow at their end.
-use Rattle.std.proofs.Common.{◌≡◌, ℕ, suc, ◌-◌, ◌≤◌, List, [], ◌∷◌, ◌++◌, length, drop, get_or, Bool, true, false, ◌&&◌, IsTrue, Some, refl, ap, sym, ◌∙◌, arith}
-use Rattle.std.specs.Prelude.{slice_get, nat_lt}
+use Rattle.std.proofs.Common.{◌≡◌, ℕ, ◌≤◌, List, [], ◌∷◌, ◌++◌, length, drop, get_or, Bool, true, false, ◌&&◌, IsTrue, refl, ap, arith}
+use Rattle.std.specs.Prelude.{nat_lt}
 use Rattle.tk_script.specs.SoundScript.{is_ascending, is_said_by, are_in_order}
 use Rattle.tk_script.specs.declared.say.Say.{Say}
 
@@ -11,27 +11,6 @@ pub parts : (a b : Bool) → (a && b) ≡ true → (a ≡ true) × (b ≡ true)
 parts true true e = (refl, refl)
 parts true false e = absurd (cc e)
 parts false b e = absurd (cc e)
-
-some_inj : {X : Type 0} (x y : X) → Some x ≡ Some y → x ≡ y
-some_inj x y e = cc e
-
-and_true : (a : Bool) → (a && true) ≡ a
-and_true true = refl
-and_true false = refl
-
--- one more text behind the last
-pub are_in_order-push : (says : List Say) (last y : Say) →
-    slice_get says (length says - 1) ≡ Some last → IsTrue (are_in_order says) →
-    is_said_by last y ≡ are_in_order (says ++ y ∷ [])
-are_in_order-push [] last y at ordered = absurd (cc at)
-are_in_order-push (a ∷ []) last y at ordered =
-    ap (λ s. is_said_by s y) (sym (some_inj a last at)) ∙ sym (and_true (is_said_by a y))
-are_in_order-push (a ∷ b ∷ says) last y at ordered =
-    let split = parts (is_said_by a b) (are_in_order (b ∷ says)) ordered in
-    let shift : length (a ∷ b ∷ says) - 1 ≡ suc (length (b ∷ says) - 1) = omega arith in
-    let behind = ap (slice_get (a ∷ b ∷ says)) (sym shift) ∙ at in
-    are_in_order-push (b ∷ says) last y behind split.1
-    ∙ ap (λ t. t && are_in_order (b ∷ (says ++ y ∷ []))) (sym split.0)
 
 -- texts in order are so up to each of them
 pub are_in_order-front : (says : List Say) (y : Say) (more : List Say) →

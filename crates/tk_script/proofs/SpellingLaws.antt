@@ -1,5 +1,5 @@
 -- A text spells one input at most.
-use Rattle.std.proofs.Common.{◌≡◌, ℕ, List, [], ◌∷◌, ◌++◌, length, map, codes, decimal, take, replicate, append_assoc, IsTrue, Option, Some, None, Result, Ok, inl, inr, refl, ap, sym, ◌∙◌, subst, arith}
+use Rattle.std.proofs.Common.{◌≡◌, ℕ, List, [], ◌∷◌, ◌++◌, length, map, codes, decimal, replicate, append_assoc, IsTrue, Option, Some, None, Result, Ok, inl, inr, refl, ap, sym, ◌∙◌, subst, arith}
 use Rattle.std.specs.Prelude.{◌==◌}
 use Rattle.std.specs.List.{AllZip, AllByRecursion, list_all}
 use Rattle.std.specs.Int.{w64, to_be_bytes, from_be_bytes}
@@ -8,7 +8,6 @@ use Rattle.std.proofs.lemmas.Fmt.{decimal_injective}
 use Rattle.std.proofs.lemmas.Bool.Decides.{nat_tests}
 use Rattle.std.proofs.lemmas.Nat.{from_be_bytes-to_be_bytes_8}
 use Rattle.hex.specs.declared.error.FromHexError.{FromHexError}
-use Rattle.tk_shape.specs.Lengths.{tape_len}
 use Rattle.tk_script.proofs.SoundLaws.{parts}
 use Rattle.hex.specs.Hex.{decode_of}
 use Rattle.tk_shape.specs.declared.shape.Shape.{Shape}
@@ -18,7 +17,7 @@ use Rattle.tk_handle.specs.Handle.{handle_bytes}
 use Rattle.tk_script.specs.declared.script.Script.{Script}
 use Rattle.tk_script.specs.declared.keys.Keys.{Keys}
 use Rattle.tk_script.specs.declared.input.RawTape.{RawTape}
-use Rattle.tk_script.specs.Grammar.{Line, lines_of, shape_line, kind_line, role_line, say_line, SpellsBytes, SpellsPiece, SpellsKeys, worded, IsHandle, BeginsWithScript, TapeFor, EndsWithTape}
+use Rattle.tk_script.specs.Grammar.{Line, lines_of, shape_line, kind_line, role_line, say_line, SpellsBytes, SpellsPiece, SpellsKeys, worded, IsHandle, BeginsWithScript, TapeFor, EndsWithTape, kept_of}
 use Rattle.tk_script.specs.SoundScript.{is_role, is_say, has_keys}
 use Rattle.tk_script.specs.Laws.{SpellsOne}
 use Rattle.tk_script.proofs.FieldLaws.{fields_one}
@@ -104,7 +103,7 @@ tail : (x : ℕ) (a b : List ℕ) → x ∷ a ≡ x ∷ b → a ≡ b
 tail x a b e = cc e
 
 -- bytes behind a word
-one_worded : (word : List ℕ) → HasOne (λ line bytes. SpellsBytes line (word, bytes))
+pub one_worded : (word : List ℕ) → HasOne (λ line bytes. SpellsBytes line (word, bytes))
 one_worded word line x y p q =
     let same = append_cancel_left word (0x20 ∷ p.0) (0x20 ∷ q.0) (sym p.1 ∙ q.1) in
     spelled_one x y p.0 q.0 p.2 q.2 (tail 0x20 p.0 q.0 same)
@@ -147,7 +146,7 @@ same_handle : (g h : Handle) → g.id ≡ h.id → g.seed1 ≡ h.seed1 → g.see
     g ≡ h
 same_handle g h a b c d = λ i. record { id = a i; seed1 = b i; seed2 = c i; key = d i }
 
-one_handle : (g h : Handle) → IsHandle g → IsHandle h → handle_bytes g ≡ handle_bytes h → g ≡ h
+pub one_handle : (g h : Handle) → IsHandle g → IsHandle h → handle_bytes g ≡ handle_bytes h → g ≡ h
 one_handle g h p q e =
     let id = append_same (to_be_bytes w64 g.id) (to_be_bytes w64 h.id)
     (g.seed1 ++ (g.seed2 ++ g.key)) (h.seed1 ++ (h.seed2 ++ h.key)) refl
@@ -175,14 +174,14 @@ one_handles (g ∷ gs) (h ∷ hs) p q e =
     cons_both g h gs hs (one_handle g h p.0 q.0 split.0) (one_handles gs hs p.1 q.1 split.1)
 
 -- the lines of two kinds of items
-record Split (lines : List Line) (xs ys : List (List ℕ × List ℕ)) : Type 0 where
+pub record Split (lines : List Line) (xs ys : List (List ℕ × List ℕ)) : Type 0 where
   pub first : List Line
   pub second : List Line
   pub whole : lines ≡ first ++ second
   pub firsts : AllZip SpellsBytes first xs
   pub seconds : AllZip SpellsBytes second ys
 
-split_lines : (lines : List Line) (xs ys : List (List ℕ × List ℕ)) →
+pub split_lines : (lines : List Line) (xs ys : List (List ℕ × List ℕ)) →
     AllZip SpellsBytes lines (xs ++ ys) → Split lines xs ys
 split_lines lines [] ys each = record {
   first = [];
@@ -203,7 +202,7 @@ split_lines (l ∷ lines) (x ∷ xs) ys each =
       seconds = rest.seconds;
     }
 
-unworded : (word : List ℕ) (lines : List Line) (items : List (List ℕ)) →
+pub unworded : (word : List ℕ) (lines : List Line) (items : List (List ℕ)) →
     AllZip SpellsBytes lines (worded word items) →
     AllZip (λ line bytes. SpellsBytes line (word, bytes)) lines items
 unworded word [] [] each = tt
@@ -217,7 +216,7 @@ same_keys k l h s = λ i. record { handles = h i; seeds = s i }
 counted : (a b : ℕ) → IsTrue (a == b) → a ≡ b
 counted a b e = grind (arith, nat_tests)
 
-keys_counted : (shape : Shape) (k : Keys) → IsTrue (has_keys shape (Some k)) →
+pub keys_counted : (shape : Shape) (k : Keys) → IsTrue (has_keys shape (Some k)) →
     (length k.handles ≡ shape.logs) × (length k.seeds ≡ shape.clients)
 keys_counted shape k e =
     let both = parts (length k.handles == shape.logs) (length k.seeds == shape.clients) e in
@@ -326,10 +325,7 @@ one_tape shape None lines s t p q =
     (d.piece_lines ++ codes "end" ∷ []) (sym b.whole ∙ d.whole))
     in
     let bytes : p.0 ≡ q.0 = b.joined ∙ ap joined parts.0 ∙ sym d.joined in
-    p.2 ∙ ap (λ (x : List ℕ). Some (tape_of shape x)) bytes ∙ sym q.2
-  where
-    tape_of : Shape → List ℕ → RawTape
-    tape_of z x = record { bytes = take (tape_len z) x; got = length x }
+    p.2 ∙ ap (λ (x : List ℕ). Some (kept_of shape x)) bytes ∙ sym q.2
 
 pub one_spelled : SpellsOne
 one_spelled bytes x y s t =

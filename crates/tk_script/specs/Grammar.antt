@@ -1,6 +1,6 @@
 -- Which texts spell which inputs.
 -- A text is lines of fields with one space between; numbers are plain decimal, and hexadecimal digits are in either case.
-use Rattle.std.specs.Prelude.{◌≡◌, ℕ, ◌<◌, ◌≤◌, ◌^◌, ◌⊎◌, ◌==◌, cond, List, [], ◌∷◌, ◌++◌, length, map, take, replicate, codes, decimal, flat_map, Option, Some, None, Ok}
+use Rattle.std.specs.Prelude.{◌≡◌, ℕ, ◌<◌, ◌≤◌, ◌^◌, ◌-◌, min, ◌⊎◌, ◌==◌, cond, List, [], ◌∷◌, ◌++◌, length, map, take, replicate, codes, decimal, flat_map, Option, Some, None, Ok}
 use Rattle.std.specs.List.{join_with_byte, AllByRecursion, AllZip}
 use Rattle.hex.specs.Hex.{decode_of}
 use Rattle.tk_shape.specs.declared.shape.Shape.{Shape}
@@ -102,12 +102,16 @@ pub record BeginsWithTape (lines : List Line) (tape : List ℕ) (rest : List Lin
 
 -- ---- inputs
 
--- a drawn script's tape, of which no more is kept than the shape wants; a keyed script has none
+-- what is kept of a tape: no more bytes than the shape wants, and how many there were, as far as 64 bits count
+abbrev pub kept_of : Shape → List ℕ → RawTape
+kept_of shape bytes =
+    record { bytes = take (tape_len shape) bytes; got = min (length bytes) (2 ^ 64 - 1) }
+
+-- a drawn script's tape; a keyed script has none
 abbrev pub TapeFor : Shape → Option Keys → List Line → Option RawTape → Type 0
 TapeFor shape (Some keys) lines tape = (lines ≡ []) × (tape ≡ None)
 TapeFor shape None lines tape =
-    (bytes : List ℕ) × BeginsWithTape lines bytes []
-    × (tape ≡ Some (record { bytes = take (tape_len shape) bytes; got = length bytes }))
+    (bytes : List ℕ) × BeginsWithTape lines bytes [] × (tape ≡ Some (kept_of shape bytes))
 
 abbrev pub EndsWithTape : Script → List Line → Option RawTape → Type 0
 EndsWithTape S lines tape = TapeFor S.shape S.keys lines tape

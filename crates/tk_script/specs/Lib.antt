@@ -5,3 +5,9 @@ pub mod Fields
 pub mod Pieces
 pub mod Built
 pub mod Laws
+pub mod KeyLines
+pub mod Reading
+pub mod Answer
+pub mod Stands
+pub mod Printing
+pub mod PrintLaws

@@ -59,6 +59,7 @@ pub(crate) fn numbers_behind(
 ) -> Result<Option<Vec<u32>>, Memory>
     ensures found { IfOk result (λ o. IfSome o (λ ns.
         line.now ≡ fields (word.now ∷ map decimal ns.items))) }
+    ensures words { IfOk result (λ o. IfSome o (λ ns. AllByRecursion (λ n. n < 2 ^ 32) ns.items)) }
     ensures only { (ns : List ℕ) → AllByRecursion (λ n. n < 2 ^ 32) ns →
         line.now ≡ fields (word.now ∷ map decimal ns) →
         IfOk result (λ o. IsSomeAnd o (λ v. v.items ≡ ns)) }

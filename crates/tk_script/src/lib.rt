@@ -1,31 +1,52 @@
 //! The text that describes a group, its logs and what is said: a script and, where its words are drawn, their tape.
 #![tactic(auto)]
 
+mod cause;
+mod error;
 mod fields;
 mod input;
+mod key_lines;
+mod key_text;
 mod keys;
+mod kind_line;
 mod laws;
+mod line_text;
 mod lines;
 mod numbers;
 mod parsing;
 mod piece;
+mod place;
+mod print_laws;
+mod printing;
 mod role;
 mod role_lines;
+mod role_text;
+mod round_trip;
 mod say;
 mod say_lines;
+mod say_text;
 mod script;
 mod section;
 mod shape_line;
 mod tape;
+mod tape_text;
 
+pub use cause::Cause;
+pub use error::ScriptError;
 pub use input::{Input, RawTape};
 pub use keys::{ClientSeeds, Handles, Keys};
 pub use laws::one_input;
 pub use numbers::plain_number;
 pub use parsing::parse;
+pub use print_laws::printed_reads;
+pub use printing::print;
 pub use role::{Role, Roles};
+pub use round_trip::{parse_printed, parse_printed_with};
 pub use say::{Say, Says};
 pub use script::Script;
+pub use tape_text::print_tape;
 
+#[cfg(test)]
+mod print_tests;
 #[cfg(test)]
 mod tests;

@@ -31,20 +31,6 @@ pub(crate) fn next_line(text: &[u8]) -> Option<(&[u8], &[u8])>
     }
 }
 
-/// The text behind a first line that reads so.
-pub(crate) fn line_that_reads<'a>(text: &'a [u8], words: &[u8]) -> Option<&'a [u8]>
-    ensures found { IfSome result (λ rest. lines_of text.now ≡ words.now ∷ lines_of rest.now) }
-    ensures shorter { IfSome result (λ rest. length rest.now < length text.now) }
-    ensures only { (behind : List Line) → lines_of text.now ≡ words.now ∷ behind →
-        IsSomeAnd result (λ rest. lines_of rest.now ≡ behind) }
-{
-    let (line, rest) = next_line(text)?;
-    if line != words {
-        return None;
-    }
-    Some(rest)
-}
-
 /// Whether a line is the one that ends a section.
 pub(crate) fn is_end(line: &[u8]) -> bool
     ensures { IsTrue result ↔ (line.now ≡ codes "end") }

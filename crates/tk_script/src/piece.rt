@@ -1,8 +1,10 @@
-ghost use Rattle.std.specs.Prelude.{◌≡◌, ◌++◌, ◌∷◌, ℕ, List, [], ◌-◌, ◌<◌, ◌≤◌, ◌^◌, codes, decimal, length, take, replicate, Some, Ok, IfOk, IfSome, IsSomeAnd, OnOk};
+ghost use Rattle.std.specs.Prelude.{◌≡◌, ◌++◌, ◌∷◌, ℕ, List, [], ◌-◌, ◌<◌, ◌≤◌, ◌^◌, codes, decimal, length, take, replicate, Some, Ok, IfOk, IfSome, IsOkAnd, IsSomeAnd, OnOk};
 ghost use Rattle.hex.specs.Hex.{decode_of};
 ghost use Rattle.tk_script.specs.Grammar.{SpellsPiece};
 ghost use Rattle.tk_script.specs.Pieces.{piece_bytes};
+ghost use Rattle.tk_script.specs.Reading.{IsRead, parts_of, read_digits, read_fill, read_piece};
 
+use crate::Cause;
 use crate::fields::{next_number, rest_behind};
 use std::alloc::Global;
 use tk_shape::Memory;
@@ -63,60 +65,68 @@ fn append_repeats(byte: u8, count: usize, kept: &mut Vec<u8>) -> Result<(), Memo
 }
 
 /// The piece that a line spells: `x` and an even number of digits, or `fill`, two digits and a number.
-pub(crate) fn piece_of(alloc: Global, line: &[u8]) -> Result<Option<Piece>, Memory>
-    ensures found { IfOk result (λ o. IfSome o (λ piece.
+pub(crate) fn piece_of(alloc: Global, line: &[u8]) -> Result<Result<Piece, Cause>, Memory>
+    ensures found { IfOk result (λ r. IfOk r (λ piece.
         SpellsPiece line.now (piece_bytes piece))) }
     ensures only { (bytes : List ℕ) → SpellsPiece line.now bytes →
-        IfOk result (λ o. IsSomeAnd o (λ piece. piece_bytes piece ≡ bytes)) }
+        IfOk result (λ r. IsOkAnd r (λ piece. piece_bytes piece ≡ bytes)) }
+    ensures read { IfOk result (λ r. IsRead (λ piece. tt) r (read_piece line.now)) }
 {
     if let Some(digits) = rest_behind(line, b"x ") {
         return bytes_piece(alloc, digits);
     }
     let Some(rest) = rest_behind(line, b"fill ") else {
-        return Ok(None);
+        return Ok(Err(Cause::Form));
     };
     Ok(fill_piece(rest))
 }
 
 /// The piece that digits are: an even number of them, for 1 to 2,048 bytes.
-fn bytes_piece(alloc: Global, digits: &[u8]) -> Result<Option<Piece>, Memory>
-    ensures decoded { IfOk result (λ o. IfSome o (λ piece.
+fn bytes_piece(alloc: Global, digits: &[u8]) -> Result<Result<Piece, Cause>, Memory>
+    ensures decoded { IfOk result (λ r. IfOk r (λ piece.
         decode_of digits.now ≡ Ok (piece_bytes piece))) }
-    ensures low { IfOk result (λ o. IfSome o (λ piece. 1 ≤ length (piece_bytes piece))) }
-    ensures high { IfOk result (λ o. IfSome o (λ piece. length (piece_bytes piece) ≤ 2048)) }
+    ensures low { IfOk result (λ r. IfOk r (λ piece. 1 ≤ length (piece_bytes piece))) }
+    ensures high { IfOk result (λ r. IfOk r (λ piece. length (piece_bytes piece) ≤ 2048)) }
     ensures only { (bytes : List ℕ) → decode_of digits.now ≡ Ok bytes → 1 ≤ length bytes →
         length bytes ≤ 2048 →
-        IfOk result (λ o. IsSomeAnd o (λ piece. piece_bytes piece ≡ bytes)) }
+        IfOk result (λ r. IsOkAnd r (λ piece. piece_bytes piece ≡ bytes)) }
+    ensures read { IfOk result (λ r.
+        IsRead (λ piece. tt) r (read_digits (parts_of digits.now))) }
 {
     let count = digits.len() / 2;
     if count < 1 || count > MOST_BYTES {
-        return Ok(None);
+        return Ok(Err(Cause::Form));
     }
     let mut bytes = vec![in alloc; 0; count]?;
     match hex::decode_to_slice(digits, bytes.as_mut_slice()) {
-        Ok(()) => Ok(Some(Piece::Bytes(bytes))),
-        Err(_) => Ok(None),
+        Ok(()) => Ok(Ok(Piece::Bytes(bytes))),
+        Err(_) => Ok(Err(Cause::Form)),
     }
 }
 
 /// The piece of the two digits of a byte and, behind a space, how many times it is repeated: 1 to 2,097,152 times.
-fn fill_piece(text: &[u8]) -> Option<Piece>
-    ensures found { IfSome result (λ piece. (b : ℕ) × (digits : List ℕ) × (n : ℕ)
+fn fill_piece(text: &[u8]) -> Result<Piece, Cause>
+    ensures found { IfOk result (λ piece. (b : ℕ) × (digits : List ℕ) × (n : ℕ)
         × (text.now ≡ digits ++ 0x20 ∷ decimal n) × (decode_of digits ≡ Ok (b ∷ []))
         × (1 ≤ n) × (n ≤ 2097152) × (piece_bytes piece ≡ replicate n b)) }
     ensures only { (b n : ℕ) (digits : List ℕ) → text.now ≡ digits ++ 0x20 ∷ decimal n →
         decode_of digits ≡ Ok (b ∷ []) → 1 ≤ n → n ≤ 2097152 →
-        IsSomeAnd result (λ piece. piece_bytes piece ≡ replicate n b) }
+        IsOkAnd result (λ piece. piece_bytes piece ≡ replicate n b) }
+    ensures read { IsRead (λ piece. tt) result (read_fill (parts_of text.now)) }
 {
-    let (byte, rest) = byte_of(text)?;
-    let (count, behind) = next_number(rest)?;
+    let Some((byte, rest)) = byte_of(text) else {
+        return Err(Cause::Form);
+    };
+    let Some((count, behind)) = next_number(rest) else {
+        return Err(Cause::Form);
+    };
     if !behind.is_empty() {
-        return None;
+        return Err(Cause::Form);
     }
     if count < 1 || count > MOST_REPEATS {
-        return None;
+        return Err(Cause::Number { value: count });
     }
-    Some(Piece::Fill { byte, count })
+    Ok(Piece::Fill { byte, count })
 }
 
 /// The byte of the two digits at the front of a text, and what follows them.

@@ -1,88 +1,94 @@
-ghost use Rattle.std.specs.Prelude.{◌≡◌, ◌∷◌, ◌++◌, List, map, nat_lt, IsTrue, Some, IfOk, IfSome, IsSomeAnd, length};
+ghost use Rattle.std.specs.Prelude.{◌≡◌, ◌∷◌, ◌++◌, List, map, IsTrue, Some, Ok, IfOk, length};
 ghost use Rattle.std.specs.List.{list_all};
+ghost use Rattle.std.specs.Option.{option_copied};
+ghost use Rattle.tk_script.specs.Answer.{Gives, Tells};
 ghost use Rattle.tk_script.specs.Grammar.{Line, lines_of, role_line};
+ghost use Rattle.tk_script.specs.Reading.{IsRead, named, next_lines, read_clients, read_role, first_from};
 ghost use Rattle.tk_script.specs.SoundScript.{is_role, is_ascending};
+ghost use Rattle.tk_script.specs.Stands.{stands};
 
 use crate::fields::numbers_behind;
-use crate::lines::next_line;
-use crate::{Role, Roles};
+use crate::place::Place;
+use crate::{Cause, Role, Roles, ScriptError};
 use std::alloc::Global;
 use tk_shape::{Memory, Shape, Words};
 
-/// The roles of a shape's logs, a line for each, and the text behind them.
+/// The roles of a shape's logs, a line for each, and the place behind them.
 pub(crate) fn roles_of<'a>(
     alloc: Global,
     shape: &Shape,
-    text: &'a [u8],
-) -> Result<Option<(Roles, &'a [u8])>, Memory>
-    ensures found { IfOk result (λ o. IfSome o (λ x.
-        lines_of text.now ≡ map role_line x.0 ++ lines_of x.1.now)) }
-    ensures counted { IfOk result (λ o. IfSome o (λ x. length x.0 ≡ shape.now.logs)) }
-    ensures sound { IfOk result (λ o. IfSome o (λ x. IsTrue (list_all (is_role shape.now) x.0))) }
+    start: Place<'a>,
+) -> Result<(Roles, Place<'a>), ScriptError>
+    ensures found { IfOk result (λ x.
+        lines_of start.entry.rest.now ≡ map role_line x.0 ++ lines_of x.1.rest.now) }
+    ensures counted { IfOk result (λ x. length x.0 ≡ shape.now.logs) }
+    ensures sound { IfOk result (λ x. IsTrue (list_all (is_role shape.now) x.0)) }
     ensures only { (roles : List Role) (behind : List Line) →
-        lines_of text.now ≡ map role_line roles ++ behind →
+        lines_of start.entry.rest.now ≡ map role_line roles ++ behind →
         length roles ≡ shape.now.logs → IsTrue (list_all (is_role shape.now) roles) →
-        IfOk result (λ o. IsSomeAnd o (λ x. (x.0 ≡ roles) × (lines_of x.1.now ≡ behind))) }
+        Gives result (λ x. (x.0 ≡ roles) × (lines_of x.1.rest.now ≡ behind)) }
+    ensures read { Tells (λ x. stands x.1) result
+        (next_lines shape.now.logs (read_role (named shape.now)) (stands start.entry)) }
 {
     let mut roles = Vec::new(alloc);
-    let mut rest = text;
+    let mut here = start;
     'logs: for _ in 0..shape.logs {
-        let Some((line, behind)) = next_line(rest) else {
-            return Ok(None);
-        };
-        let Some(role) = role_of(alloc, shape, line)? else {
-            return Ok(None);
+        let (line, behind) = here.next()?;
+        let role = match role_of(alloc, shape, line)? {
+            Ok(role) => role,
+            Err(cause) => return Err(here.refused(cause)),
         };
         roles.push(role)?;
-        rest = behind;
+        here = behind;
     }
-    Ok(Some((Roles::from_vec(roles), rest)))
+    Ok((Roles::from_vec(roles), here))
 }
 
 /// The role that a line spells: the writer, and followers in ascending order.
-fn role_of(alloc: Global, shape: &Shape, line: &[u8]) -> Result<Option<Role>, Memory>
-    ensures found { IfOk result (λ o. IfSome o (λ role. line.now ≡ role_line role)) }
-    ensures sound { IfOk result (λ o. IfSome o (λ role. IsTrue (is_role shape.now role))) }
+fn role_of(alloc: Global, shape: &Shape, line: &[u8]) -> Result<Result<Role, Cause>, Memory>
+    ensures found { IfOk result (λ r. IfOk r (λ role. line.now ≡ role_line role)) }
+    ensures sound { IfOk result (λ r. IfOk r (λ role. IsTrue (is_role shape.now role))) }
     ensures only { (role : Role) → line.now ≡ role_line role → IsTrue (is_role shape.now role) →
-        IfOk result (λ o. o ≡ Some role) }
+        IfOk result (λ r. r ≡ Ok role) }
+    ensures read { IfOk result (λ r.
+        IsRead (λ role. tt) r (read_role (named shape.now) line.now)) }
 {
     let Some(numbers) = numbers_behind(alloc, b"log", line)? else {
-        return Ok(None);
+        return Ok(Err(Cause::Form));
     };
     role_from(alloc, shape, numbers.as_slice())
 }
 
 /// The role of a writer and followers.
-fn role_from(alloc: Global, shape: &Shape, numbers: &[u32]) -> Result<Option<Role>, Memory>
-    ensures found { IfOk result (λ o. IfSome o (λ role.
+fn role_from(alloc: Global, shape: &Shape, numbers: &[u32]) -> Result<Result<Role, Cause>, Memory>
+    ensures found { IfOk result (λ r. IfOk r (λ role.
         numbers.now ≡ role.writer ∷ role.followers)) }
-    ensures sound { IfOk result (λ o. IfSome o (λ role. IsTrue (is_role shape.now role))) }
+    ensures sound { IfOk result (λ r. IfOk r (λ role. IsTrue (is_role shape.now role))) }
     ensures only { (role : Role) → numbers.now ≡ role.writer ∷ role.followers →
-        IsTrue (is_role shape.now role) → IfOk result (λ o. o ≡ Some role) }
+        IsTrue (is_role shape.now role) → IfOk result (λ r. r ≡ Ok role) }
+    ensures read { IfOk result (λ r.
+        IsRead (λ role. tt) r (read_clients (named shape.now) (Some numbers.now))) }
 {
     let [writer, followers @ ..] = numbers else {
-        return Ok(None);
+        return Ok(Err(Cause::Form));
     };
-    if !may_hold(shape, *writer, followers) {
-        return Ok(None);
+    if let Some(value) = first_from(shape.clients, numbers) {
+        return Ok(Err(Cause::Number { value: *value }));
     }
-    Ok(Some(Role {
+    if !ascends(followers) {
+        return Ok(Err(Cause::Order));
+    }
+    Ok(Ok(Role {
         writer: *writer,
         followers: Words::from_slice(alloc, followers)?,
     }))
 }
 
-/// Whether a log may have this writer and these followers.
-fn may_hold(shape: &Shape, writer: u32, followers: &[u32]) -> bool
-    ensures { result ≡ is_role shape.now (record { writer = writer; followers = followers.now }) }
+/// The first number that isn't below a limit.
+fn first_from(limit: u32, numbers: &[u32]) -> Option<&u32>
+    ensures { option_copied result ≡ first_from limit numbers.now }
 {
-    writer < shape.clients && all_below(followers, shape.clients) && ascends(followers)
-}
-
-fn all_below(numbers: &[u32], limit: u32) -> bool
-    ensures { result ≡ list_all (λ n. nat_lt n limit) numbers.now }
-{
-    numbers.iter().all(|number| *number < limit)
+    numbers.iter().find(|number| **number >= limit)
 }
 
 /// Whether each number is below the next.

@@ -1,93 +1,87 @@
-ghost use Rattle.std.specs.Prelude.{◌≡◌, ◌∷◌, ◌++◌, List, [], map, codes, IsTrue, Some, IfOk, IfSome, IsSomeAnd};
+ghost use Rattle.std.specs.Prelude.{◌≡◌, ◌<◌, ◌^◌, ◌∷◌, ◌++◌, ℕ, List, [], map, codes, IsTrue, Ok, IfOk, IfSome, IsSomeAnd};
 ghost use Rattle.std.specs.List.{list_all};
+ghost use Rattle.tk_script.specs.Answer.{Gives, Tells};
 ghost use Rattle.tk_script.specs.Grammar.{Line, lines_of, say_line};
-ghost use Rattle.tk_script.specs.SoundScript.{is_say, is_said_by, are_in_order};
+ghost use Rattle.tk_script.specs.Reading.{IsRead, IsWhy, is_by, last_when, named, out_of_range, read_say, said, to_end};
+ghost use Rattle.tk_script.specs.SoundScript.{is_say, are_in_order};
+ghost use Rattle.tk_script.specs.Stands.{stands};
 
 use crate::fields::{next_number, rest_behind};
-use crate::lines::{is_end, next_line};
-use crate::{Say, Says};
+use crate::lines::is_end;
+use crate::place::Place;
+use crate::{Cause, Say, Says, ScriptError};
 use std::alloc::Global;
 use tk_seal::allowed;
 use tk_shape::{Bytes, Memory, Shape};
 
-/// The texts up to the line `end`, and the text behind it.
+/// The texts up to the line `end`, and the place behind it.
 pub(crate) fn says_of<'a>(
     alloc: Global,
     shape: &Shape,
-    text: &'a [u8],
-) -> Result<Option<(Says, &'a [u8])>, Memory>
-    ensures found { IfOk result (λ o. IfSome o (λ x.
-        lines_of text.now ≡ map say_line x.0 ++ codes "end" ∷ lines_of x.1.now)) }
-    ensures sound { IfOk result (λ o. IfSome o (λ x. IsTrue (list_all (is_say shape.now) x.0))) }
-    ensures ordered { IfOk result (λ o. IfSome o (λ x. IsTrue (are_in_order x.0))) }
+    start: Place<'a>,
+) -> Result<(Says, Place<'a>), ScriptError>
+    ensures found { IfOk result (λ x.
+        lines_of start.entry.rest.now ≡ map say_line x.0 ++ codes "end" ∷ lines_of x.1.rest.now) }
+    ensures sound { IfOk result (λ x. IsTrue (list_all (is_say shape.now) x.0)) }
+    ensures ordered { IfOk result (λ x. IsTrue (are_in_order x.0)) }
     ensures only { (says : List Say) (behind : List Line) →
-        lines_of text.now ≡ map say_line says ++ codes "end" ∷ behind →
+        lines_of start.entry.rest.now ≡ map say_line says ++ codes "end" ∷ behind →
         IsTrue (list_all (is_say shape.now) says) → IsTrue (are_in_order says) →
-        IfOk result (λ o. IsSomeAnd o (λ x. (x.0 ≡ says) × (lines_of x.1.now ≡ behind))) }
+        Gives result (λ x. (x.0 ≡ says) × (lines_of x.1.rest.now ≡ behind)) }
+    ensures read { Tells (λ x. stands x.1) result
+        (to_end (read_say (named shape.now)) (0, 0) start.entry.line
+        (lines_of start.entry.rest.now)) }
 {
     let mut says = Vec::new(alloc);
-    let mut rest = text;
+    let mut here = start;
     'lines: loop {
-        let Some((line, behind)) = next_line(rest) else {
-            return Ok(None);
-        };
-        rest = behind;
+        let (line, behind) = here.next()?;
         if is_end(line) {
-            return Ok(Some((Says::from_vec(says), rest)));
+            return Ok((Says::from_vec(says), behind));
         }
-        let Some(say) = say_of(alloc, shape, line)? else {
-            return Ok(None);
+        let last = last_when(says.as_slice());
+        let say = match say_of(alloc, shape, last, line)? {
+            Ok(say) => say,
+            Err(cause) => return Err(here.refused(cause)),
         };
-        if !comes_behind(says.as_slice(), &say) {
-            return Ok(None);
-        }
         says.push(say)?;
+        here = behind;
     }
 }
 
-/// Whether a text may come behind others that are in order: not before the last of them.
-fn comes_behind(says: &[Say], say: &Say) -> bool
-    ensures { IsTrue (are_in_order says.now) → result ≡ are_in_order (says.now ++ say.now ∷ []) }
+/// The phase and the tick of the last text, and zeros where there is none.
+fn last_when(says: &[Say]) -> (u32, u32)
+    ensures { result ≡ last_when says.now }
 {
     match says.last() {
-        Some(last) => is_said_by(last, say),
-        None => true,
+        Some(last) => (last.phase, last.tick),
+        None => (0, 0),
     }
 }
 
-/// Whether the first text is said in the phase and tick of the second, or before.
-fn is_said_by(first: &Say, second: &Say) -> bool
-    ensures { result ≡ is_said_by first.now second.now }
-{
-    first.phase < second.phase || (first.phase == second.phase && first.tick <= second.tick)
-}
-
-/// The text that a line says: it has room in a block and is allowed, and is all after the space that follows the log.
-fn say_of(alloc: Global, shape: &Shape, line: &[u8]) -> Result<Option<Say>, Memory>
-    ensures found { IfOk result (λ o. IfSome o (λ say. line.now ≡ say_line say)) }
-    ensures sound { IfOk result (λ o. IfSome o (λ say. IsTrue (is_say shape.now say))) }
+/// The text that a line says behind one of the phase and tick `last`: it has room in a block and is allowed, and is all
+/// after the space that follows the log.
+fn say_of(
+    alloc: Global,
+    shape: &Shape,
+    last: (u32, u32),
+    line: &[u8],
+) -> Result<Result<Say, Cause>, Memory>
+    ensures found { IfOk result (λ r. IfOk r (λ say. line.now ≡ say_line say)) }
+    ensures sound { IfOk result (λ r. IfOk r (λ say. IsTrue (is_say shape.now say))) }
+    ensures behind { IfOk result (λ r. IfOk r (λ say. IsTrue (is_by last (say.phase, say.tick)))) }
     ensures only { (say : Say) → line.now ≡ say_line say → IsTrue (is_say shape.now say) →
-        IfOk result (λ o. o ≡ Some say) }
+        IsTrue (is_by last (say.phase, say.tick)) → IfOk result (λ r. r ≡ Ok say) }
+    ensures read { IfOk result (λ r.
+        IsRead (λ say. (say.phase, say.tick)) r (read_say (named shape.now) last line.now)) }
 {
-    let Some(rest) = rest_behind(line, b"say") else {
-        return Ok(None);
+    let Some((phase, tick, log, text)) = fields_of(line) else {
+        return Ok(Err(Cause::Form));
     };
-    let Some((phase, rest)) = next_number(rest) else {
-        return Ok(None);
-    };
-    let Some((tick, rest)) = next_number(rest) else {
-        return Ok(None);
-    };
-    let Some((log, rest)) = next_number(rest) else {
-        return Ok(None);
-    };
-    let Some(text) = rest_behind(rest, b" ") else {
-        return Ok(None);
-    };
-    if !may_say(shape, phase, tick, log, text) {
-        return Ok(None);
+    if let Some(cause) = why_not(shape, last, (phase, tick), log, text) {
+        return Ok(Err(cause));
     }
-    Ok(Some(Say {
+    Ok(Ok(Say {
         phase,
         tick,
         log,
@@ -95,13 +89,70 @@ fn say_of(alloc: Global, shape: &Shape, line: &[u8]) -> Result<Option<Say>, Memo
     }))
 }
 
-/// Whether a text may be said on a log in a phase and a tick.
-fn may_say(shape: &Shape, phase: u32, tick: u32, log: u32, text: &[u8]) -> bool
-    ensures { result
-        ≡ is_say shape.now (record { phase = phase; tick = tick; log = log; text = text.now }) }
+/// The phase, the tick, the log and the text of a line.
+fn fields_of(line: &[u8]) -> Option<(u32, u32, u32, &[u8])>
+    ensures found { IfSome result (λ x. line.now
+        ≡ say_line (record { phase = x.0; tick = x.1; log = x.2; text = x.3.now })) }
+    ensures phase { IfSome result (λ x. x.0 < 2 ^ 32) }
+    ensures tick { IfSome result (λ x. x.1 < 2 ^ 32) }
+    ensures log { IfSome result (λ x. x.2 < 2 ^ 32) }
+    ensures only { (p t g : ℕ) (text : List ℕ) → p < 2 ^ 32 → t < 2 ^ 32 → g < 2 ^ 32 →
+        line.now ≡ say_line (record { phase = p; tick = t; log = g; text = text }) →
+        IsSomeAnd result (λ x. (x.0 ≡ p) × (x.1 ≡ t) × (x.2 ≡ g) × (x.3.now ≡ text)) }
 {
-    if phase < 1 || phase > shape.phases || tick < 1 || tick > shape.ticks || log >= shape.logs {
-        return false;
+    let rest = rest_behind(line, b"say")?;
+    let (phase, rest) = next_number(rest)?;
+    let (tick, rest) = next_number(rest)?;
+    let (log, rest) = next_number(rest)?;
+    let text = rest_behind(rest, b" ")?;
+    Some((phase, tick, log, text))
+}
+
+/// Why a text may not be said on a log, in a phase and a tick, behind one of the phase and tick `last`.
+fn why_not(
+    shape: &Shape,
+    last: (u32, u32),
+    when: (u32, u32),
+    log: u32,
+    text: &[u8],
+) -> Option<Cause>
+    ensures { IsWhy result when (said (named shape.now) last when.0 when.1 log text.now) }
+{
+    if let Some(value) = out_of_range(shape, when, log) {
+        return Some(Cause::Number { value });
     }
-    text.len() + 18 <= shape.block as usize && allowed(text).is_none()
+    if !is_by(last, when) {
+        return Some(Cause::Order);
+    }
+    let room = shape.block - 18;
+    if text.len() > room as usize {
+        return Some(Cause::Room { room });
+    }
+    match allowed(text) {
+        Some(at) => Some(Cause::Text { at: at as u64 }),
+        None => None,
+    }
+}
+
+/// The first of a phase, a tick and a log that is out of range.
+fn out_of_range(shape: &Shape, when: (u32, u32), log: u32) -> Option<u32>
+    ensures { result ≡ out_of_range (named shape.now) when.0 when.1 log }
+{
+    if when.0 < 1 || when.0 > shape.phases {
+        return Some(when.0);
+    }
+    if when.1 < 1 || when.1 > shape.ticks {
+        return Some(when.1);
+    }
+    if log >= shape.logs {
+        return Some(log);
+    }
+    None
+}
+
+/// Whether the first phase and tick come before the second, or are the same.
+fn is_by(first: (u32, u32), second: (u32, u32)) -> bool
+    ensures { result ≡ is_by first second }
+{
+    first.0 < second.0 || (first.0 == second.0 && first.1 <= second.1)
 }

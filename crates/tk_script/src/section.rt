@@ -1,75 +1,61 @@
-ghost use Rattle.std.specs.Prelude.{◌≡◌, ◌↔◌, ◌∷◌, List, codes, IsTrue, IfOk, IfSome, IsSomeAnd};
+ghost use Rattle.std.specs.Prelude.{◌≡◌, ◌∷◌, Bool, List, codes, is_some, IfOk};
+ghost use Rattle.tk_script.specs.Answer.{Gives, Tells};
+ghost use Rattle.tk_script.specs.Built.{IsBuiltShape};
 ghost use Rattle.tk_script.specs.Grammar.{Line, lines_of, shape_line, BeginsWithScript};
-ghost use Rattle.tk_script.specs.Built.{IsBuiltShape, IsBuiltScript};
+ghost use Rattle.tk_script.specs.KeyLines.{kind_words, MayBeOfKind};
+ghost use Rattle.tk_script.specs.Reading.{named, read_head, read_script};
+ghost use Rattle.tk_script.specs.Stands.{stands};
 
-use crate::Script;
-use crate::lines::line_that_reads;
+use crate::key_lines::keys_of;
+use crate::kind_line::kind_of;
+use crate::place::Place;
 use crate::role_lines::roles_of;
 use crate::say_lines::says_of;
 use crate::shape_line::shape_of;
+use crate::{Script, ScriptError};
 use std::alloc::Global;
-use tk_shape::{Memory, Shape};
+use tk_shape::Shape;
 
-/// The most bytes of a tape of drawn words.
-const MOST_TAPE: u64 = 2097152;
-
-/// The script section at the front of a text, if it is built so far, and the text behind it.
-pub(crate) fn script_of(alloc: Global, text: &[u8]) -> Result<Option<(Script, &[u8])>, Memory>
-    ensures found { IfOk result (λ o. IfSome o (λ x.
-        BeginsWithScript (lines_of text.now) x.0 (lines_of x.1.now))) }
-    ensures built { IfOk result (λ o. IfSome o (λ x. IsBuiltScript x.0)) }
-    ensures only { (script : Script) (behind : List Line) →
-        BeginsWithScript (lines_of text.now) script behind → IsBuiltScript script →
-        IfOk result (λ o. IsSomeAnd o (λ x. (x.0 ≡ script) × (lines_of x.1.now ≡ behind))) }
+/// The script section that begins here, and the place behind it.
+#[tactic(auto, using(crate::proofs::ScriptLaws::tape_fits_kind))]
+pub(crate) fn script_of(alloc: Global, start: Place<'_>) -> Result<(Script, Place<'_>), ScriptError>
+    ensures found { IfOk result (λ x.
+        BeginsWithScript (lines_of start.entry.rest.now) x.0 (lines_of x.1.rest.now)) }
+    ensures built { IfOk result (λ x. IsBuiltShape x.0.shape) }
+    ensures only { (script : Script) (behind : List Line) → IsBuiltShape script.shape →
+        BeginsWithScript (lines_of start.entry.rest.now) script behind →
+        Gives result (λ x. (x.0 ≡ script) × (lines_of x.1.rest.now ≡ behind)) }
+    ensures read { Tells (λ x. (is_some x.0.keys, stands x.1)) result
+        (read_script (stands start.entry)) }
 {
-    let Some((shape, rest)) = head_of(alloc, text)? else {
-        return Ok(None);
+    let (shape, keyed, rest) = head_of(alloc, start)?;
+    let (roles, rest) = roles_of(alloc, &shape, rest)?;
+    let (keys, rest) = keys_of(alloc, &shape, keyed, rest)?;
+    let (says, rest) = says_of(alloc, &shape, rest)?;
+    let script = Script {
+        shape,
+        keys,
+        roles,
+        says,
     };
-    let Some((roles, rest)) = roles_of(alloc, &shape, rest)? else {
-        return Ok(None);
-    };
-    let Some((says, rest)) = says_of(alloc, &shape, rest)? else {
-        return Ok(None);
-    };
-    Ok(Some((
-        Script {
-            shape,
-            keys: None,
-            roles,
-            says,
-        },
-        rest,
-    )))
+    Ok((script, rest))
 }
 
-/// The shape of the three lines at the front of a drawn script, if it is built so far, and the text behind them.
-fn head_of(alloc: Global, text: &[u8]) -> Result<Option<(Shape, &[u8])>, Memory>
-    ensures found { IfOk result (λ o. IfSome o (λ x.
-        lines_of text.now ≡ codes "talek 1" ∷ shape_line x.0 ∷ codes "drawn" ∷ lines_of x.1.now)) }
-    ensures built { IfOk result (λ o. IfSome o (λ x. IsBuiltShape x.0)) }
-    ensures only { (shape : Shape) (behind : List Line) →
-        lines_of text.now ≡ codes "talek 1" ∷ shape_line shape ∷ codes "drawn" ∷ behind →
-        IsBuiltShape shape →
-        IfOk result (λ o. IsSomeAnd o (λ x. (x.0 ≡ shape) × (lines_of x.1.now ≡ behind))) }
+/// The shape of the three lines at the front of a script, whether it is keyed, and the place behind them.
+fn head_of(alloc: Global, start: Place<'_>) -> Result<(Shape, bool, Place<'_>), ScriptError>
+    ensures found { IfOk result (λ x. lines_of start.entry.rest.now
+        ≡ codes "talek 1" ∷ shape_line x.0 ∷ kind_words x.1 ∷ lines_of x.2.rest.now) }
+    ensures built { IfOk result (λ x. IsBuiltShape x.0) }
+    ensures may { IfOk result (λ x. MayBeOfKind x.0 x.1) }
+    ensures only { (shape : Shape) (keyed : Bool) (behind : List Line) → IsBuiltShape shape →
+        MayBeOfKind shape keyed →
+        lines_of start.entry.rest.now ≡ codes "talek 1" ∷ shape_line shape ∷ kind_words keyed ∷ behind →
+        Gives result (λ x. (x.0 ≡ shape) × (x.1 ≡ keyed) × (lines_of x.2.rest.now ≡ behind)) }
+    ensures read { Tells (λ x. (named x.0, x.1, stands x.2)) result
+        (read_head (stands start.entry)) }
 {
-    let Some(rest) = line_that_reads(text, b"talek 1") else {
-        return Ok(None);
-    };
-    let Some((shape, rest)) = shape_of(alloc, rest)? else {
-        return Ok(None);
-    };
-    let Some(rest) = line_that_reads(rest, b"drawn") else {
-        return Ok(None);
-    };
-    if !is_built(&shape) {
-        return Ok(None);
-    }
-    Ok(Some((shape, rest)))
-}
-
-/// Whether a drawn run of this shape is built so far.
-fn is_built(shape: &Shape) -> bool
-    ensures { IsTrue result ↔ IsBuiltShape shape.now }
-{
-    shape.retained <= shape.depth && shape.ahead == 0 && shape.tape_len() <= MOST_TAPE
+    let rest = start.behind(b"talek 1")?;
+    let (shape, rest) = shape_of(alloc, rest)?;
+    let (keyed, rest) = kind_of(&shape, rest)?;
+    Ok((shape, keyed, rest))
 }

@@ -1,56 +1,86 @@
-ghost use Rattle.std.specs.Prelude.{◌≡◌, ◌≢◌, ◌∷◌, List, Some, length, IfOk, IfSome, IfNone, IsSomeAnd};
+ghost use Rattle.std.specs.Prelude.{◌≡◌, ◌≢◌, ◌∷◌, List, Some, Ok, length, IfOk, IfSome, IfNone};
+ghost use Rattle.tk_script.specs.Answer.{Gives, Tells};
+ghost use Rattle.tk_script.specs.Built.{IsBuiltShape};
 ghost use Rattle.tk_script.specs.Grammar.{Line, lines_of, shape_line};
 ghost use Rattle.tk_shape.specs.Numbers.{numbers_of};
+ghost use Rattle.tk_script.specs.Reading.{IsRead, if_built, named, next_line, read_numbers, read_shape};
+ghost use Rattle.tk_script.specs.Stands.{stands};
 
 use crate::fields::numbers_behind;
-use crate::lines::next_line;
+use crate::place::Place;
+use crate::{Cause, ScriptError};
 use std::alloc::Global;
 use tk_shape::{Memory, Shape};
 
-/// The shape of the first line of a text, and the text behind it.
-pub(crate) fn shape_of(alloc: Global, text: &[u8]) -> Result<Option<(Shape, &[u8])>, Memory>
-    ensures found { IfOk result (λ o. IfSome o (λ x.
-        lines_of text.now ≡ shape_line x.0 ∷ lines_of x.1.now)) }
-    ensures only { (shape : Shape) (behind : List Line) →
-        lines_of text.now ≡ shape_line shape ∷ behind →
-        IfOk result (λ o. IsSomeAnd o (λ x. (x.0 ≡ shape) × (lines_of x.1.now ≡ behind))) }
+/// The shape of the line that stands here, and the place behind it.
+pub(crate) fn shape_of(alloc: Global, here: Place<'_>) -> Result<(Shape, Place<'_>), ScriptError>
+    ensures found { IfOk result (λ x.
+        lines_of here.entry.rest.now ≡ shape_line x.0 ∷ lines_of x.1.rest.now) }
+    ensures built { IfOk result (λ x. IsBuiltShape x.0) }
+    ensures only { (shape : Shape) (behind : List Line) → IsBuiltShape shape →
+        lines_of here.entry.rest.now ≡ shape_line shape ∷ behind →
+        Gives result (λ x. (x.0 ≡ shape) × (lines_of x.1.rest.now ≡ behind)) }
+    ensures read { Tells (λ x. (named x.0, stands x.1)) result
+        (next_line read_shape (stands here.entry)) }
 {
-    let Some((line, rest)) = next_line(text) else {
-        return Ok(None);
-    };
-    let Some(shape) = shape_in(alloc, line)? else {
-        return Ok(None);
-    };
-    Ok(Some((shape, rest)))
+    let (line, behind) = here.next()?;
+    match shape_in(alloc, line)? {
+        Ok(shape) => Ok((shape, behind)),
+        Err(cause) => Err(here.refused(cause)),
+    }
 }
 
 /// The shape that a line spells.
-fn shape_in(alloc: Global, line: &[u8]) -> Result<Option<Shape>, Memory>
-    ensures found { IfOk result (λ o. IfSome o (λ shape. line.now ≡ shape_line shape)) }
-    ensures only { (shape : Shape) → line.now ≡ shape_line shape →
-        IfOk result (λ o. o ≡ Some shape) }
+fn shape_in(alloc: Global, line: &[u8]) -> Result<Result<Shape, Cause>, Memory>
+    ensures found { IfOk result (λ r. IfOk r (λ shape. line.now ≡ shape_line shape)) }
+    ensures built { IfOk result (λ r. IfOk r IsBuiltShape) }
+    ensures only { (shape : Shape) → line.now ≡ shape_line shape → IsBuiltShape shape →
+        IfOk result (λ r. r ≡ Ok shape) }
+    ensures read { IfOk result (λ r. IsRead named r (read_shape line.now)) }
 {
     let Some(numbers) = numbers_behind(alloc, b"shape", line)? else {
-        return Ok(None);
+        return Ok(Err(Cause::Form));
     };
     Ok(shape_from(numbers.as_slice()))
 }
 
 /// The shape of twelve numbers.
-fn shape_from(numbers: &[u32]) -> Option<Shape>
-    ensures found { IfSome result (λ shape. numbers_of shape ≡ numbers.now) }
-    ensures only { (shape : Shape) → numbers_of shape ≡ numbers.now → result ≡ Some shape }
+fn shape_from(numbers: &[u32]) -> Result<Shape, Cause>
+    ensures found { IfOk result (λ shape. numbers_of shape ≡ numbers.now) }
+    ensures built { IfOk result IsBuiltShape }
+    ensures only { (shape : Shape) → numbers_of shape ≡ numbers.now → IsBuiltShape shape →
+        result ≡ Ok shape }
+    ensures read { IsRead named result (read_numbers (Some numbers.now)) }
 {
-    let twelve = twelve_of(numbers)?;
+    let Some(twelve) = twelve_of(numbers) else {
+        return Err(Cause::Form);
+    };
     match Shape::new(twelve) {
-        Ok(shape) => Some(shape),
-        Err(_) => None,
+        Ok(shape) => if_built(shape),
+        Err(broken) => Err(Cause::Shape {
+            field: broken.field,
+            value: broken.value,
+        }),
     }
+}
+
+/// A shape within its limits, where a run of it is built so far.
+fn if_built(shape: Shape) -> Result<Shape, Cause>
+    ensures same { IfOk result (λ x. x ≡ shape) }
+    ensures built { IfOk result IsBuiltShape }
+    ensures only { IsBuiltShape shape → result ≡ Ok shape }
+    ensures read { IsRead named result (if_built (named shape)) }
+{
+    if shape.retained > shape.depth || shape.ahead != 0 {
+        return Err(Cause::NotBuilt);
+    }
+    Ok(shape)
 }
 
 /// Twelve numbers as an array.
 fn twelve_of(numbers: &[u32]) -> Option<[u32; 12]>
     ensures found { IfSome result (λ twelve. twelve ≡ numbers.now) }
+    ensures counted { IfSome result (λ twelve. length numbers.now ≡ 12) }
     ensures none { IfNone result (length numbers.now ≢ 12) }
 {
     if numbers.len() != 12 {

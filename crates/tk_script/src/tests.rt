@@ -1,18 +1,15 @@
-use crate::{Input, one_input, parse, plain_number};
+use crate::{Cause, Input, ScriptError, one_input, parse, plain_number};
 use std::alloc::Global;
 use std::test::Fail;
-use tk_shape::Memory;
+use tk_shape::Field;
 
 const SCRIPT: &[u8] =
     b"talek 1\nshape 2 8 4 4 24 64 1 0 2 2 1 1\ndrawn\nlog 0 1\nsay 1 1 0 hi you\nend\n";
 
 const TAPE: &[u8] = b"tape\nfill 11 252\nx aB0c\nfill fF 2\nend\n";
 
-const TEXTS_OUT_OF_ORDER: &[u8] =
-    b"talek 1\nshape 2 8 4 4 24 64 1 0 2 2 1 1\ndrawn\nlog 0 1\nsay 2 1 0 a\nsay 1 1 0 b\nend\n";
-
 /// The input that a script and a tape spell.
-fn parsed(alloc: Global, script: &[u8], tape: &[u8]) -> Result<Option<Input>, Memory> {
+fn parsed(alloc: Global, script: &[u8], tape: &[u8]) -> Result<Input, ScriptError> {
     let mut text = Vec::new(alloc);
     text.extend_from_slice(script)?;
     text.extend_from_slice(tape)?;
@@ -21,7 +18,7 @@ fn parsed(alloc: Global, script: &[u8], tape: &[u8]) -> Result<Option<Input>, Me
 
 #[test]
 fn drawn_input(rt: HostRuntime) -> Result<(), Fail> {
-    let input = parsed(rt.alloc(), SCRIPT, TAPE)?.expect(&rt, "an input");
+    let input = parsed(rt.alloc(), SCRIPT, TAPE)?;
     let script = input.first;
     assert_eq!(rt;
         script.shape.numbers(),
@@ -48,45 +45,162 @@ fn drawn_input(rt: HostRuntime) -> Result<(), Fail> {
     Ok(())
 }
 
+/// The input of a keyed script of one log and one client, whose handle has so many words of 16 digits.
+fn keyed(alloc: Global, words: usize, end: &[u8]) -> Result<Input, ScriptError> {
+    let mut text = Vec::new(alloc);
+    text.extend_from_slice(b"talek 1\nshape 8 8 4 4 24 64 1 0 1 2 1 1\nkeyed\nlog 0\nhandle ")?;
+    for _ in 0..words {
+        text.extend_from_slice(b"00000000000000aB")?;
+    }
+    text.extend_from_slice(b"\nseed ")?;
+    for _ in 0..4 {
+        text.extend_from_slice(b"0123456789abcDEF")?;
+    }
+    text.extend_from_slice(end)?;
+    parse(alloc, text.as_slice())
+}
+
+/// That a line is refused, for a cause.
+fn refused(line: u64, cause: Cause) -> Option<ScriptError> {
+    Some(ScriptError::Line { line, cause })
+}
+
 #[test]
-fn end_of_a_text(rt: HostRuntime) -> Result<(), Fail> {
+fn keyed_input(rt: HostRuntime) -> Result<(), Fail> {
     let alloc = rt.alloc();
-    assert!(rt; parsed(alloc, SCRIPT, b"tape\nfill 11 256\nend")?.is_some());
-    assert!(rt; parsed(alloc, SCRIPT, b"tape\nfill 11 256\nend\n\n")?.is_none());
-    assert!(rt; parsed(alloc, SCRIPT, b"tape\nfill 11 256\n")?.is_none());
-    assert!(rt; parsed(alloc, SCRIPT, b"")?.is_none());
-    Ok(())
-}
-
-#[test]
-fn refused_tapes(rt: HostRuntime) -> Result<(), Fail> {
-    for tape in [
-        b"tape\nfill 11 255\nend\n".as_slice(),
-        b"tape\nfill 11 257\nend\n".as_slice(),
-        b"tape\nfill 11 0\nfill 11 256\nend\n".as_slice(),
-        b"tape\nfill 1 256\nend\n".as_slice(),
-        b"tape\nfill 11 256 \nend\n".as_slice(),
-        b"tape\nx \nfill 11 256\nend\n".as_slice(),
-        b"tape\nx 123\nfill 11 255\nend\n".as_slice(),
+    let input = keyed(alloc, 13, b"\nsay 2 1 0 \nend\n")?;
+    assert!(rt; input.tape.is_none());
+    let script = input.first;
+    let keys = script.keys.expect(&rt, "keys");
+    assert_eq!(rt; keys.handles.as_slice().len(), 1);
+    for handle in keys.handles.as_slice() {
+        assert_eq!(rt; handle.id, 0xab);
+    }
+    assert_eq!(rt; keys.seeds.as_slice().len(), 1);
+    for (words, end, line, cause) in [
+        (12, b"\nend\n".as_slice(), 5, Cause::Form),
+        (13, b" \nend\n".as_slice(), 6, Cause::Form),
+        (13, b"\nend\ntape\nend\n".as_slice(), 8, Cause::After),
+        (13, b"\n".as_slice(), 7, Cause::Early),
     ] {
-        assert!(rt; parsed(rt.alloc(), SCRIPT, tape)?.is_none());
+        assert_eq!(rt; keyed(alloc, words, end).err(), refused(line, cause));
     }
     Ok(())
 }
 
 #[test]
-fn refused_scripts(rt: HostRuntime) -> Result<(), Fail> {
-    for script in [
-        b"talek 1\nshape 2 8 4 4 24 64 1 0 2 2 1\ndrawn\nlog 0 1\nend\n".as_slice(),
-        b"talek 1\nshape 2 8 4 4 24 64 1 0 2 2 1 01\ndrawn\nlog 0 1\nend\n".as_slice(),
-        b"talek 1\nshape 3 8 4 4 24 64 1 0 2 2 1 1\ndrawn\nlog 0 1\nend\n".as_slice(),
-        b"talek 1\nshape 2 8 4 4 24 64 1 0 2 2 1 1\ndrawn\nlog 0 1 0\nend\n".as_slice(),
-        b"talek 1\nshape 2 8 4 4 24 64 1 0 2 2 1 1\ndrawn\nlog 0 1\nsay 1 1 0\nend\n".as_slice(),
-        TEXTS_OUT_OF_ORDER,
+fn ends_and_lengths(rt: HostRuntime) -> Result<(), Fail> {
+    for (tape, got) in [
+        (b"tape\nfill 11 256\nend".as_slice(), 256),
+        (b"tape\nend\n".as_slice(), 0),
+        (
+            b"tape\nfill 11 2097152\nfill 11 2097152\nend\n".as_slice(),
+            4194304,
+        ),
     ] {
-        assert!(rt; parsed(rt.alloc(), script, b"tape\nfill 11 256\nend\n")?.is_none());
+        let tape = parsed(rt.alloc(), SCRIPT, tape)?.tape.expect(&rt, "a tape");
+        assert_eq!(rt; tape.got, got);
+        assert!(rt; tape.bytes.as_slice().len() <= 256);
     }
     Ok(())
+}
+
+#[test]
+fn refused_tapes(rt: HostRuntime) {
+    for (tape, line, cause) in [
+        (b"".as_slice(), 7, Cause::Early),
+        (b"tape\nfill 11 256\n".as_slice(), 9, Cause::Early),
+        (b"tape\nfill 11 256\nend\n\n".as_slice(), 10, Cause::After),
+        (
+            b"tape\nfill 11 0\nfill 11 256\nend\n".as_slice(),
+            8,
+            Cause::Number { value: 0 },
+        ),
+        (b"tape\nfill 1 256\nend\n".as_slice(), 8, Cause::Form),
+        (b"tape\nfill 11 256 \nend\n".as_slice(), 8, Cause::Form),
+        (b"tape\nx \nfill 11 256\nend\n".as_slice(), 8, Cause::Form),
+        (
+            b"tape\nfill 11 255\nx 123\nend\n".as_slice(),
+            9,
+            Cause::Form,
+        ),
+    ] {
+        assert_eq!(rt;
+            parsed(rt.alloc(), SCRIPT, tape).err(),
+            refused(line, cause)
+        );
+    }
+}
+
+const HEAD: &[u8] = b"talek 1\nshape 2 8 4 4 24 64 1 0 2 2 1 1\ndrawn\n";
+
+#[test]
+fn refused_lines(rt: HostRuntime) {
+    for (lines, line, cause) in [
+        (b"log 0 4294967296\n".as_slice(), 4, Cause::Form),
+        (b"log 0 01\n".as_slice(), 4, Cause::Form),
+        (b"log 0 2\n".as_slice(), 4, Cause::Number { value: 2 }),
+        (b"log 0 1 0\n".as_slice(), 4, Cause::Order),
+        (
+            b"log 0 1\nsay 3 1 0 a\n".as_slice(),
+            5,
+            Cause::Number { value: 3 },
+        ),
+        (
+            b"log 0 1\nsay 2 1 0 a\nsay 1 1 0 b\nend\n".as_slice(),
+            6,
+            Cause::Order,
+        ),
+        (
+            b"log 0 1\nsay 1 1 0 abcdefg\n".as_slice(),
+            5,
+            Cause::Room { room: 6 },
+        ),
+        (
+            b"log 0 1\nsay 1 1 0 ab\tc\n".as_slice(),
+            5,
+            Cause::Text { at: 2 },
+        ),
+        (b"log 0 1\nsay 1 1 0\nend\n".as_slice(), 5, Cause::Form),
+    ] {
+        assert_eq!(rt; parsed(rt.alloc(), HEAD, lines).err(), refused(line, cause));
+    }
+}
+
+#[test]
+fn refused_shapes(rt: HostRuntime) {
+    let servers = Cause::Shape {
+        field: Field::Servers,
+        value: 9,
+    };
+    for (numbers, line, cause) in [
+        (
+            b"2 8 4 4 24 64 1 0 2 2 1\ndrawn\n".as_slice(),
+            2,
+            Cause::Form,
+        ),
+        (b"9 8 4 5 24 64 1 1 2 2 1 1\ndrawn\n".as_slice(), 2, servers),
+        (
+            b"2 8 4 5 24 64 1 0 2 2 1 1\ndrawn\n".as_slice(),
+            2,
+            Cause::NotBuilt,
+        ),
+        (
+            b"2 8 4 4 24 64 1 1 2 2 1 1\ndrawn\n".as_slice(),
+            2,
+            Cause::NotBuilt,
+        ),
+        (
+            b"2 8 4 4 24 64 1 0 2 2 1 1\ndrown\n".as_slice(),
+            3,
+            Cause::Form,
+        ),
+    ] {
+        assert_eq!(rt;
+            parsed(rt.alloc(), b"talek 1\nshape ", numbers).err(),
+            refused(line, cause)
+        );
+    }
 }
 
 #[test]

@@ -1,130 +1,136 @@
--- The script is read, and then a tape of which nothing is cut off.
-use Rattle.std.proofs.Common.{◌≡◌, ◌∙◌, ◌-◌, ◌^◌, ◌<◌, ℕ, List, [], length, take, min, Some, ap, sym, subst, arith, rules}
-use Rattle.tk_shape.specs.Lengths.{tape_len}
-use Rattle.tk_script.specs.Grammar.{lines_of, BeginsWithScript, BeginsWithTape}
-use Rattle.tk_script.specs.Built.{IsBuiltScript}
+-- The script is read, and then the tape of a drawn one.
+use Rattle.std.proofs.Common.{◌≡◌, ◌∙◌, Err, Some, None, true, false, ap, sym, subst, rules}
+use Rattle.std.specs.Prelude.{is_some}
+use Rattle.tk_script.specs.Answer.{IsRefusal}
+use Rattle.tk_script.specs.Grammar.{lines_of, BeginsWithScript}
+use Rattle.tk_script.specs.Reading.{read_end, read_input, read_script}
+use Rattle.tk_script.specs.Stands.{stands}
 use Rattle.tk_script.specs.declared.script.Script.{Script}
-use Rattle.tk_script.proofs.OptionLaws.{never, the_some, if_some}
-use Rattle.tk_script.proofs.LineLaws.{empty_lines, no_lines}
-use Rattle.tk_script.proofs.ScriptLaws.{same_tape, same_input, raw_tape, drawn_tape, tape_found, tape_length, built_shape}
+use Rattle.tk_script.proofs.AnswerLaws.{gives_err, gives_weaker, tells_err, told_same, same_refused}
+use Rattle.tk_script.proofs.PlaceLaws.{same_place}
+use Rattle.tk_script.proofs.ScriptLaws.{same_input, keyed_tape, keyed_found, keyed_built, drawn_tape, drawn_here, tape_of_drawn}
+use Rattle.tk_script.proofs.SectionLaws.{front, input_script_refused, input_script}
 use Rattle.tk_script.proofs.parsing.parse.Goals as goal
 
-pub returns-in_default-2-clause-only : goal.returns-in_default-2-clause-only
-returns-in_default-2-clause-only c input s b =
-    let script = the_some c.in_ok-script.field-0
-    (λ x. (x.0 ≡ input.first) × (lines_of x.1.now ≡ s.rest))
-    (c.in-Some.script, c.in-Some.rest) c.in-Some.is
-    (c.in_ok-script.ensures.only input.first s.rest s.script b.script)
-    in
-    let drawn = drawn_tape input.first.shape input.first.keys s.rest input.tape b.script.drawn
-    s.tape in
-    let begins = subst (λ ls. BeginsWithTape ls drawn.bytes []) (sym script.1) drawn.begins in
-    absurd (never c.in_ok-tape.field-0
-    (λ x. (x.0.bytes ≡ take c.tape_len-want.result drawn.bytes)
-    × (x.0.got ≡ min (length drawn.bytes) (2 ^ 64 - 1)) × (lines_of x.1.now ≡ []))
-    c.in_default-2.is (c.in_ok-tape.ensures.only drawn.bytes [] begins))
+pub returns-in_err-first-clause-only : goal.returns-in_err-first-clause-only
+returns-in_err-first-clause-only c input built s =
+    let out : c.from_residual.result ≡ Err c.in_err-first.field-0.0 = search rules in
+    let begins = subst (λ ls. BeginsWithScript ls input.first s.rest)
+    (sym (ap lines_of c.front.ensures.whole)) s.script in
+    gives_err c.from_residual.result c.in_err-first.field-0.0 _ out
+    (c.in_err-first.ensures.only input.first s.rest built begins)
 
-pub returns-then-tape-want-clause-only : goal.returns-then-tape-want-clause-only
-returns-then-tape-want-clause-only c input s b =
-    let script = the_some c.in_ok-script.field-0
-    (λ x. (x.0 ≡ input.first) × (lines_of x.1.now ≡ s.rest))
-    (c.in-Some.script, c.in-Some.rest) c.in-Some.is
-    (c.in_ok-script.ensures.only input.first s.rest s.script b.script)
-    in
-    let drawn = drawn_tape input.first.shape input.first.keys s.rest input.tape b.script.drawn
-    s.tape in
-    let begins = subst (λ ls. BeginsWithTape ls drawn.bytes []) (sym script.1) drawn.begins in
-    let read = the_some c.in_ok-tape.field-0
-    (λ x. (x.0.bytes ≡ take c.tape_len-want.result drawn.bytes)
-    × (x.0.got ≡ min (length drawn.bytes) (2 ^ 64 - 1)) × (lines_of x.1.now ≡ []))
-    (c.in-Some-2.tape, c.in-Some-2.rest) c.in-Some-2.is
-    (c.in_ok-tape.ensures.only drawn.bytes [] begins)
-    in
-    let whole = tape_length input.first.shape input.tape drawn.bytes drawn.whole b.tape_counted in
-    let short = (built_shape input.first b.script).tape_short in
-    let same = ap (λ (S : Script). tape_len S.shape) script.0 in
-    let want : c.tape_len-want.result ≡ tape_len c.in-Some.script.shape = search rules in
-    absurd (omega (arith, c.if-tape-want.true, read.1, whole, short, same, want))
+pub returns-in_err-first-clause-read : goal.returns-in_err-first-clause-read
+returns-in_err-first-clause-read c =
+    let out : c.from_residual.result ≡ Err c.in_err-first.field-0.0 = search rules in
+    let at = same_place (stands c.front.result) (front (lines_of c.args.text.now))
+    c.front.ensures.number (ap lines_of c.front.ensures.whole) in
+    tells_err c.from_residual.result c.in_err-first.field-0.0 (λ input. tt)
+    (read_input (lines_of c.args.text.now)) out
+    (input_script_refused c.in_err-first.field-0.0 (lines_of c.args.text.now)
+    (subst (λ p. IsRefusal c.in_err-first.field-0.0 (read_script p)) at
+    c.in_err-first.ensures.read))
 
-pub returns-then-not-is_empty-clause-only : goal.returns-then-not-is_empty-clause-only
-returns-then-not-is_empty-clause-only c input s b =
-    let script = the_some c.in_ok-script.field-0
-    (λ x. (x.0 ≡ input.first) × (lines_of x.1.now ≡ s.rest))
-    (c.in-Some.script, c.in-Some.rest) c.in-Some.is
-    (c.in_ok-script.ensures.only input.first s.rest s.script b.script)
-    in
-    let drawn = drawn_tape input.first.shape input.first.keys s.rest input.tape b.script.drawn
-    s.tape in
-    let begins = subst (λ ls. BeginsWithTape ls drawn.bytes []) (sym script.1) drawn.begins in
-    let read = the_some c.in_ok-tape.field-0
-    (λ x. (x.0.bytes ≡ take c.tape_len-want.result drawn.bytes)
-    × (x.0.got ≡ min (length drawn.bytes) (2 ^ 64 - 1)) × (lines_of x.1.now ≡ []))
-    (c.in-Some-2.tape, c.in-Some-2.rest) c.in-Some-2.is
-    (c.in_ok-tape.ensures.only drawn.bytes [] begins)
-    in
-    let some : 0 < length c.in-Some-2.rest.now = search rules in
-    let none = no_lines c.in-Some-2.rest.now read.2 in
-    absurd (omega (arith, ap length none, some))
+pub returns-then-is_some-clause-found : goal.returns-then-is_some-clause-found
+returns-then-is_some-clause-found c =
+    let keyed : is_some c.in_ok-first.first.keys ≡ true = search rules in
+    let begins = subst (λ ls. BeginsWithScript ls c.in_ok-first.first
+    (lines_of c.in_ok-first.rest.rest.now)) (ap lines_of c.front.ensures.whole)
+    c.in_ok-first.ensures.found in
+    keyed_found c.keyed_input.result c.in_ok-first.first c.args.text.now
+    (lines_of c.in_ok-first.rest.rest.now) begins keyed c.keyed_input.ensures.found
+
+pub returns-then-is_some-clause-built : goal.returns-then-is_some-clause-built
+returns-then-is_some-clause-built c =
+    keyed_built c.keyed_input.result c.in_ok-first.first (lines_of c.in_ok-first.rest.rest.now)
+    c.in_ok-first.ensures.built c.keyed_input.ensures.found
+
+pub returns-then-is_some-clause-only : goal.returns-then-is_some-clause-only
+returns-then-is_some-clause-only c input built s =
+    let keyed : is_some c.in_ok-first.first.keys ≡ true = search rules in
+    let begins = subst (λ ls. BeginsWithScript ls input.first s.rest)
+    (sym (ap lines_of c.front.ensures.whole)) s.script in
+    let script = c.in_ok-first.ensures.only input.first s.rest built begins in
+    let tape = keyed_tape input.first.shape input.first.keys s.rest input.tape
+    (ap (λ (S : Script). is_some S.keys) (sym script.0) ∙ keyed) s.tape in
+    gives_weaker c.keyed_input.result
+    (λ x. x ≡ record { first = c.in_ok-first.first; tape = None }) (λ x. x ≡ input)
+    (λ x e. e ∙ same_input (record { first = c.in_ok-first.first; tape = None }) input script.0
+    (sym tape.1))
+    (c.keyed_input.ensures.only (script.1 ∙ tape.0))
+
+pub returns-then-is_some-clause-read : goal.returns-then-is_some-clause-read
+returns-then-is_some-clause-read c =
+    let keyed : is_some c.in_ok-first.first.keys ≡ true = search rules in
+    let at = same_place (stands c.front.result) (front (lines_of c.args.text.now))
+    c.front.ensures.number (ap lines_of c.front.ensures.whole) in
+    let first = input_script (lines_of c.args.text.now) (is_some c.in_ok-first.first.keys)
+    (stands c.in_ok-first.rest) (ap read_script (sym at) ∙ c.in_ok-first.ensures.read) in
+    told_same c.keyed_input.result (λ input. tt) (read_end true (stands c.in_ok-first.rest))
+    (read_input (lines_of c.args.text.now))
+    (first ∙ ap (λ k. read_end k (stands c.in_ok-first.rest)) keyed) c.keyed_input.ensures.read
+
+pub returns-in_err-tape-clause-only : goal.returns-in_err-tape-clause-only
+returns-in_err-tape-clause-only c input built s =
+    let out : c.from_residual-in_err-tape.result ≡ Err c.in_err-tape.field-0.0 = search rules in
+    let drawn : is_some c.in_ok-first.first.keys ≡ false = search rules in
+    let begins = subst (λ ls. BeginsWithScript ls input.first s.rest)
+    (sym (ap lines_of c.front.ensures.whole)) s.script in
+    let script = c.in_ok-first.ensures.only input.first s.rest built begins in
+    let tape = drawn_tape input.first.shape input.first.keys s.rest input.tape
+    (ap (λ (S : Script). is_some S.keys) (sym script.0) ∙ drawn) s.tape in
+    gives_err c.from_residual-in_err-tape.result c.in_err-tape.field-0.0 _ out
+    (c.in_err-tape.ensures.only tape.value (drawn_here c.in_ok-first.first.shape input.first.shape
+    (lines_of c.in_ok-first.rest.rest.now) s.rest tape.value
+    (ap (λ (S : Script). S.shape) script.0) script.1 tape.spelled))
+
+pub returns-in_err-tape-clause-read : goal.returns-in_err-tape-clause-read
+returns-in_err-tape-clause-read c =
+    let out : c.from_residual-in_err-tape.result ≡ Err c.in_err-tape.field-0.0 = search rules in
+    let drawn : is_some c.in_ok-first.first.keys ≡ false = search rules in
+    let at = same_place (stands c.front.result) (front (lines_of c.args.text.now))
+    c.front.ensures.number (ap lines_of c.front.ensures.whole) in
+    let first = input_script (lines_of c.args.text.now) (is_some c.in_ok-first.first.keys)
+    (stands c.in_ok-first.rest) (ap read_script (sym at) ∙ c.in_ok-first.ensures.read) in
+    tells_err c.from_residual-in_err-tape.result c.in_err-tape.field-0.0 (λ input. tt)
+    (read_input (lines_of c.args.text.now)) out
+    (same_refused c.in_err-tape.field-0.0 (read_end false (stands c.in_ok-first.rest))
+    (read_input (lines_of c.args.text.now))
+    (first ∙ ap (λ k. read_end k (stands c.in_ok-first.rest)) drawn) c.in_err-tape.ensures.read)
 
 pub returns-clause-only : goal.returns-clause-only
-returns-clause-only c input s b =
-    let script = the_some c.in_ok-script.field-0
-    (λ x. (x.0 ≡ input.first) × (lines_of x.1.now ≡ s.rest))
-    (c.in-Some.script, c.in-Some.rest) c.in-Some.is
-    (c.in_ok-script.ensures.only input.first s.rest s.script b.script)
-    in
-    let drawn = drawn_tape input.first.shape input.first.keys s.rest input.tape b.script.drawn
-    s.tape in
-    let begins = subst (λ ls. BeginsWithTape ls drawn.bytes []) (sym script.1) drawn.begins in
-    let read = the_some c.in_ok-tape.field-0
-    (λ x. (x.0.bytes ≡ take c.tape_len-want.result drawn.bytes)
-    × (x.0.got ≡ min (length drawn.bytes) (2 ^ 64 - 1)) × (lines_of x.1.now ≡ []))
-    (c.in-Some-2.tape, c.in-Some-2.rest) c.in-Some-2.is
-    (c.in_ok-tape.ensures.only drawn.bytes [] begins)
-    in
-    let whole = tape_length input.first.shape input.tape drawn.bytes drawn.whole b.tape_counted in
-    let short = (built_shape input.first b.script).tape_short in
-    let same = ap (λ (S : Script). tape_len S.shape) script.0 in
-    let want : c.tape_len-want.result ≡ tape_len c.in-Some.script.shape = search rules in
-    let kept = read.0 ∙ ap (λ n. take n drawn.bytes) (want ∙ same) in
-    let counted : c.in-Some-2.tape.got ≡ length drawn.bytes = omega (arith, read.1, whole, short) in
-    let tape = ap Some (same_tape c.in-Some-2.tape (raw_tape input.first.shape drawn.bytes) kept
-    counted) ∙ sym drawn.whole in
-    ap Some (same_input (record { first = c.in-Some.script; tape = Some c.in-Some-2.tape }) input
-    script.0 tape)
+returns-clause-only c input built s =
+    let drawn : is_some c.in_ok-first.first.keys ≡ false = search rules in
+    let begins = subst (λ ls. BeginsWithScript ls input.first s.rest)
+    (sym (ap lines_of c.front.ensures.whole)) s.script in
+    let script = c.in_ok-first.ensures.only input.first s.rest built begins in
+    let tape = drawn_tape input.first.shape input.first.keys s.rest input.tape
+    (ap (λ (S : Script). is_some S.keys) (sym script.0) ∙ drawn) s.tape in
+    let same = c.in_ok-tape.ensures.only tape.value (drawn_here c.in_ok-first.first.shape
+    input.first.shape
+    (lines_of c.in_ok-first.rest.rest.now) s.rest tape.value
+    (ap (λ (S : Script). S.shape) script.0) script.1 tape.spelled) in
+    same_input (record { first = c.in_ok-first.first; tape = Some c.in_ok-tape.tape }) input
+    script.0 (ap Some same ∙ sym tape.is)
 
 pub returns-clause-found : goal.returns-clause-found
 returns-clause-found c =
-    let script = if_some c.in_ok-script.field-0
-    (λ x. BeginsWithScript (lines_of c.args.text.now) x.0 (lines_of x.1.now))
-    (c.in-Some.script, c.in-Some.rest) c.in-Some.is c.in_ok-script.ensures.found
-    in
-    let built = if_some c.in_ok-script.field-0 (λ x. IsBuiltScript x.0)
-    (c.in-Some.script, c.in-Some.rest) c.in-Some.is
-    c.in_ok-script.ensures.built
-    in
-    let tape = if_some c.in_ok-tape.field-0
-    (λ x. (bytes : List ℕ) × BeginsWithTape (lines_of c.in-Some.rest.now) bytes (lines_of x.1.now)
-    × (x.0.bytes ≡ take c.tape_len-want.result bytes) × (x.0.got ≡ min (length bytes) (2 ^ 64 - 1)))
-    (c.in-Some-2.tape, c.in-Some-2.rest) c.in-Some-2.is c.in_ok-tape.ensures.found
-    in
-    let want : c.tape_len-want.result ≡ tape_len c.in-Some.script.shape = search rules in
-    let counted : c.in-Some-2.tape.got ≡ tape_len c.in-Some.script.shape =
-    omega (arith, c.if-tape-want.false, want)
-    in
-    let last = empty_lines c.in-Some-2.rest.now (search rules) in
+    let drawn : is_some c.in_ok-first.first.keys ≡ false = search rules in
+    let begins = subst (λ ls. BeginsWithScript ls c.in_ok-first.first
+    (lines_of c.in_ok-first.rest.rest.now)) (ap lines_of c.front.ensures.whole)
+    c.in_ok-first.ensures.found in
     record {
-      rest = lines_of c.in-Some.rest.now;
-      script = script;
-      tape = tape_found c.in-Some.script.shape c.in-Some.script.keys (lines_of c.in-Some.rest.now)
-          (lines_of c.in-Some-2.rest.now)
-          c.in-Some-2.tape tape.0 built.drawn tape.1 last (tape.2 ∙ ap (λ n. take n tape.0) want)
-          tape.3
-          counted (built_shape c.in-Some.script built).tape_short;
+      rest = lines_of c.in_ok-first.rest.rest.now;
+      script = begins;
+      tape = tape_of_drawn c.in_ok-first.first.shape c.in_ok-first.first.keys
+          (lines_of c.in_ok-first.rest.rest.now) c.in_ok-tape.tape drawn c.in_ok-tape.ensures.found;
     }
 
-pub returns-in_default-clause-only : goal.returns-in_default-clause-only
-returns-in_default-clause-only c input s b =
-    absurd (never c.in_ok-script.field-0 (λ x. (x.0 ≡ input.first) × (lines_of x.1.now ≡ s.rest))
-    c.in_default.is
-    (c.in_ok-script.ensures.only input.first s.rest s.script b.script))
+pub returns-clause-read : goal.returns-clause-read
+returns-clause-read c =
+    let drawn : is_some c.in_ok-first.first.keys ≡ false = search rules in
+    let at = same_place (stands c.front.result) (front (lines_of c.args.text.now))
+    c.front.ensures.number (ap lines_of c.front.ensures.whole) in
+    let first = input_script (lines_of c.args.text.now) (is_some c.in_ok-first.first.keys)
+    (stands c.in_ok-first.rest) (ap read_script (sym at) ∙ c.in_ok-first.ensures.read) in
+    first ∙ ap (λ k. read_end k (stands c.in_ok-first.rest)) drawn ∙ c.in_ok-tape.ensures.read

@@ -1,0 +1,185 @@
+-- What is said of a line, part by part.
+use Rattle.std.proofs.Common.{◌≡◌, ◌≢◌, ℕ, zero, suc, ◌<◌, ◌≤◌, List, [], ◌∷◌, length, drop, get_or, codes, cond, Bool, true, false, ◌&&◌, IsTrue, Option, Some, None, Ok, Err, refl, ap, sym, ◌∙◌, subst, arith, eq-eqb, ne_eqb}
+use Rattle.std.specs.Prelude.{nat_le, nat_lt, not, ◌==◌}
+use Rattle.std.specs.List.{list_all}
+use Rattle.std.specs.Str.{bytes_eq}
+use Rattle.std.proofs.lemmas.Slice.Eq.{bytes_eq-Decides}
+use Rattle.std.proofs.lemmas.Bool.Decides.{nat_tests}
+use Rattle.tk_shape.specs.declared.field.Field.{Field}
+use Rattle.tk_shape.specs.declared.shape.Shape.{Shape}
+use Rattle.tk_shape.specs.Limits.{Numbers, limit, broken, numbers_in}
+use Rattle.tk_shape.specs.Numbers.{numbers_of}
+use Rattle.tk_shape.specs.declared.field.Field.TheVariants as field
+use Rattle.tk_shape.specs.Lengths.{tape_len}
+use Rattle.tk_script.specs.declared.cause.Cause.TheVariants as cause
+use Rattle.tk_script.specs.declared.role.Role.{Role}
+use Rattle.tk_script.specs.Fields.{LacksSpace}
+use Rattle.tk_script.specs.SoundScript.{is_ascending, is_role}
+use Rattle.tk_script.specs.Reading.{named, if_built, unbroken, read_numbers, drawn_if, read_kind, first_from, in_order, read_clients}
+use Rattle.tk_script.proofs.SoundLaws.{both, parts}
+
+-- ---- words
+
+no_space : (x : ℕ) → not (x == 0x20) ≡ true → x ≡ 0x20 → ⊥
+no_space x t e = absurd (cc (t, ap not (eq-eqb x 0x20 e)))
+
+-- a word of which each byte passes has no space
+pub lacks_by_test : (xs : List ℕ) → list_all (λ b. not (b == 0x20)) xs ≡ true → LacksSpace xs
+lacks_by_test [] t k within e = omega (arith, within)
+lacks_by_test (x ∷ xs) t zero within e =
+    no_space x (parts (not (x == 0x20)) (list_all (λ b. not (b == 0x20)) xs) t).0 e
+lacks_by_test (x ∷ xs) t (suc k) within e =
+    lacks_by_test xs (parts (not (x == 0x20)) (list_all (λ b. not (b == 0x20)) xs) t).1 k
+    (omega (arith, within)) e
+
+-- ---- the shape line
+
+pub read_numbers-kept : (ns : List ℕ) (z : Shape) → numbers_of z ≡ ns →
+    broken (numbers_in ns) ≡ None → read_numbers (Some ns) ≡ if_built (named z)
+read_numbers-kept ns z e kept =
+    subst (λ ms. broken (numbers_in ms) ≡ None → read_numbers (Some ms) ≡ if_built (named z)) e
+    (λ k. ap (unbroken (named z)) k) kept
+
+fits_bucket : (n : Numbers) → n.retained ≤ n.depth → nat_le n.retained n.depth ≡ true
+fits_bucket n h = grind (arith, nat_tests)
+
+beyond_bucket : (n : Numbers) → n.depth < n.retained → nat_le n.retained n.depth ≡ false
+beyond_bucket n h = grind (arith, nat_tests)
+
+pub built : (n : Numbers) → n.retained ≤ n.depth → n.ahead ≡ 0 → if_built n ≡ Ok n
+built n h e = rw (fits_bucket n h, eq-eqb n.ahead 0 e) refl
+
+pub retains_more : (n : Numbers) → n.depth < n.retained → if_built n ≡ Err cause.NotBuilt
+retains_more n h = rw (beyond_bucket n h) refl
+
+and_false : (b : Bool) → b && false ≡ false
+and_false true = refl
+and_false false = refl
+
+pub reads_ahead : (n : Numbers) → n.ahead ≢ 0 → if_built n ≡ Err cause.NotBuilt
+reads_ahead n h =
+    rw (ne_eqb n.ahead 0 h, and_false (nat_le n.retained n.depth)) refl
+
+pub read_numbers-broken : (ns : List ℕ) (f : Field) (v : ℕ) → length ns ≡ 12 →
+    broken (numbers_in ns) ≡ Some (limit f v false) →
+    read_numbers (Some ns) ≡ Err (cause.Shape f v)
+read_numbers-broken ns f v twelve b =
+    rw (eq-eqb (length ns) 12 twelve) (ap (unbroken (numbers_in ns)) b)
+
+pub read_numbers-few : (ns : List ℕ) → length ns ≢ 12 → read_numbers (Some ns) ≡ Err cause.Form
+read_numbers-few ns other = rw (ne_eqb (length ns) 12 other) refl
+
+-- ---- the line of the kind
+
+pub bool_false : (b : Bool) → (IsTrue b → ⊥) → b ≡ false
+bool_false true never = absurd (never refl)
+bool_false false never = refl
+
+pub differ : (xs ys : List ℕ) → (xs ≡ ys → ⊥) → bytes_eq xs ys ≡ false
+differ xs ys other = bool_false (bytes_eq xs ys) (λ t. other ((bytes_eq-Decides xs ys).0 t))
+
+pub read_kind-form : (n : Numbers) (line : List ℕ) → (line ≡ codes "drawn" → ⊥) →
+    (line ≡ codes "keyed" → ⊥) → read_kind n line ≡ Err cause.Form
+read_kind-form n line drawn keyed =
+    rw (differ line (codes "drawn") drawn, differ line (codes "keyed") keyed) refl
+
+short_size : (n : ℕ) → n ≤ 2097152 → nat_le n 2097152 ≡ true
+short_size n h = grind (arith, nat_tests)
+
+long_size : (n : ℕ) → 2097152 < n → nat_le n 2097152 ≡ false
+long_size n h = grind (arith, nat_tests)
+
+drawn_short : (n : ℕ) → n ≤ 2097152 → drawn_if n ≡ Ok false
+drawn_short n h = rw (short_size n h) refl
+
+drawn_long : (n : ℕ) → 2097152 < n → drawn_if n ≡ Err (cause.Shape field.Tape n)
+drawn_long n h = rw (long_size n h) refl
+
+drawn_line : (z : Shape) (line : List ℕ) → line ≡ codes "drawn" →
+    read_kind (named z) line ≡ drawn_if (tape_len z)
+drawn_line z line e = ap (read_kind (named z)) e
+
+pub read_kind-drawn : (z : Shape) (line : List ℕ) (size : ℕ) → line ≡ codes "drawn" →
+    size ≡ tape_len z → size ≤ 2097152 → read_kind (named z) line ≡ Ok false
+read_kind-drawn z line size e value short =
+    drawn_line z line e ∙ ap drawn_if (sym value) ∙ drawn_short size short
+
+pub read_kind-long : (z : Shape) (line : List ℕ) (size : ℕ) → line ≡ codes "drawn" →
+    size ≡ tape_len z → 2097152 < size →
+    read_kind (named z) line ≡ Err (cause.Shape field.Tape size)
+read_kind-long z line size e value long =
+    drawn_line z line e ∙ ap drawn_if (sym value) ∙ drawn_long size long
+
+-- ---- the line of a log
+
+pub read_clients-none : (n : Numbers) (ns : List ℕ) → length ns < 1 →
+    read_clients n (Some ns) ≡ Err cause.Form
+read_clients-none n [] none = refl
+read_clients-none n (w ∷ fs) none = absurd (omega (arith, none))
+
+pub read_clients-number : (n : Numbers) (ns : List ℕ) (k : ℕ) → first_from n.clients ns ≡ Some k →
+    read_clients n (Some ns) ≡ Err (cause.Number k)
+read_clients-number n [] k e = absurd (cc e)
+read_clients-number n (w ∷ fs) k e = ap (in_order fs) e
+
+pub read_clients-order : (n : Numbers) (ns : List ℕ) (w : ℕ) (fs : List ℕ) → ns ≡ w ∷ fs →
+    first_from n.clients ns ≡ None → is_ascending fs ≡ false →
+    read_clients n (Some ns) ≡ Err cause.Order
+read_clients-order n ns w fs e none falls =
+    ap (λ ms. read_clients n (Some ms)) e
+    ∙ ap (in_order fs) (ap (first_from n.clients) (sym e) ∙ none) ∙ rw falls refl
+
+-- the first item and the rest
+pub one_in_front : (ns : List ℕ) → 1 ≤ length ns → ns ≡ get_or ns 0 0 ∷ drop 1 ns
+one_in_front [] some = absurd (omega (arith, some))
+one_in_front (n ∷ ns) some = refl
+
+none_test : (b : Bool) (k : ℕ) (o : Option ℕ) → cond b (Some k) o ≡ None →
+    (b ≡ false) × (o ≡ None)
+none_test true k o e = absurd (cc e)
+none_test false k o e = (refl, e)
+
+below : (n k : ℕ) → nat_le n k ≡ false → nat_lt k n ≡ true
+below n k h = grind (arith, nat_tests)
+
+not_from : (n k : ℕ) → nat_lt k n ≡ true → nat_le n k ≡ false
+not_from n k h = grind (arith, nat_tests)
+
+pub all_below-none : (n : ℕ) (ns : List ℕ) → first_from n ns ≡ None →
+    IsTrue (list_all (λ k. nat_lt k n) ns)
+all_below-none n [] e = refl
+all_below-none n (k ∷ ns) e =
+    let test = none_test (nat_le n k) k (first_from n ns) e in
+    both (nat_lt k n) (list_all (λ m. nat_lt m n) ns) (below n k test.0)
+    (all_below-none n ns test.1)
+
+pub none_from : (n : ℕ) (ns : List ℕ) → IsTrue (list_all (λ k. nat_lt k n) ns) →
+    first_from n ns ≡ None
+none_from n [] all = refl
+none_from n (k ∷ ns) all =
+    let split = parts (nat_lt k n) (list_all (λ m. nat_lt m n) ns) all in
+    rw (not_from n k split.0) (none_from n ns split.1)
+
+-- a writer and followers in range that ascend are a role
+pub role_sound : (shape : Shape) (w : ℕ) (fs : List ℕ) →
+    first_from shape.clients (w ∷ fs) ≡ None → is_ascending fs ≡ true →
+    IsTrue (is_role shape (record { writer = w; followers = fs }))
+role_sound shape w fs none ascends =
+    both (nat_lt w shape.clients && list_all (λ k. nat_lt k shape.clients) fs) (is_ascending fs)
+    (all_below-none shape.clients (w ∷ fs) none) ascends
+
+-- a role's clients are in range, and its followers ascend
+pub role_parts : (shape : Shape) (role : Role) (ns : List ℕ) → ns ≡ role.writer ∷ role.followers →
+    IsTrue (is_role shape role) →
+    (first_from shape.clients ns ≡ None) × (is_ascending role.followers ≡ true)
+role_parts shape role ns e sound =
+    let split = parts
+    (nat_lt role.writer shape.clients && list_all (λ k. nat_lt k shape.clients) role.followers)
+    (is_ascending role.followers) sound in (
+      ap (first_from shape.clients) e
+          ∙ none_from shape.clients (role.writer ∷ role.followers) split.0,
+      split.1,
+    )
+
+pub tail_is : (ns : List ℕ) (w : ℕ) (fs : List ℕ) → ns ≡ w ∷ fs → drop 1 ns ≡ fs
+tail_is ns w fs e = ap (drop 1) e

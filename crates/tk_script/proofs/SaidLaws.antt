@@ -1,0 +1,315 @@
+-- What is said of the line of a text.
+use Rattle.std.proofs.Common.{◌≡◌, ◌↔◌, ℕ, suc, ◌+◌, ◌-◌, ◌<◌, ◌≤◌, ◌^◌, List, [], ◌∷◌, ◌++◌, length, decimal, codes, cond, Bool, true, false, ◌&&◌, IsTrue, Option, Some, None, Ok, Err, refl, ap, sym, ◌∙◌, subst, arith, eqb}
+use Rattle.std.specs.Prelude.{nat_le, nat_lt, slice_get, IsNone}
+use Rattle.std.specs.List.{join_with_byte, onto_first}
+use Rattle.std.specs.Str.{bytes_eq}
+use Rattle.std.proofs.lemmas.Bool.Decides.{nat_tests}
+use Rattle.std.proofs.lemmas.List.Splits.{join_with_byte-slice_split}
+use Rattle.std.proofs.lemmas.Slice.Eq.{bytes_eq-Decides}
+use Rattle.tk_shape.specs.declared.shape.Shape.{Shape}
+use Rattle.tk_shape.specs.Limits.{Numbers, is_between}
+use Rattle.tk_seal.specs.Texts.{is_allowed, allowed_front}
+use Rattle.tk_script.specs.declared.cause.Cause.TheVariants as cause
+use Rattle.tk_script.specs.declared.say.Say.{Say}
+use Rattle.tk_script.specs.Grammar.{Line, fields, say_line}
+use Rattle.tk_script.specs.SoundScript.{is_say, is_said_by, are_in_order}
+use Rattle.tk_script.specs.Reading.{Reads, parts_of, number_spelled, number_before, numbers_spelled, named, When, is_by, last_when, out_of_range, in_room, said_behind, said, say_numbers, say_parts, read_say}
+use Rattle.tk_script.proofs.CauseLaws.{lacks_by_test, bool_false}
+use Rattle.tk_script.proofs.FieldLaws.{LacksSpace-decimal}
+use Rattle.tk_script.proofs.PartLaws.{split_field, number_spelled-decimal, numbers_spelled-are}
+use Rattle.tk_script.proofs.SoundLaws.{both, parts}
+
+-- ---- the order
+
+zero_by : (p t : ℕ) → is_by (0, 0) (p, t) ≡ true
+zero_by p t = grind (arith, nat_tests)
+
+and_true : (a : Bool) → (a && true) ≡ a
+and_true true = refl
+and_true false = refl
+
+-- a text may come behind others where it is said no earlier than the last
+pub in_order_push : (says : List Say) (y : Say) → IsTrue (are_in_order says) →
+    is_by (last_when says) (y.phase, y.tick) ≡ are_in_order (says ++ y ∷ [])
+in_order_push [] y ordered = zero_by y.phase y.tick
+in_order_push (a ∷ []) y ordered = sym (and_true (is_said_by a y))
+in_order_push (a ∷ b ∷ says) y ordered =
+    let split = parts (is_said_by a b) (are_in_order (b ∷ says)) ordered in
+    in_order_push (b ∷ says) y split.1
+    ∙ ap (λ t. t && are_in_order (b ∷ (says ++ y ∷ []))) (sym split.0)
+
+some_same : (x y : Say) → Some x ≡ Some y → x ≡ y
+some_same x y e = cc e
+
+pub last_when-is : (says : List Say) (last : Say) → slice_get says (length says - 1) ≡ Some last →
+    last_when says ≡ (last.phase, last.tick)
+last_when-is [] last at = absurd (cc at)
+last_when-is (a ∷ []) last at = ap (λ (s : Say). (s.phase, s.tick)) (some_same a last at)
+last_when-is (a ∷ b ∷ says) last at =
+    let shift : length (a ∷ b ∷ says) - 1 ≡ suc (length (b ∷ says) - 1) = omega arith in
+    last_when-is (b ∷ says) last (ap (slice_get (a ∷ b ∷ says)) (sym shift) ∙ at)
+
+pub last_when-none : (says : List Say) → length says ≡ 0 → last_when says ≡ (0, 0)
+last_when-none [] none = refl
+last_when-none (a ∷ says) none = absurd (omega (arith, none))
+
+-- ---- the parts
+
+some_by : (t : Bool) (b : ℕ) (ps : List (List ℕ)) →
+    (x : List ℕ) × (xs : List (List ℕ)) × (cond t ([] ∷ ps) (onto_first b ps) ≡ x ∷ xs)
+some_by true b ps = ([], ps, refl)
+some_by false b [] = (b ∷ [], [], refl)
+some_by false b (p ∷ ps) = (b ∷ p, ps, refl)
+
+some_parts : (text : List ℕ) →
+    (x : List ℕ) × (xs : List (List ℕ)) × (parts_of text ≡ x ∷ xs)
+some_parts [] = ([], [], refl)
+some_parts (b ∷ bs) = some_by (eqb b 0x20) b (parts_of bs)
+
+-- the line of a phase, a tick, a log and a text
+abbrev pub line_by : ℕ → ℕ → ℕ → List ℕ → Line
+line_by p t g text = say_line (record { phase = p; tick = t; log = g; text = text })
+
+parts_of-say : (p t g : ℕ) (text : List ℕ) → p < 2 ^ 32 → t < 2 ^ 32 → g < 2 ^ 32 →
+    parts_of (line_by p t g text)
+    ≡ codes "say" ∷ decimal p ∷ decimal t ∷ decimal g ∷ parts_of text
+parts_of-say p t g text sp st sg =
+    let third = split_field (decimal g) text (LacksSpace-decimal g sg) in
+    let second = split_field (decimal t) (decimal g ++ 0x20 ∷ text) (LacksSpace-decimal t st)
+    ∙ ap (λ r. decimal t ∷ r) third in
+    let first = split_field (decimal p) (decimal t ++ 0x20 ∷ (decimal g ++ 0x20 ∷ text))
+    (LacksSpace-decimal p sp) ∙ ap (λ r. decimal p ∷ r) second in
+    split_field (codes "say") (decimal p ++ 0x20 ∷ (decimal t ++ 0x20 ∷ (decimal g ++ 0x20 ∷ text)))
+    (lacks_by_test (codes "say") refl)
+    ∙ ap (λ r. codes "say" ∷ r) first
+
+three_numbers : (p t g : ℕ) → p < 2 ^ 32 → t < 2 ^ 32 → g < 2 ^ 32 →
+    numbers_spelled (decimal p ∷ decimal t ∷ decimal g ∷ []) ≡ Some (p ∷ t ∷ g ∷ [])
+three_numbers p t g sp st sg =
+    ap (λ o. number_before o (number_before (number_spelled (decimal t))
+    (number_before (number_spelled (decimal g)) (Some [])))) (number_spelled-decimal p sp)
+    ∙ ap (λ o. number_before (Some p) (number_before o
+    (number_before (number_spelled (decimal g)) (Some [])))) (number_spelled-decimal t st)
+    ∙ ap (λ o. number_before (Some p) (number_before (Some t) (number_before o (Some []))))
+    (number_spelled-decimal g sg)
+
+-- what is said of such a line
+pub read_say-said : (n : Numbers) (last : When) (line : Line) (p t g : ℕ) (text : List ℕ) →
+    p < 2 ^ 32 → t < 2 ^ 32 → g < 2 ^ 32 → line ≡ line_by p t g text →
+    read_say n last line ≡ said n last p t g text
+read_say-said n last line p t g text sp st sg e =
+    let h = some_parts text in
+    let joined = ap (join_with_byte 0x20) (sym h.2) ∙ join_with_byte-slice_split 0x20 text in
+    ap (read_say n last) e
+    ∙ ap (say_parts n last) (parts_of-say p t g text sp st sg
+    ∙ ap (λ r. codes "say" ∷ decimal p ∷ decimal t ∷ decimal g ∷ r) h.2)
+    ∙ ap (say_numbers n last (join_with_byte 0x20 (h.0 ∷ h.1))) (three_numbers p t g sp st sg)
+    ∙ ap (said n last p t g) joined
+
+-- a line of no text
+abbrev pub IsNoSay : Line → Type 0
+IsNoSay line = (p t g : ℕ) (text : List ℕ) → p < 2 ^ 32 → t < 2 ^ 32 → g < 2 ^ 32 →
+    line ≡ line_by p t g text → ⊥
+
+four : (p t g : List ℕ) (a b c : List ℕ) (rest : List (List ℕ)) (x : List ℕ) →
+    p ∷ t ∷ g ∷ [] ≡ a ∷ b ∷ c ∷ [] →
+    fields (codes "say" ∷ p ∷ t ∷ g ∷ x ∷ rest) ≡ fields (codes "say" ∷ a ∷ b ∷ c ∷ x ∷ rest)
+four p t g a b c rest x e =
+    let first : p ≡ a = cc e in
+    let second : t ≡ b = cc e in
+    let third : g ≡ c = cc e in
+    λ i. fields (codes "say" ∷ first i ∷ second i ∷ third i ∷ x ∷ rest)
+
+numbers_form : (n : Numbers) (last : When) (p t g x : List ℕ) (rest : List (List ℕ))
+    (o : Option (List ℕ)) → numbers_spelled (p ∷ t ∷ g ∷ []) ≡ o →
+    IsNoSay (fields (codes "say" ∷ p ∷ t ∷ g ∷ x ∷ rest)) →
+    say_numbers n last (join_with_byte 0x20 (x ∷ rest)) o ≡ Err cause.Form
+numbers_form n last p t g x rest None e never = refl
+numbers_form n last p t g x rest (Some []) e never = refl
+numbers_form n last p t g x rest (Some (a ∷ [])) e never = refl
+numbers_form n last p t g x rest (Some (a ∷ b ∷ [])) e never = refl
+numbers_form n last p t g x rest (Some (a ∷ b ∷ c ∷ [])) e never =
+    let h = numbers_spelled-are (p ∷ t ∷ g ∷ []) (a ∷ b ∷ c ∷ []) e in
+    absurd (never a b c (join_with_byte 0x20 (x ∷ rest)) h.1.0 h.1.1.0 h.1.1.1.0
+    (four p t g (decimal a) (decimal b) (decimal c) rest x h.0))
+numbers_form n last p t g x rest (Some (a ∷ b ∷ c ∷ more ∷ ns)) e never = refl
+
+when_form : (b : Bool) (r : Reads When) → (IsTrue b → r ≡ Err cause.Form) →
+    cond b r (Err cause.Form) ≡ Err cause.Form
+when_form true r f = f refl
+when_form false r f = refl
+
+parts_form : (n : Numbers) (last : When) (ps : List (List ℕ)) → IsNoSay (fields ps) →
+    say_parts n last ps ≡ Err cause.Form
+parts_form n last [] never = refl
+parts_form n last (w ∷ []) never = refl
+parts_form n last (w ∷ p ∷ []) never = refl
+parts_form n last (w ∷ p ∷ t ∷ []) never = refl
+parts_form n last (w ∷ p ∷ t ∷ g ∷ []) never = refl
+parts_form n last (w ∷ p ∷ t ∷ g ∷ x ∷ rest) never =
+    when_form (bytes_eq w (codes "say"))
+    (say_numbers n last (join_with_byte 0x20 (x ∷ rest)) (numbers_spelled (p ∷ t ∷ g ∷ [])))
+    (λ test. numbers_form n last p t g x rest (numbers_spelled (p ∷ t ∷ g ∷ [])) refl
+    (subst (λ v. IsNoSay (fields (v ∷ p ∷ t ∷ g ∷ x ∷ rest)))
+    ((bytes_eq-Decides w (codes "say")).0 test) never))
+
+pub read_say-form : (n : Numbers) (last : When) (line : Line) → IsNoSay line →
+    read_say n last line ≡ Err cause.Form
+read_say-form n last line never =
+    parts_form n last (parts_of line)
+    (subst IsNoSay (sym (join_with_byte-slice_split 0x20 line)) never)
+
+-- ---- what is tried
+
+pub said_number : (n : Numbers) (last when : When) (text : List ℕ) (o : Option ℕ) (k : ℕ) →
+    o ≡ Some k → said_behind n last when text o ≡ Err (cause.Number k)
+said_number n last when text o k e = ap (said_behind n last when text) e
+
+pub said_order : (n : Numbers) (last when : When) (text : List ℕ) (o : Option ℕ) → o ≡ None →
+    is_by last when ≡ false → said_behind n last when text o ≡ Err cause.Order
+said_order n last when text o e early = ap (said_behind n last when text) e ∙ rw early refl
+
+in_time : (n : Numbers) (last when : When) (text : List ℕ) (o : Option ℕ) → o ≡ None →
+    is_by last when ≡ true → said_behind n last when text o ≡ in_room (n.block - 18) when text
+in_time n last when text o e by = ap (said_behind n last when text) e ∙ rw by refl
+
+too_long : (n room : ℕ) → room < n → nat_le n room ≡ false
+too_long n room h = grind (arith, nat_tests)
+
+has_room : (n room : ℕ) → n ≤ room → nat_le n room ≡ true
+has_room n room h = grind (arith, nat_tests)
+
+pub said_room : (n : Numbers) (last when : When) (text : List ℕ) (o : Option ℕ) → o ≡ None →
+    is_by last when ≡ true → n.block - 18 < length text →
+    said_behind n last when text o ≡ Err (cause.Room (n.block - 18))
+said_room n last when text o e by long =
+    in_time n last when text o e by ∙ rw (too_long (length text) (n.block - 18) long) refl
+
+fits : (room : ℕ) (when : When) (text : List ℕ) → length text ≤ room →
+    in_room room when text ≡ cond (is_allowed text) (Ok when)
+    (Err (cause.Text (allowed_front (length text) text)))
+fits room when text h = rw (has_room (length text) room h) refl
+
+pub said_text : (n : Numbers) (last when : When) (text : List ℕ) (o : Option ℕ) (at : ℕ) →
+    o ≡ None → is_by last when ≡ true → length text ≤ n.block - 18 → is_allowed text ≡ false →
+    at ≡ allowed_front (length text) text →
+    said_behind n last when text o ≡ Err (cause.Text at)
+said_text n last when text o at e by short bad front =
+    in_time n last when text o e by ∙ fits (n.block - 18) when text short
+    ∙ rw bad (ap (λ k. Err (cause.Text k)) (sym front))
+
+pub said_well : (n : Numbers) (last when : When) (text : List ℕ) (o : Option ℕ) →
+    o ≡ None → is_by last when ≡ true → length text ≤ n.block - 18 → is_allowed text ≡ true →
+    said_behind n last when text o ≡ Ok when
+said_well n last when text o e by short good =
+    in_time n last when text o e by ∙ fits (n.block - 18) when text short ∙ rw good refl
+
+is_some_not : (o : Option ℕ) (at : ℕ) → o ≡ Some at → IsNone o → ⊥
+is_some_not None at e none = absurd (cc e)
+is_some_not (Some x) at e none = absurd (cc none)
+
+pub not_allowed : (o : Option ℕ) (at : ℕ) (b : Bool) → o ≡ Some at → (IsNone o ↔ IsTrue b) →
+    b ≡ false
+not_allowed o at b e h = bool_false b (λ t. is_some_not o at e (h.1 t))
+
+-- ---- what passes
+
+range_test : (a b c : Bool) (p t g : ℕ) →
+    cond a (cond b (cond c None (Some g)) (Some t)) (Some p) ≡ None →
+    IsTrue a × IsTrue b × IsTrue c
+range_test true true true p t g e = (refl, refl, refl)
+range_test true true false p t g e = absurd (cc e)
+range_test true false c p t g e = absurd (cc e)
+range_test false b c p t g e = absurd (cc e)
+
+say_room : (size block : ℕ) → 24 ≤ block → size ≤ block - 18 → nat_le (size + 18) block ≡ true
+say_room size block low h = grind (arith, nat_tests)
+
+room_say : (size block : ℕ) → nat_le (size + 18) block ≡ true → size ≤ block - 18
+room_say size block h = grind (arith, nat_tests)
+
+-- a text with its numbers in range, room and bytes that may be sent
+pub is_say-by : (shape : Shape) (say : Say) →
+    out_of_range (named shape) say.phase say.tick say.log ≡ None →
+    length say.text ≤ shape.block - 18 → is_allowed say.text ≡ true → IsTrue (is_say shape say)
+is_say-by shape say none short good =
+    let range = range_test (is_between 1 shape.phases say.phase) (is_between 1 shape.ticks say.tick)
+    (nat_lt say.log shape.logs) say.phase say.tick say.log none in
+    let phase = parts (nat_le 1 say.phase) (nat_le say.phase shape.phases) range.0 in
+    let tick = parts (nat_le 1 say.tick) (nat_le say.tick shape.ticks) range.1 in
+    let room = say_room (length say.text) shape.block shape.in_range.block_low short in
+    both _ (is_allowed say.text)
+    (both _ (nat_le (length say.text + 18) shape.block)
+    (both _ (nat_lt say.log shape.logs)
+    (both _ (nat_le say.tick shape.ticks)
+    (both (nat_le 1 say.phase && nat_le say.phase shape.phases) (nat_le 1 say.tick) range.0 tick.0)
+    tick.1) range.2) room) good
+
+-- what holds of a text that may be said
+pub record MaySay (shape : Shape) (say : Say) : Type 0 where
+  pub range : out_of_range (named shape) say.phase say.tick say.log ≡ None
+  pub short : length say.text ≤ shape.block - 18
+  pub good : is_allowed say.text ≡ true
+
+in_range : (a b c : Bool) (p t g : ℕ) → a ≡ true → b ≡ true → c ≡ true →
+    cond a (cond b (cond c None (Some g)) (Some t)) (Some p) ≡ None
+in_range a b c p t g x y z = rw (x, y, z) refl
+
+pub may_say : (shape : Shape) (say : Say) → IsTrue (is_say shape say) → MaySay shape say
+may_say shape say sound =
+    let g = parts _ (is_allowed say.text) sound in
+    let f = parts _ (nat_le (length say.text + 18) shape.block) g.0 in
+    let e = parts _ (nat_lt say.log shape.logs) f.0 in
+    let d = parts _ (nat_le say.tick shape.ticks) e.0 in
+    let c = parts (nat_le 1 say.phase && nat_le say.phase shape.phases) (nat_le 1 say.tick) d.0 in
+    record {
+      range = in_range (is_between 1 shape.phases say.phase) (is_between 1 shape.ticks say.tick)
+          (nat_lt say.log shape.logs) say.phase say.tick say.log c.0
+          (both (nat_le 1 say.tick) (nat_le say.tick shape.ticks) c.1 d.1) e.1;
+      short = room_say (length say.text) shape.block f.1;
+      good = g.1;
+    }
+
+-- a text that may be said, and no earlier than the last, is said
+pub said_ok : (shape : Shape) (last : When) (say : Say) → IsTrue (is_say shape say) →
+    IsTrue (is_by last (say.phase, say.tick)) →
+    said (named shape) last say.phase say.tick say.log say.text ≡ Ok (say.phase, say.tick)
+said_ok shape last say sound by =
+    let h = may_say shape say sound in
+    said_well (named shape) last (say.phase, say.tick) say.text
+    (out_of_range (named shape) say.phase say.tick say.log) h.range by h.short h.good
+
+behind_test : (b : Bool) (r : Reads When) (w : When) → cond b r (Err cause.Order) ≡ Ok w →
+    IsTrue b × (r ≡ Ok w)
+behind_test true r w e = (refl, e)
+behind_test false r w e = absurd (cc e)
+
+room_test : (b c : Bool) (when w : When) (room at : ℕ) →
+    cond b (cond c (Ok when) (Err (cause.Text at))) (Err (cause.Room room)) ≡ Ok w →
+    IsTrue b × IsTrue c
+room_test true true when w room at e = (refl, refl)
+room_test true false when w room at e = absurd (cc e)
+room_test false c when w room at e = absurd (cc e)
+
+le_of : (a b : ℕ) → IsTrue (nat_le a b) → a ≤ b
+le_of a b h = grind (arith, nat_tests)
+
+said_parts : (shape : Shape) (last when w : When) (text : List ℕ) (o : Option ℕ) →
+    said_behind (named shape) last when text o ≡ Ok w →
+    (o ≡ None) × IsTrue (is_by last when) × (length text ≤ shape.block - 18)
+    × (is_allowed text ≡ true)
+said_parts shape last when w text (Some k) e = absurd (cc e)
+said_parts shape last when w text None e =
+    let by = behind_test (is_by last when) (in_room (shape.block - 18) when text) w e in
+    let room = room_test (nat_le (length text) (shape.block - 18)) (is_allowed text) when w
+    (shape.block - 18) (allowed_front (length text) text) by.1 in
+    (refl, by.0, le_of (length text) (shape.block - 18) room.0, room.1)
+
+-- a text that is said may be said
+pub said_is : (shape : Shape) (last : When) (say : Say) (w : When) →
+    said (named shape) last say.phase say.tick say.log say.text ≡ Ok w →
+    IsTrue (is_say shape say) × IsTrue (is_by last (say.phase, say.tick))
+said_is shape last say w e =
+    let h = said_parts shape last (say.phase, say.tick) w say.text
+    (out_of_range (named shape) say.phase say.tick say.log) e in
+    (is_say-by shape say h.0 h.2 h.3, h.1)

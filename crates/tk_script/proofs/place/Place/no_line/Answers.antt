@@ -1,0 +1,29 @@
+-- A text without lines is empty.
+use Rattle.std.proofs.Common.{◌<◌, length, ap, sym, subst, arith, rules}
+use Rattle.tk_script.specs.Answer.{IsRefusal}
+use Rattle.tk_script.specs.Grammar.{lines_of}
+use Rattle.tk_script.specs.Reading.{no_line}
+use Rattle.tk_script.proofs.LineLaws.{empty_lines, no_lines}
+use Rattle.tk_script.proofs.PlaceLaws.{no_line_here, line_here}
+use Rattle.tk_script.proofs.place.Place.no_line.Goals as goal
+
+pub returns-then-not-is_empty-clause-only : goal.returns-then-not-is_empty-clause-only
+returns-then-not-is_empty-clause-only c none =
+    let some : 0 < length c.args.self.rest.now = search rules in
+    absurd (omega (arith, ap length (no_lines c.args.self.rest.now none), some))
+
+pub returns-then-not-is_empty-clause-read : goal.returns-then-not-is_empty-clause-read
+returns-then-not-is_empty-clause-read c =
+    let some : 0 < length c.args.self.rest.now = search rules in
+    subst (λ e. IsRefusal e (no_line c.args.self.line (lines_of c.args.self.rest.now)))
+    (sym c.refused.ensures)
+    (line_here c.args.self.line (lines_of c.args.self.rest.now)
+    (λ none. absurd (omega (arith, ap length (no_lines c.args.self.rest.now none), some))))
+
+pub returns-clause-found : goal.returns-clause-found
+returns-clause-found c = empty_lines c.args.self.rest.now (search rules)
+
+pub returns-clause-read : goal.returns-clause-read
+returns-clause-read c =
+    no_line_here c.args.self.line (lines_of c.args.self.rest.now)
+    (empty_lines c.args.self.rest.now (search rules))

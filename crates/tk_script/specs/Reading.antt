@@ -1,0 +1,370 @@
+-- The first line of a text that is refused, and its cause.
+-- Within a line the causes are tried in the order of the definitions below.
+use Rattle.std.specs.Prelude.{◌≡◌, ℕ, zero, suc, ◌+◌, ◌-◌, ◌*◌, ◌/◌, nat_le, nat_lt, ◌==◌, ◌&&◌, ◌||◌, Bool, true, false, cond, List, [], ◌∷◌, length, find, codes, decimal, Option, Some, None, Result, Ok, Err}
+use Rattle.std.specs.List.{join_with_byte, slice_split}
+use Rattle.std.specs.Str.{bytes_eq}
+use Rattle.std.specs.Str.Parse.{digits_value}
+use Rattle.hex.specs.Hex.{decode_of}
+use Rattle.hex.specs.declared.error.FromHexError.{FromHexError}
+use Rattle.tk_shape.specs.declared.field.Field.TheVariants as field
+use Rattle.tk_shape.specs.declared.shape.Shape.{Shape}
+use Rattle.tk_shape.specs.Limits.{Numbers, Limit, broken, is_between, numbers_in}
+use Rattle.tk_shape.specs.Numbers.{numbers_of}
+use Rattle.tk_seal.specs.Texts.{is_allowed, allowed_front}
+use Rattle.tk_script.specs.declared.cause.Cause.{Cause}
+use Rattle.tk_script.specs.declared.cause.Cause.TheVariants as cause
+use Rattle.tk_script.specs.declared.say.Say.{Say}
+use Rattle.tk_script.specs.SoundScript.{is_ascending}
+use Rattle.tk_script.specs.Grammar.{Line}
+
+-- what a line gives, or the cause for which it is refused
+abbrev pub Reads : Type 0 → Type 0
+Reads X = Result X Cause
+
+-- a reader's answer says of the line what its definition says
+abbrev pub IsRead : {X Y : Type 0} → (X → Y) → Result X Cause → Reads Y → Type 0
+IsRead f (Ok x) said = said ≡ Ok (f x)
+IsRead f (Err c) said = said ≡ Err c
+
+-- the same, where a line is refused for its form alone
+abbrev pub IsTaken : {X : Type 0} → Option X → Reads (Unit {0}) → Type 0
+IsTaken (Some x) said = said ≡ Ok tt
+IsTaken None said = said ≡ Err cause.Form
+
+-- ---- fields
+
+-- the parts of a line between single spaces
+abbrev pub parts_of : Line → List (List ℕ)
+parts_of line = slice_split (λ b. b == 0x20) line
+
+-- this number, if it is of 32 bits and the text is its plain decimal
+abbrev pub number_if : ℕ → List ℕ → Option ℕ
+number_if n text = cond (nat_lt n 4294967296 && bytes_eq (decimal n) text) (Some n) None
+
+-- the number of 32 bits whose plain decimal a text is
+abbrev pub number_spelled : List ℕ → Option ℕ
+number_spelled text = number_if (digits_value 10 text) text
+
+abbrev pub number_before : Option ℕ → Option (List ℕ) → Option (List ℕ)
+number_before None ns = None
+number_before (Some n) None = None
+number_before (Some n) (Some ns) = Some (n ∷ ns)
+
+-- the numbers that these spell, each of them one
+abbrev pub numbers_spelled : List (List ℕ) → Option (List ℕ)
+numbers_spelled [] = Some []
+numbers_spelled (t ∷ ts) = number_before (number_spelled t) (numbers_spelled ts)
+
+-- the numbers behind a word
+abbrev pub word_then : List ℕ → List (List ℕ) → Option (List ℕ)
+word_then word [] = None
+word_then word (w ∷ ts) = cond (bytes_eq w word) (numbers_spelled ts) None
+
+-- the numbers of a line that is a word and numbers
+abbrev pub numbers_after : List ℕ → Line → Option (List ℕ)
+numbers_after word line = word_then word (parts_of line)
+
+-- ---- the shape line
+
+-- a shape's numbers by their names
+abbrev pub named : Shape → Numbers
+named shape = numbers_in (numbers_of shape)
+
+-- no more writes are retained than a bucket has slots, and no one reads ahead
+abbrev pub is_built : Numbers → Bool
+is_built n = nat_le n.retained n.depth && (n.ahead == 0)
+
+-- a shape within its limits, of which a run may not be built yet
+abbrev pub if_built : Numbers → Reads Numbers
+if_built n = cond (is_built n) (Ok n) (Err cause.NotBuilt)
+
+-- the first limit that is broken refuses the line
+abbrev pub unbroken : Numbers → Option Limit → Reads Numbers
+unbroken n None = if_built n
+unbroken n (Some l) = Err (cause.Shape l.field l.value)
+
+abbrev pub read_numbers : Option (List ℕ) → Reads Numbers
+read_numbers None = Err cause.Form
+read_numbers (Some ns) =
+    cond (length ns == 12) (unbroken (numbers_in ns) (broken (numbers_in ns))) (Err cause.Form)
+
+abbrev pub read_shape : Line → Reads Numbers
+read_shape line = read_numbers (numbers_after (codes "shape") line)
+
+-- ---- the line of the kind
+
+-- bytes of the tape of a drawn script of these numbers
+abbrev pub tape_in : Numbers → ℕ
+tape_in n =
+    let cell = 8 + 4 * n.hits + n.block in
+    let read = 8 + 2 * (n.servers - 1) * (n.buckets / 8) in
+    n.phases * n.ticks * (n.clients * (cell + read) + n.logs * cell)
+
+abbrev pub drawn_if : ℕ → Reads Bool
+drawn_if size =
+    cond (nat_le size 2097152) (Ok false) (Err (cause.Shape field.Tape size))
+
+-- whether the script is keyed
+abbrev pub read_kind : Numbers → Line → Reads Bool
+read_kind n line =
+    cond (bytes_eq line (codes "drawn")) (drawn_if (tape_in n))
+    (cond (bytes_eq line (codes "keyed")) (Ok true) (Err cause.Form))
+
+-- ---- the lines of the logs
+
+-- the first of these that isn't below n
+abbrev pub first_from : ℕ → List ℕ → Option ℕ
+first_from n ns = find (λ k. nat_le n k) ns
+
+-- a client out of range, else followers that don't ascend
+abbrev pub in_order : List ℕ → Option ℕ → Reads (Unit {0})
+in_order followers (Some k) = Err (cause.Number k)
+in_order followers None = cond (is_ascending followers) (Ok tt) (Err cause.Order)
+
+abbrev pub read_clients : Numbers → Option (List ℕ) → Reads (Unit {0})
+read_clients n None = Err cause.Form
+read_clients n (Some []) = Err cause.Form
+read_clients n (Some (writer ∷ followers)) =
+    in_order followers (first_from n.clients (writer ∷ followers))
+
+abbrev pub read_role : Numbers → Line → Reads (Unit {0})
+read_role n line = read_clients n (numbers_after (codes "log") line)
+
+-- ---- the lines of the keys
+
+abbrev pub bytes_found : Result (List ℕ) FromHexError → Option (List ℕ)
+bytes_found (Ok bytes) = Some bytes
+bytes_found (Err e) = None
+
+-- the bytes that a text spells in hexadecimal
+abbrev pub bytes_in : List ℕ → Option (List ℕ)
+bytes_in text = bytes_found (decode_of text)
+
+abbrev pub counted : ℕ → Option (List ℕ) → Reads (Unit {0})
+counted count None = Err cause.Form
+counted count (Some bytes) = cond (length bytes == count) (Ok tt) (Err cause.Form)
+
+-- a word, and this many bytes in hexadecimal
+abbrev pub read_hex : List ℕ → ℕ → List (List ℕ) → Reads (Unit {0})
+read_hex word count [] = Err cause.Form
+read_hex word count (w ∷ []) = Err cause.Form
+read_hex word count (w ∷ digits ∷ []) =
+    cond (bytes_eq w word) (counted count (bytes_in digits)) (Err cause.Form)
+read_hex word count (w ∷ digits ∷ more ∷ parts) = Err cause.Form
+
+abbrev pub read_bytes : List ℕ → ℕ → Line → Reads (Unit {0})
+read_bytes word count line = read_hex word count (parts_of line)
+
+abbrev pub read_handle : Line → Reads (Unit {0})
+read_handle line = read_bytes (codes "handle") 104 line
+
+abbrev pub read_seed : Line → Reads (Unit {0})
+read_seed line = read_bytes (codes "seed") 32 line
+
+-- ---- the lines of a tape
+
+abbrev pub in_piece : Option (List ℕ) → Reads (Unit {0})
+in_piece None = Err cause.Form
+in_piece (Some bytes) = cond (is_between 1 2048 (length bytes)) (Ok tt) (Err cause.Form)
+
+-- bytes in hexadecimal
+abbrev pub read_digits : List (List ℕ) → Reads (Unit {0})
+read_digits [] = Err cause.Form
+read_digits (digits ∷ []) = in_piece (bytes_in digits)
+read_digits (digits ∷ more ∷ parts) = Err cause.Form
+
+abbrev pub repeats : ℕ → Reads (Unit {0})
+repeats n = cond (is_between 1 2097152 n) (Ok tt) (Err (cause.Number n))
+
+abbrev pub repeated : Option (List ℕ) → Option ℕ → Reads (Unit {0})
+repeated None count = Err cause.Form
+repeated (Some []) count = Err cause.Form
+repeated (Some (b ∷ [])) None = Err cause.Form
+repeated (Some (b ∷ [])) (Some n) = repeats n
+repeated (Some (b ∷ more ∷ bytes)) count = Err cause.Form
+
+-- a byte, and how many times it is repeated
+abbrev pub read_fill : List (List ℕ) → Reads (Unit {0})
+read_fill [] = Err cause.Form
+read_fill (digits ∷ []) = Err cause.Form
+read_fill (digits ∷ n ∷ []) = repeated (bytes_in digits) (number_spelled n)
+read_fill (digits ∷ n ∷ more ∷ parts) = Err cause.Form
+
+abbrev pub piece_parts : List (List ℕ) → Reads (Unit {0})
+piece_parts [] = Err cause.Form
+piece_parts (w ∷ parts) =
+    cond (bytes_eq w (codes "x")) (read_digits parts)
+    (cond (bytes_eq w (codes "fill")) (read_fill parts) (Err cause.Form))
+
+abbrev pub read_piece : Line → Reads (Unit {0})
+read_piece line = piece_parts (parts_of line)
+
+-- ---- the lines of the texts
+
+-- a phase and a tick: when a text is said
+abbrev pub When : Type 0
+When = ℕ × ℕ
+
+-- the first comes before the second, or they are the same
+abbrev pub is_by : When → When → Bool
+is_by a b = nat_lt a.0 b.0 || (a.0 == b.0 && nat_le a.1 b.1)
+
+-- when the last text is said
+abbrev pub last_when : List Say → When
+last_when [] = (0, 0)
+last_when (y ∷ []) = (y.phase, y.tick)
+last_when (y ∷ z ∷ says) = last_when (z ∷ says)
+
+-- the first of phase, tick and log that is out of range
+abbrev pub out_of_range : Numbers → ℕ → ℕ → ℕ → Option ℕ
+out_of_range n phase tick log =
+    cond (is_between 1 n.phases phase)
+    (cond (is_between 1 n.ticks tick) (cond (nat_lt log n.logs) None (Some log)) (Some tick))
+    (Some phase)
+
+-- a text that is too long for its room, else one that may not be sent
+abbrev pub in_room : ℕ → When → List ℕ → Reads When
+in_room room when text =
+    cond (nat_le (length text) room)
+    (cond (is_allowed text) (Ok when) (Err (cause.Text (allowed_front (length text) text))))
+    (Err (cause.Room room))
+
+-- a number out of range, else a text said too early
+abbrev pub said_behind : Numbers → When → When → List ℕ → Option ℕ → Reads When
+said_behind n last when text (Some k) = Err (cause.Number k)
+said_behind n last when text None =
+    cond (is_by last when) (in_room (n.block - 18) when text) (Err cause.Order)
+
+abbrev pub said : Numbers → When → ℕ → ℕ → ℕ → List ℕ → Reads When
+said n last phase tick log text =
+    said_behind n last (phase, tick) text (out_of_range n phase tick log)
+
+abbrev pub say_numbers : Numbers → When → List ℕ → Option (List ℕ) → Reads When
+say_numbers n last text None = Err cause.Form
+say_numbers n last text (Some []) = Err cause.Form
+say_numbers n last text (Some (phase ∷ [])) = Err cause.Form
+say_numbers n last text (Some (phase ∷ tick ∷ [])) = Err cause.Form
+say_numbers n last text (Some (phase ∷ tick ∷ log ∷ [])) = said n last phase tick log text
+say_numbers n last text (Some (phase ∷ tick ∷ log ∷ more ∷ ns)) = Err cause.Form
+
+-- the text is all after the space that follows the log's number
+abbrev pub say_parts : Numbers → When → List (List ℕ) → Reads When
+say_parts n last [] = Err cause.Form
+say_parts n last (w ∷ []) = Err cause.Form
+say_parts n last (w ∷ p ∷ []) = Err cause.Form
+say_parts n last (w ∷ p ∷ t ∷ []) = Err cause.Form
+say_parts n last (w ∷ p ∷ t ∷ g ∷ []) = Err cause.Form
+say_parts n last (w ∷ p ∷ t ∷ g ∷ x ∷ parts) =
+    cond (bytes_eq w (codes "say"))
+    (say_numbers n last (join_with_byte 0x20 (x ∷ parts)) (numbers_spelled (p ∷ t ∷ g ∷ [])))
+    (Err cause.Form)
+
+-- when the text of a line is said, behind one that is said at the last
+abbrev pub read_say : Numbers → When → Line → Reads When
+read_say n last line = say_parts n last (parts_of line)
+
+-- why a text isn't said, if it isn't
+abbrev pub IsWhy : Option Cause → When → Reads When → Type 0
+IsWhy None when said = said ≡ Ok when
+IsWhy (Some c) when said = said ≡ Err c
+
+-- ---- lines in a row
+
+-- where a reader stands: the number of the next line, and the lines from it on
+pub record Place : Type 0 where
+  pub line : ℕ
+  pub rest : List Line
+
+-- a refused line, and its cause
+abbrev pub Refusal : Type 0
+Refusal = ℕ × Cause
+
+infixl 10 ◌>>=◌
+abbrev pub ◌>>=◌ : {A B : Type 0} → Result A Refusal → (A → Result B Refusal) → Result B Refusal
+(Ok x) >>= f = f x
+(Err e) >>= f = Err e
+
+abbrev pub taken : {X : Type 0} → ℕ → List Line → Reads X → Result (X × Place) Refusal
+taken line rest (Ok x) = Ok (x, record { line = line + 1; rest = rest })
+taken line rest (Err c) = Err (line, c)
+
+-- the line of this number, if there is one
+abbrev pub line_at : {X : Type 0} → (Line → Reads X) → ℕ → List Line → Result (X × Place) Refusal
+line_at read line [] = Err (line, cause.Early)
+line_at read line (l ∷ ls) = taken line ls (read l)
+
+abbrev pub next_line : {X : Type 0} → (Line → Reads X) → Place → Result (X × Place) Refusal
+next_line read p = line_at read p.line p.rest
+
+-- the next count lines
+abbrev pub next_lines : ℕ → (Line → Reads (Unit {0})) → Place → Result Place Refusal
+next_lines zero read p = Ok p
+next_lines (suc count) read p = next_line read p >>= λ x. next_lines count read x.1
+
+-- lines up to an `end`, of which each may look at what the one before it gave
+abbrev pub to_end : {X : Type 0} → (X → Line → Reads X) → X → ℕ → List Line → Result Place Refusal
+to_end read last line [] = Err (line, cause.Early)
+to_end {X} read last line (l ∷ ls) =
+    let on = λ (x : X × Place). to_end read x.0 (line + 1) ls in
+    cond (bytes_eq l (codes "end")) (Ok (record { line = line + 1; rest = ls }))
+    (taken line ls (read last l) >>= on)
+
+-- ---- sections
+
+-- a line of these words alone
+abbrev pub read_words : List ℕ → Line → Reads (Unit {0})
+read_words words line = cond (bytes_eq line words) (Ok tt) (Err cause.Form)
+
+-- the three lines at the front of a script: its numbers, and whether it is keyed
+unfoldable pub read_head : Place → Result (Numbers × Bool × Place) Refusal
+read_head p = do
+  first ← next_line (read_words (codes "talek 1")) p
+  shape ← next_line read_shape first.1
+  kind ← next_line (read_kind shape.0) shape.1
+  Ok (shape.0, kind.0, kind.1)
+
+-- the handles and the seeds of a keyed script
+unfoldable pub read_keys : Numbers → Bool → Place → Result Place Refusal
+read_keys n keyed p = do
+  handles ← next_lines (cond keyed n.logs 0) read_handle p
+  next_lines (cond keyed n.clients 0) read_seed handles
+
+-- a script, and whether it is keyed
+unfoldable pub read_script : Place → Result (Bool × Place) Refusal
+read_script p = do
+  head ← read_head p
+  roles ← next_lines head.0.logs (read_role head.0) head.2
+  keys ← read_keys head.0 head.1 roles
+  behind ← to_end (read_say head.0) (0, 0) keys.line keys.rest
+  Ok (head.1, behind)
+
+-- the lines of a tape, of which none looks at the one before it
+abbrev pub read_pieces : ℕ → List Line → Result Place Refusal
+read_pieces = to_end (λ (x : Unit {0}) l. read_piece l) tt
+
+unfoldable pub read_tape : Place → Result Place Refusal
+read_tape p = do
+  first ← next_line (read_words (codes "tape")) p
+  read_pieces first.1.line first.1.rest
+
+-- the tape of a script that isn't keyed
+abbrev pub tape_unless : Bool → Place → Result Place Refusal
+tape_unless true p = Ok p
+tape_unless false p = read_tape p
+
+-- nothing stands behind the last section
+abbrev pub no_line : ℕ → List Line → Result (Unit {0}) Refusal
+no_line line [] = Ok tt
+no_line line (l ∷ ls) = Err (line, cause.After)
+
+-- what follows a script: the tape, and nothing more
+unfoldable pub read_end : Bool → Place → Result (Unit {0}) Refusal
+read_end keyed p = do
+  tape ← tape_unless keyed p
+  no_line tape.line tape.rest
+
+-- the lines are an input, or else the first that is refused, with its cause
+unfoldable pub read_input : List Line → Result (Unit {0}) Refusal
+read_input lines = do
+  script ← read_script (record { line = 1; rest = lines })
+  read_end script.0 script.1
