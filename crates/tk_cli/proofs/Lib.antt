@@ -3,7 +3,9 @@ pub mod OutboxLaws
 pub mod OrderLaws
 pub mod EntriesLaws
 pub mod ReaderLaws
+pub mod CountingLaws
 pub mod SerialLaws
+pub mod EndingLaws
 pub mod ReportLaws
 pub mod AskingLaws
 pub mod JoiningLaws

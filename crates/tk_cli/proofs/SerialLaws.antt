@@ -1,21 +1,95 @@
 -- Where the words of an input come from, and its run.
-use Rattle.std.proofs.Common.{◌≡◌, ◌∙◌, refl, ap, subst, ℕ, List, Option, Some}
-use Rattle.std.specs.Prelude.{None}
+use Rattle.std.proofs.Common.{◌≡◌, ◌∙◌, ◌-◌, ◌^◌, refl, ap, sym, subst, ℕ, List, length, take, Option, Some, arith, rules}
+use Rattle.std.specs.Prelude.{None, min}
+use Rattle.std.proofs.lemmas.List.{length-take-le}
+use Rattle.tk_shape.specs.declared.shape.Shape.{Shape}
+use Rattle.tk_shape.specs.Lengths.{tape_len}
+use Rattle.tk_script.specs.Built.{IsBuiltShape}
+use Rattle.tk_script.specs.Grammar.{Line, Spells, TapeFor, kept_of}
 use Rattle.tk_script.specs.declared.keys.Keys.{Keys}
 use Rattle.tk_script.specs.declared.input.RawTape.{RawTape}
 use Rattle.tk_script.specs.declared.input.Input.{Input}
 use Rattle.tk_schedule.specs.Schedule.{serial_history}
-use Rattle.tk_words.specs.Words.{WordBook, drawn}
+use Rattle.tk_words.specs.Words.{WordBook, keyed, drawn}
 use Rattle.tk_cli.specs.Report.{report}
 use Rattle.tk_cli.specs.Exchange.{exchange, bytes_of}
 use Rattle.tk_cli.specs.Tapped.{TapsGain, TapsGainFronts, TapsKeepBut}
-use Rattle.tk_cli.specs.Serial.{book_from, book_of, IsRunOf, RunsTo, RunsInto}
+use Rattle.tk_cli.specs.Serial.{book_from, book_of, IsWholeTape, IsRunOf, RunsTo, RunsInto}
 
-pub book-drawn : (keys : Option Keys) (tape : Option RawTape) (t : RawTape) → keys ≡ None → tape ≡ Some t → book_from keys tape ≡ drawn t.bytes
-book-drawn keys tape t k e = rw (k, e) refl
+-- ---- the words of an input
+
+-- a keyed input has no tape, and its words are its keys'
+keyed_whole : (shape : Shape) (keys : Option Keys) (lines : List Line) (tape : Option RawTape)
+    (k : Keys) →
+    TapeFor shape keys lines tape → keys ≡ Some k → IsWholeTape shape tape
+keyed_whole shape None lines tape k t is = absurd (search rules)
+keyed_whole shape (Some keys) lines tape k t is =
+    subst (IsWholeTape shape) (sym t.1) tt
+
+pub keyed_run : (bytes : List ℕ) (input : Input) (keys : Keys) → Spells bytes input →
+    IsBuiltShape input.first.shape → input.first.keys ≡ Some keys → IsRunOf bytes input
+keyed_run bytes input keys s built is = record {
+  spelled = s;
+  built = built;
+  tape = keyed_whole input.first.shape input.first.keys s.rest input.tape keys s.tape is;
+}
+
+pub keyed_book : (keys : Option Keys) (tape : Option RawTape) (k : Keys) → keys ≡ Some k →
+    keyed k.handles k.seeds ≡ book_from keys tape
+keyed_book keys tape k is = rw is refl
+
+-- a drawn input has a tape
+no_tape : (shape : Shape) (keys : Option Keys) (lines : List Line) (tape : Option RawTape) →
+    TapeFor shape keys lines tape → keys ≡ None → tape ≡ None → ⊥
+no_tape shape None lines tape t is none = search rules
+no_tape shape (Some keys) lines tape t is none = search rules
+
+pub drawn_has_tape : (bytes : List ℕ) (input : Input) → Spells bytes input →
+    input.first.keys ≡ None → input.tape ≡ None → ⊥
+drawn_has_tape bytes input s is none =
+    no_tape input.first.shape input.first.keys s.rest input.tape s.tape is none
+
+-- where as many bytes were counted as the shape wants, as many are kept
+all_kept : (size limit : ℕ) (bytes : List ℕ) → min (length bytes) limit ≡ size →
+    length (take size bytes) ≡ size
+all_kept size limit bytes counted = length-take-le size bytes (omega (arith, counted))
+
+tape_kept : (shape : Shape) (keys : Option Keys) (lines : List Line) (tape : Option RawTape)
+    (t : RawTape) →
+    TapeFor shape keys lines tape → keys ≡ None → tape ≡ Some t → t.got ≡ tape_len shape →
+    length t.bytes ≡ tape_len shape
+tape_kept shape None lines tape t ends is some got =
+    let same : kept_of shape ends.0 ≡ t = search rules in
+    let counted = ap (λ (x : RawTape). x.got) same ∙ got in
+    ap (λ (x : RawTape). length x.bytes) (sym same)
+    ∙ all_kept (tape_len shape) (2 ^ 64 - 1) ends.0 counted
+tape_kept shape (Some keys) lines tape t ends is some got = absurd (search rules)
+
+pub drawn_kept : (bytes : List ℕ) (input : Input) (t : RawTape) → Spells bytes input →
+    input.first.keys ≡ None → input.tape ≡ Some t → t.got ≡ tape_len input.first.shape →
+    length t.bytes ≡ tape_len input.first.shape
+drawn_kept bytes input t s is some got =
+    tape_kept input.first.shape input.first.keys s.rest input.tape t s.tape is some got
+
+pub drawn_run : (bytes : List ℕ) (input : Input) (t : RawTape) → Spells bytes input →
+    IsBuiltShape input.first.shape → input.first.keys ≡ None → input.tape ≡ Some t →
+    t.got ≡ tape_len input.first.shape → IsRunOf bytes input
+drawn_run bytes input t s built is some got = record {
+  spelled = s;
+  built = built;
+  tape = subst (IsWholeTape input.first.shape) (sym some)
+      (drawn_kept bytes input t s is some got, got);
+}
+
+pub drawn_book : (keys : Option Keys) (tape : Option RawTape) (t : RawTape) → keys ≡ None →
+    tape ≡ Some t → drawn t.bytes ≡ book_from keys tape
+drawn_book keys tape t none some = rw (none, some) refl
+
+-- ---- its run
 
 -- a run of a script over a book of words, as a run of an input that has both
-pub run-to : (bytes output : List ℕ) (input : Input) (b : WordBook) (old new : ℕ → Option (List ℕ)) →
+pub run-to : (bytes output : List ℕ) (input : Input) (b : WordBook)
+    (old new : ℕ → Option (List ℕ)) →
     IsRunOf bytes input → b ≡ book_of input →
     let S = input.first in let H = serial_history S.shape in
     output ≡ report S b H →

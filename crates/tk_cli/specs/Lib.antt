@@ -18,3 +18,4 @@ pub mod Turns
 pub mod Shown
 pub mod Readers
 pub mod Serial
+pub mod Endings

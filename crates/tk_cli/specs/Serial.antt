@@ -1,12 +1,14 @@
 -- What a serial run reads and writes.
-use Rattle.std.specs.Prelude.{◌≡◌, ℕ, List, [], take, Option, Some, None}
+use Rattle.std.specs.Prelude.{◌≡◌, ◌≢◌, ℕ, List, [], length, take, Option, Some, None}
 use Rattle.tk_io.specs.Content.{before_taking, emptied, gained}
+use Rattle.tk_shape.specs.declared.shape.Shape.{Shape}
+use Rattle.tk_shape.specs.Lengths.{tape_len}
 use Rattle.tk_schedule.specs.Schedule.{serial_history}
 use Rattle.tk_script.specs.declared.keys.Keys.{Keys}
 use Rattle.tk_script.specs.declared.input.RawTape.{RawTape}
 use Rattle.tk_script.specs.declared.input.Input.{Input}
 use Rattle.tk_script.specs.Grammar.{Spells}
-use Rattle.tk_script.specs.Built.{IsBuilt}
+use Rattle.tk_script.specs.Built.{IsBuiltShape}
 use Rattle.tk_words.specs.Words.{WordBook, keyed, drawn}
 use Rattle.tk_cli.specs.Report.{report}
 use Rattle.tk_cli.specs.Exchange.{exchange, bytes_of}
@@ -30,10 +32,17 @@ abbrev pub seen_in : Input → ℕ → List ℕ
 seen_in input j =
     bytes_of (exchange input.first (book_of input) (serial_history input.first.shape) j)
 
--- the bytes spell this input, which is built so far
+-- of a tape, no byte is missing and none was too many; a keyed input has none
+abbrev pub IsWholeTape : Shape → Option RawTape → Type 0
+IsWholeTape shape None = Unit {0}
+IsWholeTape shape (Some tape) =
+    (length tape.bytes ≡ tape_len shape) × (tape.got ≡ tape_len shape)
+
+-- the bytes spell this input, of which a run is built
 pub record IsRunOf (bytes : List ℕ) (input : Input) : Type 0 where
   pub spelled : Spells bytes input
-  pub built : IsBuilt input
+  pub built : IsBuiltShape input.first.shape
+  pub tape : IsWholeTape input.first.shape input.tape
 
 -- the bytes spell an input, the output is the report of its serial run, and the taps gained what
 -- each server sees of it
@@ -51,9 +60,15 @@ pub record RunsInto (bytes : List ℕ) (tap tap' : ℕ → Option (List ℕ)) : 
   pub taps : TapsGainFronts input.first.shape.servers (seen_in input) tap tap'
   pub others : TapsKeepBut input.first.shape.servers tap tap'
 
--- the bytes spell no input that is built so far
-abbrev pub SpellNothing : List ℕ → Type 0
-SpellNothing bytes = (input : Input) → Spells bytes input → IsBuilt input → ⊥
+-- the bytes spell a drawn input, of which the tape has another length than the shape wants
+pub record HasOtherTape (bytes : List ℕ) (want got : ℕ) : Type 0 where
+  pub input : Input
+  pub tape : RawTape
+  pub spelled : Spells bytes input
+  pub drawn : input.tape ≡ Some tape
+  pub wanted : want ≡ tape_len input.first.shape
+  pub gotten : got ≡ tape.got
+  pub other : want ≢ got
 
 -- these bytes were taken, and they were all that was left
 abbrev pub TakesAll : List ℕ → Option (List ℕ) → Option (List ℕ) → Type 0
@@ -85,9 +100,3 @@ pub record TapsFronts (left left' : Option (List ℕ)) (tap tap' : ℕ → Optio
   pub bytes : List ℕ
   pub all : TakesAll bytes left left'
   pub run : RunsInto bytes tap tap'
-
--- all was taken, and it spells no input that is built so far
-pub record Refuses (left left' : Option (List ℕ)) : Type 0 where
-  pub bytes : List ℕ
-  pub all : TakesAll bytes left left'
-  pub nothing : SpellNothing bytes

@@ -2,6 +2,8 @@
 #![tactic(auto)]
 
 mod asking;
+mod cause_text;
+mod draws;
 mod entries;
 mod follow;
 mod got;

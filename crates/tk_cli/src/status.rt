@@ -1,11 +1,14 @@
 ghost use Rattle.std.specs.Prelude.{◌≡◌, ◌++◌, OnOk, OnErr};
 ghost use Rattle.tk_cli.specs.StatusLines.{code_of, status_text};
 
-use crate::printing::push_number;
+use crate::cause_text::push_cause;
+use crate::printing::{push_field, push_number};
 use std::alloc::Global;
+use tk_script::Cause;
 use tk_shape::Memory;
 
-/// How the top call ended. In order: the words are asked first, then what is read, then what is written.
+/// How the top call ended. In order: the words are asked first, then what is read, then what is written. What is read is
+/// asked for its first line that is refused, and then for its tape.
 #[derive(Clone, Copy, Debug, PartialEq, Eq)]
 pub enum Status {
     /// All was read to its end, done and written.
@@ -14,14 +17,17 @@ pub enum Status {
     Memory,
     /// The words are none of the forms.
     Usage,
+    /// The input is refused at this line, for this cause: never for what isn't built.
+    Script { line: u64, cause: Cause },
     /// The source failed.
     Read,
     /// The sink or a tap failed.
     Write,
     /// The input has more than 8,388,608 bytes.
     TooLong,
-    /// What isn't built yet: with line 0 the form that the words ask for, with line 1 bytes that are no input of the
-    /// form that is built.
+    /// The tape has another length than the shape wants.
+    Tape { want: u64, got: u64 },
+    /// What isn't built yet: with line 0 the form that the words ask for, else that line of the input.
     Later { line: u64 },
 }
 
@@ -34,9 +40,11 @@ impl Status {
             Status::Done => 0,
             Status::Memory => 1,
             Status::Usage => 2,
+            Status::Script { .. } => 3,
             Status::Read => 4,
             Status::Write => 5,
             Status::TooLong => 6,
+            Status::Tape { .. } => 9,
             Status::Later { .. } => 11,
         }
     }
@@ -61,9 +69,20 @@ fn push_text(alloc: Global, status: &Status, out: &mut Vec<u8>) -> Result<(), Me
         Status::Done => {}
         Status::Memory => out.extend_from_slice(b"talek: memory")?,
         Status::Usage => out.extend_from_slice(b"talek: usage")?,
+        Status::Script { line, cause } => {
+            out.extend_from_slice(b"talek: line ")?;
+            push_number(alloc, out, *line)?;
+            out.extend_from_slice(b": ")?;
+            push_cause(alloc, cause, out)?;
+        }
         Status::Read => out.extend_from_slice(b"talek: read")?,
         Status::Write => out.extend_from_slice(b"talek: write")?,
         Status::TooLong => out.extend_from_slice(b"talek: input over 8388608 bytes")?,
+        Status::Tape { want, got } => {
+            out.extend_from_slice(b"talek: tape")?;
+            push_field(alloc, out, *want)?;
+            push_field(alloc, out, *got)?;
+        }
         Status::Later { line } => {
             out.extend_from_slice(b"talek: later line ")?;
             push_number(alloc, out, *line)?;

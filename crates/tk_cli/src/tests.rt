@@ -4,7 +4,8 @@ use std::sync::Wait;
 use std::test::Fail;
 use std::thread::Threads;
 use tk_io::{MemSink, MemSource, MemTaps, OpenGate};
-use tk_shape::{Bytes, Memory};
+use tk_script::Cause;
+use tk_shape::{Bytes, Field, Memory};
 
 /// A script of two clients with one text, over two phases of one tick, and its tape.
 pub(crate) const ONE_TEXT: &[u8] = b"talek 1
@@ -219,20 +220,107 @@ fn larger_run(rt: HostRuntime) -> Result<(), Fail> {
     Ok(())
 }
 
-// a kind of words that there is not
+/// A keyed script of two clients that both follow one log, and say nothing.
+const KEYED: &[u8] = b"talek 1
+shape 8 1024 1 1 24 64 2 0 2 2 2 1
+keyed
+log 1 0 1
+handle e3a637c30e59b7b420cfdb25fe79b0ab5122befab04c5d6622f8c1475e9b1dcfa59831c867e13722b288885d351f6fc417078f6f5473348c7e0405cb37a48f5ecbde976d0a3a2682509fa5d06b91d9df36cfe45254c5402957c6a6f5312852400ce8eacaa9e06916
+seed 7c81120cb978f72480902a2b4a0d5afdfeac82ff6b495cd916561a3d75ba307e
+seed 1a18c3bf516760312a0ada0350b38a1448a4b38c5029c49ff49b6965d716b2b4
+end
+";
+
+const KEYED_REPORT: &[u8] = b"report
+order 1 1 0 1
+order 1 2 0 1 mark
+reads 1 2 0 0
+order 2 1 0 1
+order 2 2 0 1 mark
+reads 2 2 1 1
+log 0 0 0
+log 0 1 0
+unsent 0 0
+unsent 1 0
+end
+";
+
 #[test]
-fn refused_input(rt: HostRuntime) -> Result<(), Fail> {
-    let alloc = rt.alloc();
-    let front = b"talek 1\nshape 2 8 4 4 24 64 1 0 2 2 1 1\ndruwn\nlog 0 1\n";
-    let input = joined(alloc, &[front, b"end\ntape\nfill 00 256\nend\n"])?;
-    let mut source = source_of(alloc, input.as_slice())?;
-    let mut sink = MemSink::new(alloc, 4096, Vec::new(alloc));
+fn keyed_run(rt: HostRuntime) -> Result<(), Fail> {
+    let mut source = source_of(rt.alloc(), KEYED)?;
+    let mut sink = MemSink::new(rt.alloc(), 4096, Vec::new(rt.alloc()));
     assert_eq!(rt;
         run(&rt, &["serial"], &mut source, &mut sink)?,
-        Status::Later { line: 1 }
+        Status::Done
     );
-    assert_eq!(rt; sink.bytes().len(), 0);
-    assert_eq!(rt; source.left().len(), 0);
+    assert_eq!(rt; sink.bytes(), KEYED_REPORT);
+    Ok(())
+}
+
+/// What is behind the first line of an input, and the status that it ends with.
+const REFUSED: [(&str, Status); 7] = [
+    (
+        "shape 2 8 4 4 24 64 1 0 2 2 1 1\ndruwn\nlog 0 1\nend\n",
+        Status::Script {
+            line: 3,
+            cause: Cause::Form,
+        },
+    ),
+    (
+        "shape 2 8 4 4 24 1 1 0 2 2 1 1\ndrawn\n",
+        Status::Script {
+            line: 2,
+            cause: Cause::Shape {
+                field: Field::Filter,
+                value: 1,
+            },
+        },
+    ),
+    (
+        "shape 2 8 4 4 24 64 1 0 2 2 1 1\ndrawn\nlog 0 1\n",
+        Status::Script {
+            line: 5,
+            cause: Cause::Early,
+        },
+    ),
+    (
+        "shape 2 8 4 4 24 64 1 0 2 2 1 1\ndrawn\nlog 0 2\n",
+        Status::Script {
+            line: 4,
+            cause: Cause::Number { value: 2 },
+        },
+    ),
+    (
+        "shape 2 8 4 4 24 64 1 0 2 2 1 1\ndrawn\nlog 0 1\nsay 1 1 0 abcdefg\n",
+        Status::Script {
+            line: 5,
+            cause: Cause::Room { room: 6 },
+        },
+    ),
+    (
+        "shape 2 8 4 4 24 64 1 1 2 2 1 1\ndrawn\nlog 0 1\n",
+        Status::Later { line: 2 },
+    ),
+    (
+        "shape 2 8 4 4 24 64 1 0 2 2 1 1\ndrawn\nlog 0 1\nend\ntape\nfill 00 257\nend\n",
+        Status::Tape {
+            want: 256,
+            got: 257,
+        },
+    ),
+];
+
+#[test]
+fn refused_inputs(rt: HostRuntime) -> Result<(), Fail> {
+    let alloc = rt.alloc();
+    for (behind, status) in REFUSED {
+        let input = joined(alloc, &[b"talek 1\n", behind.as_bytes()])?;
+        let mut source = source_of(alloc, input.as_slice())?;
+        let mut sink = MemSink::new(alloc, 4096, Vec::new(alloc));
+        assert_eq!(rt; run(&rt, &["serial"], &mut source, &mut sink)?, status);
+        assert_eq!(rt; sink.bytes().len(), 0);
+        assert_eq!(rt; source.left().len(), 0);
+    }
     Ok(())
 }
 
@@ -285,7 +373,10 @@ fn calls_after_faults(rt: HostRuntime) -> Result<(), Fail> {
     assert_eq!(rt; Some(source.left()), ONE_TEXT.get(50..));
     assert_eq!(rt;
         run(&rt, &["serial"], &mut source, &mut sink)?,
-        Status::Later { line: 1 }
+        Status::Script {
+            line: 1,
+            cause: Cause::Form
+        }
     );
     assert_eq!(rt; source.left().len(), 0);
 
@@ -400,19 +491,47 @@ fn digits_of_a_root_in_either_case(rt: HostRuntime) -> Result<(), Fail> {
 #[test]
 fn status_lines(rt: HostRuntime) -> Result<(), Fail> {
     let alloc = rt.alloc();
+    let refused = Status::Script {
+        line: 2,
+        cause: Cause::Shape {
+            field: Field::Work,
+            value: 549755813889,
+        },
+    };
     for (status, line, code) in [
         (Status::Done, "", 0),
         (Status::Memory, "talek: memory", 1),
         (Status::Usage, "talek: usage", 2),
+        (refused, "talek: line 2: shape work 549755813889", 3),
         (Status::Read, "talek: read", 4),
         (Status::Write, "talek: write", 5),
         (Status::TooLong, "talek: input over 8388608 bytes", 6),
+        (Status::Tape { want: 256, got: 0 }, "talek: tape 256 0", 9),
         (Status::Later { line: 12 }, "talek: later line 12", 11),
     ] {
         let mut out = Vec::new(alloc);
         status_line(alloc, &status, &mut out)?;
         assert_eq!(rt; out.as_slice(), line.as_bytes());
         assert_eq!(rt; status.code(), code);
+    }
+    Ok(())
+}
+
+#[test]
+fn causes(rt: HostRuntime) -> Result<(), Fail> {
+    let alloc = rt.alloc();
+    for (cause, line) in [
+        (Cause::Early, "talek: line 5: early"),
+        (Cause::Form, "talek: line 5: form"),
+        (Cause::Number { value: 7 }, "talek: line 5: number 7"),
+        (Cause::Order, "talek: line 5: order"),
+        (Cause::Room { room: 6 }, "talek: line 5: room 6"),
+        (Cause::Text { at: 0 }, "talek: line 5: text 0"),
+        (Cause::After, "talek: line 5: after"),
+    ] {
+        let mut out = Vec::new(alloc);
+        status_line(alloc, &Status::Script { line: 5, cause }, &mut out)?;
+        assert_eq!(rt; out.as_slice(), line.as_bytes());
     }
     Ok(())
 }

@@ -1,11 +1,13 @@
-ghost use Rattle.std.specs.Prelude.{◌≡◌, ◌≢◌, ◌≤◌, ◌↔◌, ◌⊎◌, ℕ, List, IfOk, IfErr, IfSome, IfNone};
+ghost use Rattle.std.specs.Prelude.{◌≡◌, ◌≢◌, ◌≤◌, ◌↔◌, ◌⊎◌, ℕ, List, IfOk, IfErr};
+ghost use Rattle.tk_script.specs.declared.cause.Cause.{Cause};
 ghost use Rattle.tk_io.specs.Content.{Rose, TakesUpTo};
 ghost use Rattle.tk_cli.specs.Handles.{Puts, handle_text};
 ghost use Rattle.tk_cli.specs.Requests.{AsksHandle, AsksLater, AsksNothing, AsksSerial, AsksSomeHandle};
-ghost use Rattle.tk_cli.specs.Serial.{RunsTo, RunsInto, SpellNothing};
-ghost use Rattle.tk_cli.specs.Serial.{Reports, ReportsFront, TapsFronts, Refuses};
+ghost use Rattle.tk_cli.specs.Serial.{RunsTo, Reports, ReportsFront, TapsFronts};
+ghost use Rattle.tk_cli.specs.Endings.{EndsWith, RefusesLine, RefusesTape, run_status, script_status};
 ghost use Rattle.tk_cli.specs.Tapped.{TapsKeep};
 
+use crate::draws::{drawn_draws, keyed_draws};
 use crate::handle_word::run_handle;
 use crate::request::{Request, request_of};
 use crate::run_error::RunError;
@@ -15,9 +17,8 @@ use std::alloc::Global;
 use std::sync::Wait;
 use std::thread::Threads;
 use tk_io::{Gate, ReadError, Sink, Source, Taps, put_all, read_all};
-use tk_script::{Input, parse};
+use tk_script::{Cause, Input, ScriptError, parse};
 use tk_shape::Bytes;
-use tk_words::{DrawnDraws, Tape};
 
 /// The most bytes of an input.
 pub const INPUT_LIMIT: usize = 8388608;
@@ -49,8 +50,12 @@ pub fn talek<R: Threads + Wait + Sync, S: Source, K: Sink, T: Taps, G: Gate>(
         (K.faults sink.old) (K.faults sink.new) }
     ensures usage { (result ≡ Status.Usage) ↔ AsksNothing words.now }
     ensures later { (result ≡ Status.Later 0) ↔ AsksLater words.now }
-    ensures refused { (line : ℕ) → result ≡ Status.Later line → line ≢ 0 →
-        (line ≡ 1) × Refuses (S.left source.old) (S.left source.new) }
+    ensures script { (line : ℕ) (cause : Cause) → result ≡ Status.Script line cause →
+        RefusesLine (S.left source.old) (S.left source.new) line cause × (cause ≢ Cause.NotBuilt) }
+    ensures not_built { (line : ℕ) → result ≡ Status.Later line → line ≢ 0 →
+        RefusesLine (S.left source.old) (S.left source.new) line Cause.NotBuilt }
+    ensures tape { (want got : ℕ) → result ≡ Status.Tape want got →
+        RefusesTape (S.left source.old) (S.left source.new) want got }
     ensures unread { AsksNothing words.now ⊎ AsksLater words.now ⊎ AsksSomeHandle words.now →
         S.left source.new ≡ S.left source.old }
     ensures untapped { AsksNothing words.now ⊎ AsksLater words.now ⊎ AsksSomeHandle words.now →
@@ -93,8 +98,12 @@ fn run_serial<S: Source, K: Sink, T: Taps>(
         ⊎ TapsKeep (T.tap taps.old) (T.tap taps.new) }
     ensures usage { result ≢ Status.Usage }
     ensures later { result ≢ Status.Later 0 }
-    ensures refused { (line : ℕ) → result ≡ Status.Later line →
-        (line ≡ 1) × Refuses (S.left source.old) (S.left source.new) }
+    ensures script { (line : ℕ) (cause : Cause) → result ≡ Status.Script line cause →
+        RefusesLine (S.left source.old) (S.left source.new) line cause × (cause ≢ Cause.NotBuilt) }
+    ensures not_built { (line : ℕ) → result ≡ Status.Later line →
+        RefusesLine (S.left source.old) (S.left source.new) line Cause.NotBuilt }
+    ensures tape { (want got : ℕ) → result ≡ Status.Tape want got →
+        RefusesTape (S.left source.old) (S.left source.new) want got }
     ensures read { result ≡ Status.Read → Rose (S.faults source.old) (S.faults source.new) }
     ensures taken { let too_long = result ≡ Status.TooLong in (taken : List ℕ)
         × TakesUpTo INPUT_LIMIT (S.left source.old) (S.left source.new) too_long taken }
@@ -112,10 +121,8 @@ fn run_serial<S: Source, K: Sink, T: Taps>(
         Err(ReadError::TooLong) => return Status::TooLong,
     };
     let report = match report_of(alloc, text.as_slice(), taps) {
-        Ok(Some(report)) => report,
-        Ok(None) => return Status::Later { line: 1 },
-        Err(RunError::Memory) => return Status::Memory,
-        Err(RunError::Taps) => return Status::Write,
+        Ok(report) => report,
+        Err(status) => return status,
     };
     match put_all(sink, report.as_slice()) {
         Ok(()) => Status::Done,
@@ -123,41 +130,64 @@ fn run_serial<S: Source, K: Sink, T: Taps>(
     }
 }
 
-/// The report of the serial run of an input, of which the taps gain what each server sees; none for bytes that are no
-/// input of the form that is built.
-fn report_of<T: Taps>(alloc: Global, text: &[u8], taps: &mut T) -> Result<Option<Vec<u8>>, RunError>
-    ensures found { IfOk result (λ o. IfSome o (λ report.
-        RunsTo text.now report.items (T.tap taps.old) (T.tap taps.new))) }
-    ensures none { IfOk result (λ o. IfNone o (SpellNothing text.now)) }
-    ensures kept { IfOk result (λ o. IfNone o (TapsKeep (T.tap taps.old) (T.tap taps.new))) }
-    ensures taps { IfErr result (λ e. e ≡ RunError.Taps
-        → RunsInto text.now (T.tap taps.old) (T.tap taps.new)) }
-    ensures memory { IfErr result (λ e. e ≡ RunError.Memory
-        → RunsInto text.now (T.tap taps.old) (T.tap taps.new)
-        ⊎ TapsKeep (T.tap taps.old) (T.tap taps.new)) }
-    ensures rose { IfErr result (λ e. e ≡ RunError.Taps
+/// The report of the serial run of an input, of which the taps gain what each server sees; or the status that it ends
+/// with.
+fn report_of<T: Taps>(alloc: Global, text: &[u8], taps: &mut T) -> Result<Vec<u8>, Status>
+    ensures found { IfOk result (λ report.
+        RunsTo text.now report.items (T.tap taps.old) (T.tap taps.new)) }
+    ensures ended { IfErr result (λ status.
+        EndsWith status text.now (T.tap taps.old) (T.tap taps.new)) }
+    ensures rose { IfErr result (λ status. status ≡ Status.Write
         → Rose (T.faults taps.old) (T.faults taps.new)) }
     ensures counts { T.faults taps.old ≤ T.faults taps.new }
 {
-    let Ok(parsed) = parse(alloc, text) else {
-        return Err(RunError::Memory);
-    };
-    let Some(input) = parsed else {
-        return Ok(None);
-    };
     let Input {
         first: script,
         tape,
-    } = input;
-    let Some(tape) = tape else {
-        return Ok(None);
+    } = match parse(alloc, text) {
+        Ok(input) => input,
+        Err(error) => return Err(status_of_script(error)),
     };
-    let Ok(tape) = Tape::from_bytes(&script.shape, tape.bytes.into_vec()) else {
-        return Ok(None);
+    if let Some(keys) = &script.keys {
+        let Ok(draws) = keyed_draws(alloc, &script, keys) else {
+            return Err(Status::Memory);
+        };
+        match serial(alloc, &script, &draws, taps) {
+            Ok(report) => return Ok(report),
+            Err(error) => return Err(status_of_run(error)),
+        }
+    }
+    let Some(tape) = tape else { unreachable!() };
+    let draws = match drawn_draws(&script.shape, tape) {
+        Ok(draws) => draws,
+        Err(status) => return Err(status),
     };
-    let draws = DrawnDraws::new(&script.shape, tape);
     match serial(alloc, &script, &draws, taps) {
-        Ok(report) => Ok(Some(report)),
-        Err(error) => Err(error),
+        Ok(report) => Ok(report),
+        Err(error) => Err(status_of_run(error)),
+    }
+}
+
+/// What tells that a text gives no input.
+fn status_of_script(error: ScriptError) -> Status
+    ensures { result ≡ script_status error }
+{
+    match error {
+        ScriptError::Line {
+            line,
+            cause: Cause::NotBuilt,
+        } => Status::Later { line },
+        ScriptError::Line { line, cause } => Status::Script { line, cause },
+        ScriptError::Memory => Status::Memory,
+    }
+}
+
+/// What tells that a run ended early.
+fn status_of_run(error: RunError) -> Status
+    ensures { result ≡ run_status error }
+{
+    match error {
+        RunError::Taps => Status::Write,
+        RunError::Memory => Status::Memory,
     }
 }

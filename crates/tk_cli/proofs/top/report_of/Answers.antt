@@ -1,52 +1,75 @@
--- The tape that is read is the input's, and the run is the input's run.
-use Rattle.std.proofs.Common.{◌∙◌, ap, sym, subst, inl}
-use Rattle.std.specs.Prelude.{IfSome}
-use Rattle.tk_script.specs.Grammar.{Spells}
-use Rattle.tk_script.specs.Built.{IsBuilt}
-use Rattle.tk_words.specs.Words.{drawn}
-use Rattle.tk_cli.proofs.SerialLaws.{book-drawn, run-to, run-into}
+-- The words are the input's, and the run is the input's run.
+use Rattle.std.proofs.Common.{◌∙◌, ◌≡◌, ap, sym, subst, None, rules}
+use Rattle.tk_cli.specs.declared.status.Status.{Status}
+use Rattle.tk_cli.specs.Endings.{EndsWith}
+use Rattle.tk_cli.proofs.SerialLaws.{keyed_run, keyed_book, drawn_run, drawn_book, run-to, run-into}
+use Rattle.tk_cli.proofs.EndingLaws.{ended_early, tape_refused}
 use Rattle.tk_cli.proofs.top.report_of.Goals as goal
 
 pub returns-in-Ok-serial-clause-found : goal.returns-in-Ok-serial-clause-found
 returns-in-Ok-serial-clause-found g c =
-    let input = c.in-Some.input in
-    let built = subst (λ o. IfSome o IsBuilt) c.in-Some.is c.in-Ok.ensures.built in
-    let spelled = subst (λ o. IfSome o (Spells c.args.text.now)) c.in-Some.is c.in-Ok.ensures.found in
-    let book =
-    c.new-draws.ensures.book ∙ ap drawn (c.in-Ok-from_bytes.ensures.found ∙ c.into_vec.ensures)
-    ∙ sym (book-drawn input.first.keys input.tape c.in-Some-tape.tape built.script.drawn
-    c.in-Some-tape.is)
-    in
+    let input = c.in-Ok.input in
+    let bytes = c.args.text.now in
+    let spelled = c.in-Ok.ensures.found in
     let ran = c.in-Ok-serial.ensures in
-    run-to c.args.text.now c.in-Ok-serial.report.items input _
-    (g.T.Taps.tap c.args.taps.now) (g.T.Taps.tap c.serial.new.taps)
-    (record { spelled = spelled; built = built }) book ran.report ran.ok ran.others
-
-pub returns-clause-taps : goal.returns-clause-taps
-returns-clause-taps g c failed =
-    let input = c.in-Some.input in
-    let built = subst (λ o. IfSome o IsBuilt) c.in-Some.is c.in-Ok.ensures.built in
-    let spelled = subst (λ o. IfSome o (Spells c.args.text.now)) c.in-Some.is c.in-Ok.ensures.found in
-    let book =
-    c.new-draws.ensures.book ∙ ap drawn (c.in-Ok-from_bytes.ensures.found ∙ c.into_vec.ensures)
-    ∙ sym (book-drawn input.first.keys input.tape c.in-Some-tape.tape built.script.drawn
-    c.in-Some-tape.is)
-    in
-    let ran = c.in-Err.ensures in
-    run-into c.args.text.now input _ (g.T.Taps.tap c.args.taps.now) (g.T.Taps.tap c.serial.new.taps)
-    (record { spelled = spelled; built = built }) book ran.err ran.others
-
-pub returns-clause-memory : goal.returns-clause-memory
-returns-clause-memory g c failed =
-    let input = c.in-Some.input in
-    let built = subst (λ o. IfSome o IsBuilt) c.in-Some.is c.in-Ok.ensures.built in
-    let spelled = subst (λ o. IfSome o (Spells c.args.text.now)) c.in-Some.is c.in-Ok.ensures.found in
-    let book =
-    c.new-draws.ensures.book ∙ ap drawn (c.in-Ok-from_bytes.ensures.found ∙ c.into_vec.ensures)
-    ∙ sym (book-drawn input.first.keys input.tape c.in-Some-tape.tape built.script.drawn
-    c.in-Some-tape.is)
-    in
-    let ran = c.in-Err.ensures in
-    inl (run-into c.args.text.now input _ (g.T.Taps.tap c.args.taps.now)
+    run-to bytes c.in-Ok-serial.report.items input _ (g.T.Taps.tap c.args.taps.now)
     (g.T.Taps.tap c.serial.new.taps)
-    (record { spelled = spelled; built = built }) book ran.err ran.others)
+    (keyed_run bytes input c.in-Some.keys spelled c.in-Ok.ensures.built c.in-Some.is)
+    (c.in-Ok-keyed_draws.ensures.book
+    ∙ keyed_book input.first.keys input.tape c.in-Some.keys c.in-Some.is)
+    ran.report ran.ok ran.others
+
+pub returns-in-Err-serial-clause-ended : goal.returns-in-Err-serial-clause-ended
+returns-in-Err-serial-clause-ended g c =
+    let input = c.in-Ok.input in
+    let bytes = c.args.text.now in
+    let spelled = c.in-Ok.ensures.found in
+    let ran = c.in-Err-serial.ensures in
+    let old = g.T.Taps.tap c.args.taps.now in
+    let new = g.T.Taps.tap c.serial.new.taps in
+    let into = run-into bytes input _ old new
+    (keyed_run bytes input c.in-Some.keys spelled c.in-Ok.ensures.built c.in-Some.is)
+    (c.in-Ok-keyed_draws.ensures.book
+    ∙ keyed_book input.first.keys input.tape c.in-Some.keys c.in-Some.is)
+    ran.err ran.others in
+    subst (λ (s : Status). EndsWith s bytes old new) (sym c.status_of_run.ensures)
+    (ended_early c.in-Err-serial.error bytes old new into)
+
+pub returns-in-Err-drawn_draws-clause-ended : goal.returns-in-Err-drawn_draws-clause-ended
+returns-in-Err-drawn_draws-clause-ended g c =
+    tape_refused c.in-Err-drawn_draws.status c.args.text.now c.in-Ok.input c.in-Some-tape.tape
+    (g.T.Taps.tap c.args.taps.now) c.in-Ok.ensures.found c.in-Some-tape.is
+    c.in-Err-drawn_draws.ensures.refused c.in-Err-drawn_draws.ensures.other
+
+pub returns-in-Ok-serial-2-clause-found : goal.returns-in-Ok-serial-2-clause-found
+returns-in-Ok-serial-2-clause-found g c =
+    let input = c.in-Ok.input in
+    let bytes = c.args.text.now in
+    let drawn : input.first.keys ≡ None = search rules in
+    let draws = c.in-Ok-drawn_draws.ensures in
+    let ran = c.in-Ok-serial-2.ensures in
+    run-to bytes c.in-Ok-serial-2.report.items input _ (g.T.Taps.tap c.args.taps.now)
+    (g.T.Taps.tap c.serial-2.new.taps)
+    (drawn_run bytes input c.in-Some-tape.tape c.in-Ok.ensures.found c.in-Ok.ensures.built drawn
+    c.in-Some-tape.is draws.whole)
+    (draws.book ∙ drawn_book input.first.keys input.tape c.in-Some-tape.tape drawn
+    c.in-Some-tape.is)
+    ran.report ran.ok ran.others
+
+pub returns-clause-ended : goal.returns-clause-ended
+returns-clause-ended g c =
+    let input = c.in-Ok.input in
+    let bytes = c.args.text.now in
+    let drawn : input.first.keys ≡ None = search rules in
+    let draws = c.in-Ok-drawn_draws.ensures in
+    let ran = c.in-Err-serial-2.ensures in
+    let old = g.T.Taps.tap c.args.taps.now in
+    let new = g.T.Taps.tap c.serial-2.new.taps in
+    let into = run-into bytes input _ old new
+    (drawn_run bytes input c.in-Some-tape.tape c.in-Ok.ensures.found c.in-Ok.ensures.built drawn
+    c.in-Some-tape.is draws.whole)
+    (draws.book ∙ drawn_book input.first.keys input.tape c.in-Some-tape.tape drawn
+    c.in-Some-tape.is)
+    ran.err ran.others in
+    subst (λ (s : Status). EndsWith s bytes old new) (sym c.status_of_run-in-Err-serial-2.ensures)
+    (ended_early c.in-Err-serial-2.error bytes old new into)

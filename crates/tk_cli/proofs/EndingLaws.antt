@@ -1,0 +1,49 @@
+-- How a run ends without a report.
+use Rattle.std.proofs.Common.{◌≡◌, ◌≢◌, ◌∙◌, refl, sym, subst, inl, inr, ℕ, List, Option, Some}
+use Rattle.tk_shape.specs.Lengths.{tape_len}
+use Rattle.tk_script.specs.declared.cause.Cause.{Cause}
+use Rattle.tk_script.specs.declared.cause.Cause.TheVariants as cause
+use Rattle.tk_script.specs.declared.input.Input.{Input}
+use Rattle.tk_script.specs.declared.input.RawTape.{RawTape}
+use Rattle.tk_script.specs.Grammar.{lines_of, Spells}
+use Rattle.tk_cli.specs.declared.run_error.RunError.{RunError}
+use Rattle.tk_cli.specs.declared.run_error.RunError.TheVariants as run_error
+use Rattle.tk_cli.specs.declared.status.Status.{Status}
+use Rattle.tk_cli.specs.declared.status.Status.TheVariants as status
+use Rattle.tk_cli.specs.Endings.{EndsWith, run_status}
+use Rattle.tk_cli.specs.Serial.{RunsInto}
+use Rattle.tk_cli.proofs.CountingLaws.{refused_counts}
+
+abbrev Taps : Type 0
+Taps = ℕ → Option (List ℕ)
+
+-- no line of an input is line 0
+pub never_line_0 : (s : Status) (bytes : List ℕ) (tap tap' : Taps) → EndsWith s bytes tap tap' →
+    s ≡ status.Later 0 → ⊥
+never_line_0 s bytes tap tap' ends is =
+    let refused = subst (λ (t : Status). EndsWith t bytes tap tap') is ends in
+    refused_counts (lines_of bytes) 0 cause.NotBuilt refused.0 refl
+
+-- the taps have fronts of what each server sees
+pub ended_early : (e : RunError) (bytes : List ℕ) (tap tap' : Taps) → RunsInto bytes tap tap' →
+    EndsWith (run_status e) bytes tap tap'
+ended_early run_error.Taps bytes tap tap' fronts = fronts
+ended_early run_error.Memory bytes tap tap' fronts = inl fronts
+
+pub tape_refused : (s : Status) (bytes : List ℕ) (input : Input) (t : RawTape) (tap : Taps) →
+    Spells bytes input → input.tape ≡ Some t →
+    s ≡ status.Tape (tape_len input.first.shape) t.got → tape_len input.first.shape ≢ t.got →
+    EndsWith s bytes tap tap
+tape_refused s bytes input t tap spelled drawn is other =
+    subst (λ (x : Status). EndsWith x bytes tap tap) (sym is) (
+      record {
+        input = input;
+        tape = t;
+        spelled = spelled;
+        drawn = drawn;
+        wanted = refl;
+        gotten = refl;
+        other = other;
+      },
+      λ j. refl,
+    )
