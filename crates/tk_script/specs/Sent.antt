@@ -1,5 +1,5 @@
 -- What each client sends in each turn: it depends on the script alone.
-use Rattle.std.specs.Prelude.{ℕ, ◌+◌, ◌==◌, nat_le, max, List, [], ◌∷◌, filter, find, count_by, slice_index_or, Option}
+use Rattle.std.specs.Prelude.{ℕ, ◌+◌, ◌==◌, nat_le, nat_lt, Bool, max, List, [], ◌∷◌, filter, find, count_by, slice_index_or, Option}
 use Rattle.tk_shape.specs.declared.shape.Shape.{Shape}
 use Rattle.tk_script.specs.declared.script.Script.{Script}
 use Rattle.tk_script.specs.declared.role.Role.{Role}
@@ -17,6 +17,7 @@ pub record Sending : Type 0 where
 abbrev pub blank_role : Role
 blank_role = record { writer = 0; followers = [] }
 
+-- who writes a log
 abbrev pub writer_of : Script → ℕ → ℕ
 writer_of S log = (slice_index_or S.roles log blank_role).writer
 
@@ -33,9 +34,13 @@ sendings_from shape free earlier (y ∷ ys) =
 abbrev pub sendings : Script → ℕ → List Sending
 sendings S c = sendings_from S.shape 0 [] (filter (λ y. writer_of S y.log == c) S.says)
 
--- what a client sends in a turn, if it sends a text
+-- the turn is one of the run
+abbrev pub in_run : Shape → Sending → Bool
+in_run shape y = nat_lt y.turn (turn_count shape)
+
+-- what a client sends in a turn, if it sends a text: after the last turn nothing is sent
 unfoldable pub sent : Script → ℕ → ℕ → Option Sending
-sent S g c = find (λ y. y.turn == g) (sendings S c)
+sent S g c = find (λ y. y.turn == g) (filter (in_run S.shape) (sendings S c))
 
 -- how many texts are left over
 abbrev pub unsent_count : Script → ℕ → ℕ
