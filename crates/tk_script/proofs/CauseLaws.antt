@@ -40,25 +40,11 @@ read_numbers-kept ns z e kept =
     subst (λ ms. broken (numbers_in ms) ≡ None → read_numbers (Some ms) ≡ if_built (named z)) e
     (λ k. ap (unbroken (named z)) k) kept
 
-fits_bucket : (n : Numbers) → n.retained ≤ n.depth → nat_le n.retained n.depth ≡ true
-fits_bucket n h = grind (arith, nat_tests)
-
-beyond_bucket : (n : Numbers) → n.depth < n.retained → nat_le n.retained n.depth ≡ false
-beyond_bucket n h = grind (arith, nat_tests)
-
-pub built : (n : Numbers) → n.retained ≤ n.depth → n.ahead ≡ 0 → if_built n ≡ Ok n
-built n h e = rw (fits_bucket n h, eq-eqb n.ahead 0 e) refl
-
-pub retains_more : (n : Numbers) → n.depth < n.retained → if_built n ≡ Err cause.NotBuilt
-retains_more n h = rw (beyond_bucket n h) refl
-
-and_false : (b : Bool) → b && false ≡ false
-and_false true = refl
-and_false false = refl
+pub built : (n : Numbers) → n.ahead ≡ 0 → if_built n ≡ Ok n
+built n e = rw (eq-eqb n.ahead 0 e) refl
 
 pub reads_ahead : (n : Numbers) → n.ahead ≢ 0 → if_built n ≡ Err cause.NotBuilt
-reads_ahead n h =
-    rw (ne_eqb n.ahead 0 h, and_false (nat_le n.retained n.depth)) refl
+reads_ahead n h = rw (ne_eqb n.ahead 0 h) refl
 
 pub read_numbers-broken : (ns : List ℕ) (f : Field) (v : ℕ) → length ns ≡ 12 →
     broken (numbers_in ns) ≡ Some (limit f v false) →

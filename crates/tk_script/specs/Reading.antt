@@ -70,9 +70,9 @@ numbers_after word line = word_then word (parts_of line)
 abbrev pub named : Shape → Numbers
 named shape = numbers_in (numbers_of shape)
 
--- no more writes are retained than a bucket has slots, and no one reads ahead
+-- no one reads ahead
 abbrev pub is_built : Numbers → Bool
-is_built n = nat_le n.retained n.depth && (n.ahead == 0)
+is_built n = n.ahead == 0
 
 -- a shape within its limits, of which a run may not be built yet
 abbrev pub if_built : Numbers → Reads Numbers

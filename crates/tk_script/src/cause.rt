@@ -9,8 +9,7 @@ pub enum Cause {
     Form,
     /// The shape's numbers break a limit, of which this is the first.
     Shape { field: Field, value: u64 },
-    /// The shape is within its limits, but a run that retains more writes than a bucket has slots, or reads ahead,
-    /// isn't built yet: for the time being.
+    /// The shape is within its limits, but a run that reads ahead isn't built yet: for the time being.
     NotBuilt,
     /// A number is out of range, and this is the first.
     Number { value: u32 },

@@ -71,7 +71,7 @@ fn if_built(shape: Shape) -> Result<Shape, Cause>
     ensures only { IsBuiltShape shape → result ≡ Ok shape }
     ensures read { IsRead named result (if_built (named shape)) }
 {
-    if shape.retained > shape.depth || shape.ahead != 0 {
+    if shape.ahead != 0 {
         return Err(Cause::NotBuilt);
     }
     Ok(shape)

@@ -173,6 +173,10 @@ fn refused_shapes(rt: HostRuntime) {
         field: Field::Servers,
         value: 9,
     };
+    let retained = Cause::Shape {
+        field: Field::Retained,
+        value: 33,
+    };
     for (numbers, line, cause) in [
         (
             b"2 8 4 4 24 64 1 0 2 2 1\ndrawn\n".as_slice(),
@@ -180,10 +184,11 @@ fn refused_shapes(rt: HostRuntime) {
             Cause::Form,
         ),
         (b"9 8 4 5 24 64 1 1 2 2 1 1\ndrawn\n".as_slice(), 2, servers),
+        (b"2 8 4 33 24 64 1 1 2 2 1 1\ndrawn\n".as_slice(), 2, retained),
         (
-            b"2 8 4 5 24 64 1 0 2 2 1 1\ndrawn\n".as_slice(),
-            2,
-            Cause::NotBuilt,
+            b"2 8 4 32 24 64 1 0 2 2 1 1\ndrawn\n".as_slice(),
+            4,
+            Cause::Early,
         ),
         (
             b"2 8 4 4 24 64 1 1 2 2 1 1\ndrawn\n".as_slice(),
