@@ -18,4 +18,6 @@ pub use table::{Put, Table};
 pub use tk_shape::Memory;
 
 #[cfg(test)]
+mod pressure;
+#[cfg(test)]
 mod tests;

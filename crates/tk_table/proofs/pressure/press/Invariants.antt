@@ -1,0 +1,9 @@
+use Rattle.std.proofs.Common.{◌≡◌, ◌<◌, All}
+use Rattle.tk_table.proofs.pressure.press.Given as goal
+
+-- the table has its sizes, and the writes so far are below the next position
+abbrev pub invariant-loop-position : goal.invariant-loop-position
+invariant-loop-position g l =
+    (l.table.shape.buckets ≡ 8)
+    × (l.table.shape.block ≡ 24)
+    × All (λ q. q.position < l.position) l.table.recent
