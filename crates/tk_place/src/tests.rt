@@ -68,6 +68,8 @@ fn steps_of_a_chain(rt: HostRuntime) -> Result<(), Fail> {
         Step { bucket: 0, slot: 0 },
     ];
     assert_eq!(rt; steps.as_slice(), want.as_slice());
+    let steps = steps_for(alloc, [1, 2, 9, 9, 9, 9, 9, 9], (0, 1), &mut scratch)?;
+    assert_eq!(rt; steps.as_slice(), [want[0], want[1]].as_slice());
     fit_by_placements();
     placed_in_any_order();
     Ok(())
