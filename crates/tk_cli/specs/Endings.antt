@@ -4,7 +4,9 @@ use Rattle.tk_script.specs.declared.cause.Cause.{Cause}
 use Rattle.tk_script.specs.declared.cause.Cause.TheVariants as cause
 use Rattle.tk_script.specs.declared.error.ScriptError.{ScriptError}
 use Rattle.tk_script.specs.declared.error.ScriptError.TheVariants as script_error
-use Rattle.tk_script.specs.Grammar.{lines_of}
+use Rattle.tk_script.specs.declared.input.Input.{Input}
+use Rattle.tk_script.specs.Built.{IsBuiltShape}
+use Rattle.tk_script.specs.Grammar.{lines_of, Spells}
 use Rattle.tk_script.specs.Reading.{read_input}
 use Rattle.tk_cli.specs.declared.run_error.RunError.{RunError}
 use Rattle.tk_cli.specs.declared.run_error.RunError.TheVariants as run_error
@@ -26,9 +28,11 @@ abbrev pub run_status : RunError → Status
 run_status run_error.Taps = status.Write
 run_status run_error.Memory = status.Memory
 
--- this line of the bytes is the first that is refused, for this cause
-abbrev pub Refuses : List ℕ → ℕ → Cause → Type 0
-Refuses bytes line c = read_input (lines_of bytes) ≡ Err (line, c)
+-- this line of the bytes is the first that is refused, for this cause; and they spell no input of a
+-- shape that is built
+pub record Refuses (bytes : List ℕ) (line : ℕ) (c : Cause) : Type 0 where
+  pub first : read_input (lines_of bytes) ≡ Err (line, c)
+  pub none : (input : Input) → IsBuiltShape input.first.shape → Spells bytes input → ⊥
 
 -- a run of the bytes may end with this status
 abbrev pub EndsWith : Status → List ℕ → (ℕ → Option (List ℕ)) → (ℕ → Option (List ℕ)) → Type 0

@@ -60,11 +60,13 @@ pub record RunsInto (bytes : List ℕ) (tap tap' : ℕ → Option (List ℕ)) : 
   pub taps : TapsGainFronts input.first.shape.servers (seen_in input) tap tap'
   pub others : TapsKeepBut input.first.shape.servers tap tap'
 
--- the bytes spell a drawn input, of which the tape has another length than the shape wants
+-- the bytes spell a drawn input of a shape that is built, of which the tape has another length than
+-- the shape wants
 pub record HasOtherTape (bytes : List ℕ) (want got : ℕ) : Type 0 where
   pub input : Input
   pub tape : RawTape
   pub spelled : Spells bytes input
+  pub built : IsBuiltShape input.first.shape
   pub drawn : input.tape ≡ Some tape
   pub wanted : want ≡ tape_len input.first.shape
   pub gotten : got ≡ tape.got

@@ -257,8 +257,103 @@ fn keyed_run(rt: HostRuntime) -> Result<(), Fail> {
     Ok(())
 }
 
+/// A keyed script with a text, over three servers.
+const KEYED_TEXT: &[u8] = b"talek 1
+shape 3 16 2 2 24 64 2 0 2 2 1 1
+keyed
+log 1 0
+handle e3a637c30e59b7b420cfdb25fe79b0ab5122befab04c5d6622f8c1475e9b1dcfa59831c867e13722b288885d351f6fc417078f6f5473348c7e0405cb37a48f5ecbde976d0a3a2682509fa5d06b91d9df36cfe45254c5402957c6a6f5312852400ce8eacaa9e06916
+seed 7c81120cb978f72480902a2b4a0d5afdfeac82ff6b495cd916561a3d75ba307e
+seed 1a18c3bf516760312a0ada0350b38a1448a4b38c5029c49ff49b6965d716b2b4
+say 1 1 0 n\xc3\xa9
+end
+";
+
+const KEYED_TEXT_REPORT: &[u8] = b"report
+order 1 1 0 1 mark
+reads 1 1 0 0
+order 2 1 0 1 mark
+reads 2 1 1 1
+log 0 0 1
+text 0 n\xc3\xa9
+unsent 0 0
+unsent 1 0
+end
+";
+
+#[test]
+fn keyed_text(rt: HostRuntime) -> Result<(), Fail> {
+    let mut source = source_of(rt.alloc(), KEYED_TEXT)?;
+    let mut sink = MemSink::new(rt.alloc(), 4096, Vec::new(rt.alloc()));
+    assert_eq!(rt;
+        run(&rt, &["serial"], &mut source, &mut sink)?,
+        Status::Done
+    );
+    assert_eq!(rt; sink.bytes(), KEYED_TEXT_REPORT);
+    Ok(())
+}
+
+/// A script of which every write wants one bucket of one slot, where five are retained.
+const ONE_BUCKET: &[u8] = b"talek 1
+shape 4 64 1 5 32 64 2 0 3 4 1 1
+drawn
+log 1 2
+end
+tape
+fill 00 1440
+end
+";
+
+const ONE_BUCKET_REPORT: &[u8] = b"report
+order 1 1 0 1 2 mark
+reads 1 1 0 0 0
+order 2 1 0 1 2 mark
+reads 2 1 1 1 1
+order 3 1 0 1 2 mark
+reads 3 1 2 2 2
+order 4 1 0 1 2 mark
+reads 4 1 3 3 3
+log 0 2 3
+text 0 
+text 1 
+text 2 
+unsent 0 0
+unsent 1 0
+unsent 2 0
+end
+";
+
+#[test]
+fn displaced_and_expired(rt: HostRuntime) -> Result<(), Fail> {
+    let mut source = source_of(rt.alloc(), ONE_BUCKET)?;
+    let mut sink = MemSink::new(rt.alloc(), 4096, Vec::new(rt.alloc()));
+    assert_eq!(rt;
+        run(&rt, &["serial"], &mut source, &mut sink)?,
+        Status::Done
+    );
+    assert_eq!(rt; sink.bytes(), ONE_BUCKET_REPORT);
+    Ok(())
+}
+
 /// What is behind the first line of an input, and the status that it ends with.
-const REFUSED: [(&str, Status); 7] = [
+const REFUSED: [(&str, Status); 10] = [
+    (
+        "",
+        Status::Script {
+            line: 2,
+            cause: Cause::Early,
+        },
+    ),
+    (
+        "shape 1 8 4 4 24 64 1 0 2 2 1 1\ndrawn\n",
+        Status::Script {
+            line: 2,
+            cause: Cause::Shape {
+                field: Field::Servers,
+                value: 1,
+            },
+        },
+    ),
     (
         "shape 2 8 4 4 24 64 1 0 2 2 1 1\ndruwn\nlog 0 1\nend\n",
         Status::Script {
@@ -308,11 +403,27 @@ const REFUSED: [(&str, Status); 7] = [
             got: 257,
         },
     ),
+    (
+        "shape 2 8 4 4 24 64 1 0 2 2 1 1\ndrawn\nlog 0 1\nend\ntape\nfill 00 255\nend\n",
+        Status::Tape {
+            want: 256,
+            got: 255,
+        },
+    ),
 ];
 
 #[test]
 fn refused_inputs(rt: HostRuntime) -> Result<(), Fail> {
     let alloc = rt.alloc();
+    let mut nothing = source_of(alloc, b"")?;
+    let mut sink = MemSink::new(alloc, 4096, Vec::new(alloc));
+    assert_eq!(rt;
+        run(&rt, &["serial"], &mut nothing, &mut sink)?,
+        Status::Script {
+            line: 1,
+            cause: Cause::Early,
+        }
+    );
     for (behind, status) in REFUSED {
         let input = joined(alloc, &[b"talek 1\n", behind.as_bytes()])?;
         let mut source = source_of(alloc, input.as_slice())?;

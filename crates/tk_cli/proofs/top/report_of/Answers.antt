@@ -3,8 +3,17 @@ use Rattle.std.proofs.Common.{◌∙◌, ◌≡◌, ap, sym, subst, None, rules}
 use Rattle.tk_cli.specs.declared.status.Status.{Status}
 use Rattle.tk_cli.specs.Endings.{EndsWith}
 use Rattle.tk_cli.proofs.SerialLaws.{keyed_run, keyed_book, drawn_run, drawn_book, run-to, run-into}
-use Rattle.tk_cli.proofs.EndingLaws.{ended_early, tape_refused}
+use Rattle.tk_cli.proofs.EndingLaws.{ended_early, script_refused, tape_refused}
 use Rattle.tk_cli.proofs.top.report_of.Goals as goal
+
+pub returns-in-Err-clause-ended : goal.returns-in-Err-clause-ended
+returns-in-Err-clause-ended g c =
+    let bytes = c.args.text.now in
+    let tap = g.T.Taps.tap c.args.taps.now in
+    let e = c.in-Err.error in
+    subst (λ (s : Status). EndsWith s bytes tap tap) (sym c.status_of_script.ensures)
+    (script_refused e bytes tap c.in-Err.ensures.read
+    (λ input built spells. c.in-Err.ensures.only input built spells))
 
 pub returns-in-Ok-serial-clause-found : goal.returns-in-Ok-serial-clause-found
 returns-in-Ok-serial-clause-found g c =
@@ -38,7 +47,7 @@ returns-in-Err-serial-clause-ended g c =
 pub returns-in-Err-drawn_draws-clause-ended : goal.returns-in-Err-drawn_draws-clause-ended
 returns-in-Err-drawn_draws-clause-ended g c =
     tape_refused c.in-Err-drawn_draws.status c.args.text.now c.in-Ok.input c.in-Some-tape.tape
-    (g.T.Taps.tap c.args.taps.now) c.in-Ok.ensures.found c.in-Some-tape.is
+    (g.T.Taps.tap c.args.taps.now) c.in-Ok.ensures.found c.in-Ok.ensures.built c.in-Some-tape.is
     c.in-Err-drawn_draws.ensures.refused c.in-Err-drawn_draws.ensures.other
 
 pub returns-in-Ok-serial-2-clause-found : goal.returns-in-Ok-serial-2-clause-found
