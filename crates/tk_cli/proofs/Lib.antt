@@ -15,6 +15,9 @@ pub mod ShownLaws
 pub mod ServersLaws
 pub mod TapLaws
 pub mod PlacedLaws
+pub mod SentTextLaws
+pub mod RetainedLaws
+pub mod PassingOverLaws
 pub mod PrivateReadLaws
 pub mod TurnLaws
 pub mod ReadingLaws

@@ -40,7 +40,7 @@ ascend_from_less : (p q : ℕ) (R : List Record) → p ≤ q → AscendFrom q R 
 ascend_from_less p q [] less ascend = tt
 ascend_from_less p q (r ∷ R) less ascend = (omega (arith, less, ascend.0), ascend.1)
 
-ascend-entry : (p position : ℕ) (e : Entry) (R : List Record) → position ≡ p →
+pub ascend-entry : (p position : ℕ) (e : Entry) (R : List Record) → position ≡ p →
     AscendFrom (p + 1) R → AscendFrom p (cons_option (record_at position e) R)
 ascend-entry p position (Write w) R here later =
     (omega (arith, here), subst (λ (n : ℕ). AscendFrom (n + 1) R) (sym here) later)

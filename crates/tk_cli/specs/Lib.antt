@@ -17,5 +17,6 @@ pub mod Tapped
 pub mod Turns
 pub mod Shown
 pub mod Readers
+pub mod PassingOver
 pub mod Serial
 pub mod Endings

@@ -10,6 +10,7 @@ mod got;
 mod handle_word;
 mod history_text;
 mod joining;
+mod laws;
 mod log_text;
 mod order;
 mod ordering;
@@ -34,6 +35,7 @@ mod top;
 mod turns;
 mod writes;
 
+pub use laws::honest_passing_over;
 pub use status::{Status, status_line};
 pub use top::{INPUT_LIMIT, talek};
 
