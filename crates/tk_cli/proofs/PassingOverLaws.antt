@@ -18,18 +18,18 @@ use Rattle.tk_script.proofs.SoundLaws.{parts}
 use Rattle.tk_words.specs.Words.{BookWords, words_of}
 use Rattle.tk_words.specs.Opening.{IsNumber, OpensSealed}
 use Rattle.tk_words.specs.OpeningLaws.{opens_sealed}
-use Rattle.tk_frames.specs.Order.{Record, before}
+use Rattle.tk_frames.specs.Order.{before}
 use Rattle.tk_table.specs.Lists.{first_some}
 use Rattle.tk_cli.specs.declared.got.Got.{Got}
 use Rattle.tk_cli.specs.declared.got.Got.TheVariants.{Absent, Text}
 use Rattle.tk_cli.specs.Bloom.{is_shown}
 use Rattle.tk_cli.specs.Entries.{entries}
-use Rattle.tk_cli.specs.Client.{Follow, Reader, Target, next_of, new_follow, new_reader, untried}
+use Rattle.tk_cli.specs.Client.{Follow, Reader, Target, next_of, new_follow, untried}
 use Rattle.tk_cli.specs.Client.{at_epoch, wanted, follow_at, places_from_cursor, target}
 use Rattle.tk_cli.specs.Client.{follow_after, after_read}
-use Rattle.tk_cli.specs.Report.{lookup, is_follower, follows_of, read_over, target_for, answer_for}
-use Rattle.tk_cli.specs.Report.{reader_step, reader_before, target_at, first_got, got_in, got_of}
-use Rattle.tk_cli.specs.PassingOver.{IsNotRetained, Reads, IsNextText, IsRightlyPassed}
+use Rattle.tk_cli.specs.Report.{lookup, is_follower, read_over, target_for, answer_for}
+use Rattle.tk_cli.specs.Report.{reader_step, reader_before, target_at, first_got, got_in}
+use Rattle.tk_cli.specs.PassingOver.{IsNotRetained, IsRightlyPassed}
 use Rattle.tk_cli.specs.PassingOver.{HonestPassingOver}
 use Rattle.tk_cli.proofs.RetainedLaws.{not_shown-not_retained, not_found-not_retained}
 

@@ -1,8 +1,8 @@
 -- A record that is retained is shown, and its text is what is looked up.
 use Rattle.std.proofs.Common.{◌≡◌, refl, ap, ap₂, sym, ◌∙◌, subst, arith, inl, inr, eq-eqb}
-use Rattle.std.proofs.Common.{ℕ, zero, suc, ◌+◌, ◌-◌, ◌≤◌, Bool, true, false, cond, ◌&&◌, ◌==◌}
+use Rattle.std.proofs.Common.{ℕ, zero, suc, ◌+◌, ◌-◌, Bool, true, false, cond, ◌&&◌, ◌==◌}
 use Rattle.std.proofs.Common.{List, [], ◌∷◌, ◌++◌, length, drop, flat_map, Option, Some, None}
-use Rattle.std.proofs.Common.{Contains, eqb-true, count_by, zero-add, ◌||◌}
+use Rattle.std.proofs.Common.{eqb-true, count_by, zero-add, ◌||◌}
 use Rattle.std.specs.List.{AllByRecursion, list_all, list_any}
 use Rattle.std.specs.Option.{option_or}
 use Rattle.std.proofs.lemmas.Bool.{and_from, or_left, or_right, both_ways}

@@ -1,6 +1,6 @@
 -- Each text that is sent was said in the script, so it can be sealed.
 use Rattle.std.proofs.Common.{◌≡◌, subst, ℕ, ◌+◌, ◌≤◌, Bool, true, false, cond, max, ◌==◌}
-use Rattle.std.proofs.Common.{List, [], ◌∷◌, length, filter, find, IsTrue, nat_le, Some, None}
+use Rattle.std.proofs.Common.{List, [], ◌∷◌, length, filter, find, IsTrue, nat_le, Some}
 use Rattle.std.specs.List.{AllByRecursion, list_all}
 use Rattle.std.proofs.lemmas.Bool.{leb-true}
 use Rattle.tk_shape.specs.declared.shape.Shape.{Shape}
