@@ -1,1 +1,6 @@
 pub mod ScheduleLaws
+pub mod TurnLaws
+pub mod LineLaws
+pub mod DueLaws
+pub mod ToldLaws
+pub mod BadLineLaws

@@ -1,9 +1,9 @@
-ghost use Rattle.std.specs.Prelude.{◌≡◌, ◌<◌, IfOk, map};
+ghost use Rattle.std.specs.Prelude.{◌≡◌, IfOk, map};
 ghost use Rattle.std.specs.List.{range_with_len};
-ghost use Rattle.tk_shape.specs.Lengths.{turn_count};
 ghost use Rattle.tk_schedule.specs.declared.item.Item.TheVariants.{Client};
 
-use crate::{Item, Items, closes};
+use crate::told::turns_in;
+use crate::{HistoryError, Item, Items, RawHistory, closes};
 use std::alloc::Global;
 use std::marker::Model;
 use tk_shape::{Memory, Shape, Words};
@@ -31,10 +31,13 @@ impl Model for History {
 }
 
 impl History {
-    ghost use Rattle.std.specs.Prelude.{◌≡◌, ◌<◌, length, IfOk, IsTrue, slice_index_or};
+    ghost use Rattle.std.specs.Prelude.{◌≡◌, ◌<◌, List, length, IfOk, IsTrue, None, slice_index_or};
     ghost use Rattle.std.specs.List.{list_all};
     ghost use Rattle.tk_shape.specs.declared.shape.Shape.{Shape};
     ghost use Rattle.tk_shape.specs.Lengths.{turn_count};
+    ghost use Rattle.tk_schedule.specs.declared.history.TurnOrder.{TurnOrder};
+    ghost use Rattle.tk_schedule.specs.Due.{bad_line};
+    ghost use Rattle.tk_schedule.specs.Told.{Tells, Gives, Names};
     ghost use Rattle.tk_schedule.specs.Schedule.{serial_history, order_at, epoch_at, blank_turn, is_within, IsLegal};
 
     /// The serial history: in each turn the clients by number, the mark last, and no read of the turn's own epoch.
@@ -47,6 +50,21 @@ impl History {
             turns.push(TurnOrder::serial(alloc, shape, turn)?)?;
         }
         Ok(History { turns })
+    }
+
+    /// The history that lines tell. An error names the first line that isn't the one due.
+    pub fn from_raw(
+        alloc: Global,
+        shape: &Shape,
+        raw: &RawHistory,
+    ) -> Result<History, HistoryError>
+        ensures told { IfOk result (λ h. Tells shape.now raw.now h) }
+        ensures only { (h : List TurnOrder) → Tells shape.now raw.now h → Gives result (λ g. g ≡ h) }
+        ensures bad { Names (λ h. None) result (bad_line shape.now raw.now) }
+    {
+        Ok(History {
+            turns: turns_in(alloc, shape, raw.as_slice())?,
+        })
     }
 
     /// A turn's order.
@@ -80,9 +98,9 @@ fn clients_in_order(alloc: Global, clients: u32) -> Result<Vec<Item>, Memory>
 }
 
 impl TurnOrder {
-    ghost use Rattle.std.specs.Prelude.{◌≡◌, ◌<◌, IfOk};
+    ghost use Rattle.std.specs.Prelude.{◌≡◌, ◌<◌, IfOk, replicate};
     ghost use Rattle.tk_shape.specs.Lengths.{turn_count};
-    ghost use Rattle.tk_schedule.specs.Schedule.{serial_turn};
+    ghost use Rattle.tk_schedule.specs.Schedule.{serial_turn, phases_over};
 
     /// A turn of the serial history.
     fn serial(alloc: Global, shape: &Shape, turn: u32) -> Result<TurnOrder, Memory>
@@ -93,10 +111,17 @@ impl TurnOrder {
         if closes(shape, turn) {
             order.push(Item::Publish)?;
         }
-        let epochs = vec![in alloc; turn / shape.ticks; shape.clients as usize]?;
         Ok(TurnOrder {
             order: Items::from_vec(order),
-            epochs: Words::from_vec(epochs),
+            epochs: TurnOrder::newest_before(alloc, shape, turn)?,
         })
+    }
+
+    /// For each client the newest epoch that is made before a turn.
+    pub(crate) fn newest_before(alloc: Global, shape: &Shape, turn: u32) -> Result<Words, Memory>
+        ensures { IfOk result (λ w. w ≡ replicate shape.now.clients (phases_over shape.now turn)) }
+    {
+        let epochs = vec![in alloc; turn / shape.ticks; shape.clients as usize]?;
+        Ok(Words::from_vec(epochs))
     }
 }

@@ -1,4 +1,6 @@
+use std::alloc::Global;
 use std::marker::Model;
+use tk_shape::Memory;
 
 /// What stands in one place of a turn's order: a client's write, or the mark of the phase's epoch.
 #[derive(Clone, Copy, Debug, PartialEq, Eq)]
@@ -23,7 +25,16 @@ impl Model for Items {
 }
 
 impl Items {
-    ghost use Rattle.std.specs.Prelude.{◌≡◌};
+    ghost use Rattle.std.specs.Prelude.{◌≡◌, IfOk};
+
+    /// A copy of a slice.
+    pub fn from_slice(alloc: Global, items: &[Item]) -> Result<Items, Memory>
+        ensures { IfOk result (λ i. i ≡ items.now) }
+    {
+        Ok(Items {
+            items: Vec::from_slice(alloc, items)?,
+        })
+    }
 
     pub fn from_vec(items: Vec<Item>) -> Items
         ensures { result ≡ items.items }
