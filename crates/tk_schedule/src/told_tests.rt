@@ -72,6 +72,13 @@ fn good() -> [Said<'static>; 6] {
     ]
 }
 
+fn good_history(alloc: Global, shape: &Shape) -> Result<History, HistoryError>
+    ensures { IfOk result (λ h. IsLegal shape.now h) }
+{
+    let raw = lines_of(alloc, &good())?;
+    History::from_raw(alloc, shape, &raw)
+}
+
 /// The epoch that a client reads in a turn of a legal history.
 fn epoch_of(shape: &Shape, history: &History, turn: u32, client: u32) -> u32
     requires legal { IsLegal shape.now history.now }
@@ -94,14 +101,16 @@ fn lines_tell_their_history(rt: HostRuntime) -> Result<(), Fail> {
     let shape = small_shape().ok_or("in range")?;
     let raw = lines_of(alloc, &good()).ok().ok_or("memory")?;
     assert_eq!(rt; raw.as_slice().len(), 7);
-    let history = History::from_raw(alloc, &shape, &raw).ok().ok_or("legal")?;
+    assert_eq!(rt; raw.into_vec().len(), 7);
+    let Ok(history) = good_history(alloc, &shape) else {
+        return Err(Fail::from("legal"));
+    };
     let second = [FIRST, MARK, SECOND];
     assert_eq!(rt; history.order(1), second.as_slice());
     assert_eq!(rt; epoch_of(&shape, &history, 0, 1), 0);
     assert_eq!(rt; epoch_of(&shape, &history, 1, 1), 1);
     assert_eq!(rt; epoch_of(&shape, &history, 2, 0), 1);
     assert_eq!(rt; epoch_of(&shape, &history, 3, 0), 2);
-    assert_eq!(rt; raw.into_vec().len(), 7);
     Ok(())
 }
 
