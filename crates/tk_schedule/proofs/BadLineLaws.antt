@@ -53,8 +53,12 @@ due_begins shape raw due =
     let e = extend shape 0 (turn_count shape) (kinds raw)
     (ap (λ (ds : List Due). are_due shape ds (kinds raw)) (dues-is shape 0 (turn_count shape))
     ∙ due) in
-    record { history = e.turns; legal = all_legal shape e.turns e.counted e.legal; rest = e.rest;
-    lines = e.lines }
+    record {
+      history = e.turns;
+      legal = all_legal shape e.turns e.counted e.legal;
+      rest = e.rest;
+      lines = e.lines;
+    }
 
 -- where no line is bad, the lines tell a history
 none_tells : (shape : Shape) (raw : List RawLine) → ends_once raw ≡ true → bad_line shape raw ≡ None
@@ -64,12 +68,14 @@ none_tells shape raw ends none =
     let b = due_begins shape raw (none_due shape
     (flat_map (turn_due shape) (range_with_len 0 (turn_count shape))) raw ends none) in
     let left = none_left (kinds raw) b.rest (end_once-kinds raw ∙ ends)
-    (ap end_once b.lines ∙ lines_end_once shape 0 b.history) in
-    (b.history, record {
-      legal = b.legal;
-      lines = sym (append-nil (kinds raw)) ∙ ap (λ (r : List RawKind). kinds raw ++ r) (sym left)
-          ∙ b.lines;
-    })
+    (ap end_once b.lines ∙ lines_end_once shape 0 b.history) in (
+      b.history,
+      record {
+        legal = b.legal;
+        lines = sym (append-nil (kinds raw)) ∙ ap (λ (r : List RawKind). kinds raw ++ r) (sym left)
+            ∙ b.lines;
+      },
+    )
 
 pub tells_none : (shape : Shape) (raw : List RawLine) (H : List TurnOrder) → Tells shape raw H →
     bad_line shape raw ≡ None
@@ -80,8 +86,11 @@ tells_none shape raw H told =
     ∙ legal_due shape H told.legal)
 
 pub none_bad : NoneBad
-none_bad shape raw ends = (λ e. none_tells shape raw ends e, λ (H, told). tells_none shape raw H
-    told)
+none_bad shape raw ends = (
+  λ e. none_tells shape raw ends e,
+  λ (H, told). tells_none shape raw H
+      told,
+)
 
 bad_first : (shape : Shape) (raw : List RawLine) (at : ℕ) → bad_line shape raw ≡ Some at →
     IsFirstBad shape raw at

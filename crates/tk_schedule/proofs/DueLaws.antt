@@ -215,9 +215,9 @@ bad_stops shape (d ∷ ds) (l ∷ ls) at e =
     elim (is_due shape d l.kind) as (λ b. is_due shape d l.kind ≡ b →
     Stops shape (d ∷ ds) (l ∷ ls) at) [
       | true ↦ λ p. stops_more shape d ds l ls at p
-      (bad_stops shape ds ls at (sym (due_bad shape d ds l ls p) ∙ e))
+          (bad_stops shape ds ls at (sym (due_bad shape d ds l ls p) ∙ e))
       | false ↦ λ p. let some = undue_bad shape d ds l ls p in
-      stops_here shape d ds l ls at p (cc (some, e))
+          stops_here shape d ds l ls at p (cc (some, e))
     ] refl
 
 -- no line stands behind an End

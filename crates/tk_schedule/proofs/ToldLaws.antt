@@ -29,11 +29,12 @@ all_from : (shape : Shape) (g : ℕ) (turns : List TurnOrder)
     → ((k : ℕ) → k < length turns → IsTurn shape (g + k) (get_or turns k blank_turn)) →
     AllLegal shape g turns
 all_from shape g [] h = tt
-all_from shape g (turn ∷ turns) h =
-    (subst (λ (k : ℕ). IsTurn shape k turn) (add-zero g) (h 0 (omega arith)),
-    all_from shape (g + 1) turns (λ k l.
-    let next : g + suc k ≡ g + 1 + k = omega arith in
-    subst (λ (j : ℕ). IsTurn shape j (get_or turns k blank_turn)) next (h (suc k) (omega arith))))
+all_from shape g (turn ∷ turns) h = (
+  subst (λ (k : ℕ). IsTurn shape k turn) (add-zero g) (h 0 (omega arith)),
+  all_from shape (g + 1) turns (λ k l.
+      let next : g + suc k ≡ g + 1 + k = omega arith in
+      subst (λ (j : ℕ). IsTurn shape j (get_or turns k blank_turn)) next (h (suc k) (omega arith))),
+)
 
 all_at : (shape : Shape) (g : ℕ) (turns : List TurnOrder) → AllLegal shape g turns
     → (k : ℕ) → k < length turns → IsTurn shape (g + k) (get_or turns k blank_turn)

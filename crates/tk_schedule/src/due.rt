@@ -38,10 +38,7 @@ fn has_each(clients: u32, items: &[Item]) -> bool
 fn times(client: u32, items: &[Item]) -> usize
     ensures { result ≡ count_by (is_of client) items.now }
 {
-    items
-        .iter()
-        .filter(|item| is_of(client, item))
-        .count()
+    items.iter().filter(|item| is_of(client, item)).count()
 }
 
 /// Whether an item is a client's write.

@@ -53,11 +53,7 @@ impl History {
     }
 
     /// The history that lines tell. An error names the first line that isn't the one due.
-    pub fn from_raw(
-        alloc: Global,
-        shape: &Shape,
-        raw: &RawHistory,
-    ) -> Result<History, HistoryError>
+    pub fn from_raw(alloc: Global, shape: &Shape, raw: &RawHistory) -> Result<History, HistoryError>
         ensures told { IfOk result (λ h. Tells shape.now raw.now h) }
         ensures only { (h : List TurnOrder) → Tells shape.now raw.now h → Gives result (λ g. g ≡ h) }
         ensures bad { Names (λ h. None) result (bad_line shape.now raw.now) }

@@ -20,6 +20,5 @@ pub use turns::{closes, place, turn};
 
 #[cfg(test)]
 mod tests;
-
 #[cfg(test)]
 mod told_tests;

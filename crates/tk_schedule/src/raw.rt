@@ -6,9 +6,17 @@ use tk_shape::Words;
 #[derive(Debug, Drop)]
 pub enum RawKind {
     /// The order of a turn's writes and marks.
-    Order { phase: u32, tick: u32, items: Items },
+    Order {
+        phase: u32,
+        tick: u32,
+        items: Items,
+    },
     /// The epoch that each client reads in a turn.
-    Reads { phase: u32, tick: u32, epochs: Words },
+    Reads {
+        phase: u32,
+        tick: u32,
+        epochs: Words,
+    },
     /// Nothing more.
     End,
 }

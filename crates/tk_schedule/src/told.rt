@@ -100,7 +100,12 @@ fn epochs_in<'a>(shape: &Shape, turn: u32, line: &'a RawLine) -> Result<&'a [u32
     ensures bad { IfErr result (λ e. e ≡ Line line.now.line) }
     ensures undue { IfErr result (λ e. is_due shape.now (epochs_of turn) line.now.kind ≡ false) }
 {
-    if let RawKind::Reads { phase, tick, epochs } = &line.kind {
+    if let RawKind::Reads {
+        phase,
+        tick,
+        epochs,
+    } = &line.kind
+    {
         let epochs = epochs.as_slice();
         if is_turn_of(shape, turn, *phase, *tick) && are_epochs(shape, turn, epochs) {
             return Ok(epochs);

@@ -9,7 +9,9 @@ use std::test::Fail;
 use tk_shape::{Memory, Shape, Words};
 
 const FIRST: Item = Item::Client(0);
+
 const SECOND: Item = Item::Client(1);
+
 const MARK: Item = Item::Publish;
 
 /// A line that isn't the end.

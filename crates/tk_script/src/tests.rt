@@ -184,7 +184,11 @@ fn refused_shapes(rt: HostRuntime) {
             Cause::Form,
         ),
         (b"9 8 4 5 24 64 1 1 2 2 1 1\ndrawn\n".as_slice(), 2, servers),
-        (b"2 8 4 33 24 64 1 1 2 2 1 1\ndrawn\n".as_slice(), 2, retained),
+        (
+            b"2 8 4 33 24 64 1 1 2 2 1 1\ndrawn\n".as_slice(),
+            2,
+            retained,
+        ),
         (
             b"2 8 4 32 24 64 1 0 2 2 1 1\ndrawn\n".as_slice(),
             4,

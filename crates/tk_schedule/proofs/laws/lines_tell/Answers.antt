@@ -4,5 +4,9 @@ use Rattle.tk_schedule.proofs.DueLaws.{end_behind_told}
 use Rattle.tk_schedule.proofs.laws.lines_tell.Goals as goal
 
 pub returns : goal.returns
-returns c = record { one = tells_one; ends = ends_where_told; end = end_behind_told;
-    serial = tells_serial }
+returns c = record {
+  one = tells_one;
+  ends = ends_where_told;
+  end = end_behind_told;
+  serial = tells_serial;
+}

@@ -35,19 +35,24 @@ turns-preserved c =
     rules in
     let behind = due_from shape (c.turns.turn + 1) (turn_count shape - (c.turns.turn + 1)) in
     record {
-      counted = omega (arith, ap length pushed, length-append c.turns.turns.items
-          (c.in_ok-told.told ∷ []), c.turns.invariant.counted);
+      counted = omega (
+        arith,
+        ap length pushed,
+        length-append c.turns.turns.items
+            (c.in_ok-told.told ∷ []),
+        c.turns.invariant.counted,
+      );
       legal = rw pushed (legal-push shape c.turns.turns.items c.in_ok-told.told c.turns.turn
           c.turns.invariant.counted
-      c.turns.invariant.legal c.in_ok-told.ensures.legal);
+          c.turns.invariant.legal c.in_ok-told.ensures.legal);
       told = rw pushed (told-push shape (kinds c.args.raw.now) c.turns.turns.items c.in_ok-told.told
           c.turns.turn
-      (kinds c.turns.lines.now) (kinds c.in_ok-told.behind.now) c.turns.invariant.counted
-      c.turns.invariant.told
-      c.in_ok-told.ensures.told);
+          (kinds c.turns.lines.now) (kinds c.in_ok-told.behind.now) c.turns.invariant.counted
+          c.turns.invariant.told
+          c.in_ok-told.ensures.told);
       ends = c.in_ok-told.ensures.ends;
       bad = c.turns.invariant.bad
-      ∙ ap (λ (ds : List Due). first_bad shape ds c.turns.lines.now)
-      (due_from-step shape c.turns.turn (turn_count shape) (omega arith))
-      ∙ c.in_ok-told.ensures.bad behind;
+          ∙ ap (λ (ds : List Due). first_bad shape ds c.turns.lines.now)
+          (due_from-step shape c.turns.turn (turn_count shape) (omega arith))
+          ∙ c.in_ok-told.ensures.bad behind;
     }
