@@ -17,6 +17,21 @@ fn the_oldest_push_leaves(rt: HostRuntime) -> Result<(), Memory> {
 }
 
 #[test]
+fn a_position_pushed_twice_leaves_with_the_second_push(rt: HostRuntime) -> Result<(), Memory> {
+    let mut window = Window::open(rt.alloc(), 64, 1, 2)?;
+    window.push(&[5]);
+    window.push(&[5]);
+    window.push(&[7]);
+    let filter = window.filter(rt.alloc())?;
+    assert!(rt; filter.shows(&[5]) && filter.shows(&[7]));
+    window.push(&[9]);
+    let filter = window.filter(rt.alloc())?;
+    assert!(rt; filter.shows(&[7]) && filter.shows(&[9]));
+    assert!(rt; !filter.shows(&[5]));
+    Ok(())
+}
+
+#[test]
 fn a_filter_stays(rt: HostRuntime) -> Result<(), Memory> {
     let mut window = Window::open(rt.alloc(), 64, 1, 1)?;
     let none = window.filter(rt.alloc())?;
