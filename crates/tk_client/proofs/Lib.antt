@@ -1,0 +1,9 @@
+pub mod Keeping
+pub mod LogPlaces
+pub mod FollowLaws
+pub mod ReaderLaws
+pub mod AskingLaws
+pub mod JoiningLaws
+pub mod TakingLaws
+pub mod RepliesLaws
+pub mod StateLaws

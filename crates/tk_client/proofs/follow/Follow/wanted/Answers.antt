@@ -1,0 +1,31 @@
+-- Of a log whose numbers are all settled nothing is wanted.
+use Rattle.std.proofs.Common.{sym, ◌≤◌, arith}
+use Rattle.tk_shape.specs.Lengths.{turn_count}
+use Rattle.tk_words.specs.Words.{words_of}
+use Rattle.tk_client.specs.Asked.{shown_by}
+use Rattle.tk_client.specs.Client.{next_of}
+use Rattle.tk_client.proofs.FollowLaws.{wanted-settled, next-by-view}
+use Rattle.tk_client.proofs.follow.Follow.wanted.Goals as goal
+
+pub returns-then-next-turns : goal.returns-then-next-turns
+returns-then-next-turns g c =
+    let shape = c.args.shape.now in
+    let shown = shown_by c.args.filter.now (words_of shape (g.D.Draws.book c.args.draws.now)) in
+    let f = c.args.self.now in
+    let was = c.self.inside in
+    let same = next-by-view was.log was.got.items was.tried f c.self.view_is in
+    let settled : turn_count shape ≤ next_of f =
+    omega (
+      arith,
+      same,
+      c.if-next-turns.true,
+      c.turns.ensures.count,
+      c.len-next.ensures,
+      c.self.inside.got.ok.0,
+    )
+    in
+    record {
+      wanted = sym (wanted-settled shape shown c.args.anew f settled);
+      number_in = tt;
+      ahead_in = tt;
+    }

@@ -1,0 +1,98 @@
+-- What a client reads: the target of each read, and what the reader knows after it.
+use Rattle.std.specs.Prelude.{ℕ, ◌+◌, ◌-◌, ◌%◌, ◌==◌, nat_lt, Bool, ◌&&◌, cond, List, [], ◌∷◌, ◌++◌}
+use Rattle.std.specs.Prelude.{length, map, find, replicate, slice_index_or, slice_set, Option, Some}
+use Rattle.std.specs.Prelude.{None, option_map}
+use Rattle.std.specs.List.{range_with_len}
+use Rattle.tk_shape.specs.declared.shape.Shape.{Shape}
+use Rattle.tk_client.specs.declared.got.Got.{Got}
+use Rattle.tk_client.specs.declared.got.Got.TheVariants.{Absent, Text}
+use Rattle.tk_table.specs.Lists.{first_some}
+use Rattle.tk_shape.specs.Lengths.{turn_count}
+
+-- a log that is followed: what its numbers gave so far, one for each number below the next, and how
+-- many numbers from the next one on were asked for in vain in this epoch
+pub record Follow : Type 0 where
+  pub log : ℕ
+  pub got : List Got
+  pub tried : ℕ
+
+-- the number that comes next
+abbrev pub next_of : Follow → ℕ
+next_of f = length f.got
+
+-- the logs that are followed, the place among them where the next search begins, and the last epoch
+-- read
+pub record Reader : Type 0 where
+  pub follows : List Follow
+  pub cursor : ℕ
+  pub last : ℕ
+
+abbrev pub new_follow : ℕ → Follow
+new_follow log = record { log = log; got = []; tried = 0 }
+
+abbrev pub new_reader : List ℕ → Reader
+new_reader logs = record { follows = map new_follow logs; cursor = 0; last = 0 }
+
+-- which number of which log a read is for: the log's place among those followed, and how far ahead
+-- of the next number it is
+pub record Target : Type 0 where
+  pub place : ℕ
+  pub log : ℕ
+  pub number : ℕ
+  pub ahead : ℕ
+
+abbrev pub untried : Follow → Follow
+untried f = record f { tried = 0 }
+
+-- a new epoch may show what the last one did not
+abbrev pub at_epoch : ℕ → Reader → Reader
+at_epoch e r =
+    cond (e == r.last) r
+    (record { follows = map untried r.follows; cursor = r.cursor; last = e })
+
+-- how far ahead the number wanted of a log is: the least that is shown and not tried yet; without
+-- reading ahead the next one
+abbrev pub wanted : Shape → (ℕ → ℕ → Bool) → Follow → Option ℕ
+wanted shape shown f =
+    cond (shape.ahead == 0)
+    (cond (nat_lt (next_of f) (turn_count shape)) (Some 0) None)
+    (find (λ j. nat_lt (next_of f + j) (turn_count shape) && shown f.log (next_of f + j))
+    (range_with_len f.tried (shape.ahead - f.tried)))
+
+abbrev pub follow_at : Reader → ℕ → Follow
+follow_at r i = slice_index_or r.follows i (new_follow 0)
+
+-- the places from the cursor on, and then those before it
+abbrev pub places_from_cursor : Reader → List ℕ
+places_from_cursor r =
+    range_with_len r.cursor (length r.follows - r.cursor) ++ range_with_len 0 r.cursor
+
+-- The first log, cyclically from the cursor, of which a number is wanted; none for a dummy read.
+-- The reader is the one at the read's epoch, and shown says which numbers of which logs its filter
+-- shows.
+unfoldable pub target : Shape → (ℕ → ℕ → Bool) → Reader → Option Target
+target shape shown r =
+    first_some
+    (λ i. option_map (λ j. record {
+      place = i;
+      log = (follow_at r i).log;
+      number = next_of (follow_at r i) + j;
+      ahead = j;
+    }) (wanted shape shown (follow_at r i)))
+    (places_from_cursor r)
+
+-- a log after a read of the number that is j ahead: found, it and those before it are settled
+abbrev pub follow_after : Shape → ℕ → Option (List ℕ) → Follow → Follow
+follow_after shape j (Some text) f =
+    record { log = f.log; got = f.got ++ replicate j Absent ++ Text text ∷ []; tried = 0 }
+follow_after shape j None f = cond (shape.ahead == 0) f (record f { tried = j + 1 })
+
+-- the reader after a read and its answer; a dummy's answer is dropped
+unfoldable pub after_read : Shape → Reader → Option Target → Option (List ℕ) → Reader
+after_read shape r None answer = r
+after_read shape r (Some t) answer =
+    record r {
+      follows = slice_set r.follows t.place
+          (follow_after shape t.ahead answer (follow_at r t.place));
+      cursor = (t.place + 1) % length r.follows;
+    }

@@ -1,0 +1,10 @@
+pub mod Client
+pub mod Writing
+pub mod Writes
+pub mod Saying
+pub mod Outboxes
+pub mod Asked
+pub mod Readers
+pub mod Taken
+pub mod Replies
+pub mod State

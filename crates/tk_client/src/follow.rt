@@ -1,0 +1,179 @@
+ghost use Rattle.std.specs.Prelude.{◌≡◌, ◌+◌, ◌-◌, ◌<◌, ◌≤◌, true};
+ghost use Rattle.std.specs.Prelude.{[], ◌∷◌, ◌++◌, replicate, find};
+ghost use Rattle.std.specs.Prelude.{Some, IfSome, IfOk, OnOk, OnErr};
+ghost use Rattle.std.specs.List.{range_with_len};
+ghost use Rattle.tk_shape.specs.declared.shape.Shape.{Shape};
+ghost use Rattle.tk_shape.specs.Lengths.{turn_count};
+ghost use Rattle.tk_words.specs.Words.{words_of};
+ghost use Rattle.tk_client.specs.declared.got.Got.TheVariants.{Absent, Text};
+ghost use Rattle.tk_client.specs.Client.{next_of, new_follow, wanted, follow_after};
+ghost use Rattle.tk_client.specs.Asked.{shown_by};
+ghost use Rattle.tk_client.specs.Readers.{follow_anew, is_wanted};
+
+use crate::got::Got;
+use std::alloc::Global;
+use std::marker::Model;
+use tk_bloom::Filter;
+use tk_shape::{Bytes, Memory, Shape};
+use tk_words::Draws;
+
+/// A log that is followed.
+#[derive(Debug, Drop)]
+pub(crate) struct Follow {
+    /// The log, by number.
+    log: u32,
+    /// What its numbers gave so far, from 0 on.
+    got: Vec<Got>,
+    /// How many numbers from the next one on were asked for in vain in this epoch.
+    tried: u32,
+}
+
+impl Model for Follow {
+    ghost use Rattle.tk_client.specs.Client.{Follow};
+
+    ghost Value = { Follow };
+
+    ghost view = { λ f. record { log = f.log; got = f.got.items; tried = f.tried } };
+}
+
+impl Follow {
+    /// A log of which nothing is known yet.
+    pub(crate) fn new(alloc: Global, log: u32) -> Follow
+        ensures { result ≡ new_follow log }
+    {
+        Follow {
+            log,
+            got: Vec::new(alloc),
+            tried: 0,
+        }
+    }
+
+    pub(crate) fn log(&self) -> u32
+        ensures { result ≡ self.now.log }
+    {
+        self.log
+    }
+
+    /// How many numbers are settled, which is the next number.
+    pub(crate) fn next(&self) -> usize
+        ensures { result ≡ next_of self.now }
+    {
+        self.got.len()
+    }
+
+    pub(crate) fn got(&self) -> &[Got]
+        ensures { result.now ≡ self.now.got }
+    {
+        self.got.as_slice()
+    }
+
+    /// How far ahead of the next number the one is that is wanted. Where the epoch is a new one all
+    /// numbers count as not tried yet.
+    pub(crate) fn wanted<D: Draws>(
+        &self,
+        shape: &Shape,
+        draws: &D,
+        filter: &Filter,
+        anew: bool,
+    ) -> Option<u32>
+        requires one_shape { D.shape draws.now ≡ shape.now }
+        requires log_in { self.now.log < shape.now.logs }
+        ensures wanted { let shown = shown_by filter.now (words_of shape.now (D.book draws.now)) in
+            result ≡ wanted shape.now shown (follow_anew anew self.now) }
+        ensures number_in { IfSome result (λ j. next_of self.now + j < turn_count shape.now) }
+        ensures ahead_in { IfSome result (λ j. j ≤ shape.now.ahead) }
+    {
+        let next = self.got.len();
+        if next >= shape.turns() as usize {
+            return None;
+        }
+        if shape.ahead == 0 {
+            return Some(0);
+        }
+        let tried = self.tried(anew);
+        first_shown(shape, draws, filter, self.log, next as u32, tried)
+    }
+
+    /// How many numbers from the next one on count as tried.
+    fn tried(&self, anew: bool) -> u32
+        ensures { result ≡ (follow_anew anew self.now).tried }
+    {
+        if anew { 0 } else { self.tried }
+    }
+
+    /// Settles the numbers up to the one that is so far ahead of the next, which gave a text: those
+    /// before it are absent.
+    pub(crate) fn settle(&mut self, alloc: Global, ahead: u32, text: Bytes) -> Result<(), Memory>
+        ensures settled { OnOk result ((shape : Shape)
+            → self.new ≡ follow_after shape ahead (Some text) self.old) }
+        ensures err { OnErr result (self.new ≡ self.old) }
+    {
+        let mut settled = settled(alloc, ahead, text)?;
+        self.got.append(&mut settled)?;
+        self.tried = 0;
+        Ok(())
+    }
+
+    /// How many numbers from the next one on count as tried in vain.
+    pub(crate) fn set_tried(&mut self, tried: u32)
+        ensures { self.new ≡ record self.old { tried = tried } }
+    {
+        self.tried = tried;
+    }
+}
+
+/// What is known of so many absent numbers, and of the one behind them, which gave a text.
+fn settled(alloc: Global, absent: u32, text: Bytes) -> Result<Vec<Got>, Memory>
+    ensures { IfOk result (λ got. got.items ≡ replicate absent Absent ++ Text text ∷ []) }
+{
+    let mut got = Vec::new(alloc);
+    for _ in 0..absent {
+        got.push(Got::Absent)?;
+    }
+    got.push(Got::Text(text))?;
+    Ok(got)
+}
+
+/// How far ahead of the next number of a log the first one is that isn't tried yet and that the
+/// filter shows.
+fn first_shown<D: Draws>(
+    shape: &Shape,
+    draws: &D,
+    filter: &Filter,
+    log: u32,
+    next: u32,
+    tried: u32,
+) -> Option<u32>
+    requires one_shape { D.shape draws.now ≡ shape.now }
+    requires log_in { log < shape.now.logs }
+    requires next_in { next < turn_count shape.now }
+    ensures first { let shown = shown_by filter.now (words_of shape.now (D.book draws.now)) in
+        result ≡ find (λ j. is_wanted shape.now shown log (next + j))
+        (range_with_len tried (shape.now.ahead - tried)) }
+    ensures number_in { IfSome result (λ j. next + j < turn_count shape.now) }
+    ensures ahead_in { IfSome result (λ j. j < shape.now.ahead) }
+{
+    for ahead in tried..shape.ahead {
+        if is_shown(shape, draws, filter, log, next + ahead) {
+            return Some(ahead);
+        }
+    }
+    None
+}
+
+/// Whether there is such a number, and the filter shows it.
+fn is_shown<D: Draws>(shape: &Shape, draws: &D, filter: &Filter, log: u32, number: u32) -> bool
+    requires one_shape { D.shape draws.now ≡ shape.now }
+    requires log_in { log < shape.now.logs }
+    ensures shown { let shown = shown_by filter.now (words_of shape.now (D.book draws.now)) in
+        result ≡ is_wanted shape.now shown log number }
+    ensures number_in { result ≡ true → number < turn_count shape.now }
+{
+    if number >= shape.turns() {
+        return false;
+    }
+    let mut room = [0u32; 4];
+    let hits = &mut room[..shape.hits as usize];
+    draws.hits(log, number, hits);
+    filter.shows(hits)
+}

@@ -1,0 +1,30 @@
+//! A client of a run: the texts that it has yet to write, and what it knows as a reader. It talks
+//! to servers by frames alone.
+#![tactic(auto)]
+
+mod asking;
+mod client;
+mod follow;
+mod got;
+mod joining;
+mod open_read;
+mod outbox;
+mod reader;
+mod recording;
+mod replies;
+mod say_error;
+mod searching;
+mod take_error;
+mod taking;
+mod target;
+mod waiting;
+mod writes;
+mod written;
+
+pub use client::Client;
+pub use got::Got;
+pub use say_error::SayError;
+pub use take_error::TakeError;
+
+#[cfg(test)]
+mod tests;

@@ -1,0 +1,10 @@
+use crate::target::Target;
+
+/// A read whose replies are awaited.
+#[derive(Clone, Copy, Debug)]
+pub(crate) struct OpenRead {
+    pub turn: u32,
+    pub epoch: u32,
+    /// What it is for; none where it is for nothing.
+    pub target: Option<Target>,
+}

@@ -1,0 +1,141 @@
+ghost use Rattle.std.specs.Prelude.{◌≡◌, ◌==◌, ◌<◌, ◌≤◌, length, find, IfOk, IfSome, OnOk, OnErr};
+ghost use Rattle.std.specs.Option.{option_map, option_copied};
+ghost use Rattle.tk_words.specs.Words.{words_of};
+ghost use Rattle.tk_client.specs.Client.{new_reader, at_epoch, target, after_read};
+ghost use Rattle.tk_client.specs.Asked.{shown_by};
+ghost use Rattle.tk_client.specs.Readers.{target_of, got_in, AreBelow, IsTargetOrNone};
+
+use crate::follow::Follow;
+use crate::got::Got;
+use crate::recording::{record_answer, renew};
+use crate::searching::first_target;
+use crate::target::Target;
+use std::alloc::Global;
+use std::marker::Model;
+use tk_bloom::Filter;
+use tk_shape::{Bytes, Memory, Shape};
+use tk_words::Draws;
+
+/// The logs that a client follows, and what they gave so far.
+#[derive(Debug, Drop)]
+pub(crate) struct Reader {
+    /// The logs, ascending.
+    follows: Vec<Follow>,
+    /// The place among them where the next search begins.
+    cursor: usize,
+    /// The epoch that was read last.
+    last: u32,
+}
+
+impl Model for Reader {
+    ghost use Rattle.std.specs.Prelude.{◌≤◌, length};
+    ghost use Rattle.tk_client.specs.Client.{Reader};
+
+    ghost Value = { Reader };
+
+    ghost view = { λ r. record { follows = r.follows.items; cursor = r.cursor; last = r.last } };
+
+    ghost invariant = { λ r. r.cursor ≤ length r.follows.items };
+}
+
+impl Reader {
+    /// A reader of these logs that knows nothing yet.
+    pub(crate) fn new(alloc: Global, logs: &[u32]) -> Result<Reader, Memory>
+        ensures { IfOk result (λ r. r ≡ new_reader logs.now) }
+    {
+        let mut follows = Vec::new(alloc);
+        for log in logs {
+            follows.push(Follow::new(alloc, *log))?;
+        }
+        Ok(Reader {
+            follows,
+            cursor: 0,
+            last: 0,
+        })
+    }
+
+    /// What a read over an epoch is for, where this filter shows what is worth reading: the first
+    /// log from the cursor on, cyclically, of which a number is wanted; none for a read that is for
+    /// nothing.
+    pub(crate) fn target<D: Draws>(
+        &self,
+        shape: &Shape,
+        draws: &D,
+        filter: &Filter,
+        epoch: u32,
+    ) -> Option<Target>
+        requires one_shape { D.shape draws.now ≡ shape.now }
+        requires follows_in { AreBelow shape.now.logs self.now.follows }
+        ensures target { let shown = shown_by filter.now (words_of shape.now (D.book draws.now)) in
+            option_map target_of result ≡ target shape.now shown (at_epoch epoch self.now) }
+        ensures in_range { let target = option_map target_of result in
+            IsTargetOrNone shape.now (length self.now.follows) target }
+    {
+        let anew = epoch != self.last;
+        let follows = self.follows.as_slice();
+        if let Some(target) = first_target(
+            shape,
+            draws,
+            filter,
+            follows,
+            anew,
+            self.cursor,
+            follows.len(),
+        ) {
+            return Some(target);
+        }
+        first_target(shape, draws, filter, follows, anew, 0, self.cursor)
+    }
+
+    /// Takes the answer to a read over an epoch.
+    pub(crate) fn take(
+        &mut self,
+        alloc: Global,
+        shape: &Shape,
+        epoch: u32,
+        target: Option<Target>,
+        answer: Option<Bytes>,
+    ) -> Result<(), Memory>
+        requires place_in { IfSome target (λ t. t.place < length self.old.follows) }
+        requires ahead_in { IfSome target (λ t. t.ahead ≤ 8) }
+        ensures taken { OnOk result (self.new
+            ≡ after_read shape.now (at_epoch epoch self.old) (option_map target_of target) answer) }
+        ensures err { OnErr result (self.new ≡ self.old) }
+    {
+        let anew = epoch != self.last;
+        let Some(target) = target else {
+            renew(self.follows.as_mut_slice(), anew);
+            self.last = epoch;
+            return Ok(());
+        };
+        let behind = (target.place + 1) % self.follows.len();
+        record_answer(
+            alloc,
+            shape,
+            self.follows.as_mut_slice(),
+            anew,
+            target,
+            answer,
+        )?;
+        self.cursor = behind;
+        self.last = epoch;
+        Ok(())
+    }
+
+    /// What a log gave, one for each number below the next; nothing for a log that isn't followed.
+    pub(crate) fn got(&self, log: u32) -> &[Got]
+        ensures { result.now ≡ got_in self.now.follows log }
+    {
+        match of_log(self.follows.as_slice(), log) {
+            Some(follow) => follow.got(),
+            None => &[],
+        }
+    }
+}
+
+/// The one of these that follows a log.
+fn of_log(follows: &[Follow], log: u32) -> Option<&Follow>
+    ensures { option_copied result ≡ find (λ f. f.log == log) follows.now }
+{
+    follows.iter().find(|follow| follow.log() == log)
+}
