@@ -1,55 +1,26 @@
--- Replies that are joined: the sum grows reply by reply, and where servers have equal blocks it is
--- the block that was asked for.
+-- The replies of servers with equal blocks join to the block that was asked for.
 use Rattle.std.proofs.Common.{◌≡◌, refl, ap, sym, ◌∙◌, arith}
-use Rattle.std.proofs.Common.{ℕ, zero, suc, ◌+◌, ◌-◌, ◌<◌}
-use Rattle.std.proofs.Common.{List, [], ◌∷◌, ◌++◌, length, map, get_or, take, replicate, Option}
+use Rattle.std.proofs.Common.{ℕ, suc, ◌+◌, ◌-◌, ◌<◌}
+use Rattle.std.proofs.Common.{List, [], ◌∷◌, length, map, get_or, Option}
 use Rattle.std.specs.Prelude.{slice_index_or}
 use Rattle.std.specs.List.{range_with_len}
-use Rattle.std.proofs.lemmas.List.{map_more}
 use Rattle.std.proofs.lemmas.Option.{get_or_from_slice_get}
 use Rattle.tk_shape.specs.declared.shape.Shape.{Shape}
 use Rattle.tk_shape.specs.Lengths.{vector_len, width}
-use Rattle.tk_kernel.specs.Xor.{xor_bytes, xor_all}
+use Rattle.tk_kernel.specs.Xor.{xor_all}
 use Rattle.tk_kernel.specs.Pieces.{AllSized}
 use Rattle.tk_kernel.specs.Chosen.{chosen_sum}
-use Rattle.tk_kernel.proofs.Sums.{xor_bytes-zeros, xor_all-append}
 use Rattle.tk_bits.specs.Shares.{shares}
-use Rattle.tk_bits.proofs.Sums.{length-chosen}
 use Rattle.tk_bits.proofs.Wanted.{answers_join}
 use Rattle.tk_words.specs.Words.{WordBook, words_of, fresh_vectors}
-use Rattle.tk_frames.specs.declared.read_frame.ReadFrame.{ReadFrame}
 use Rattle.tk_frames.specs.declared.reply_frame.ReplyFrame.{ReplyFrame}
 use Rattle.tk_frames.specs.Order.{Record}
 use Rattle.tk_table.specs.Table.{SlotTable, layout, blocks_of}
 use Rattle.tk_table.specs.Laws.{block_at}
-use Rattle.tk_cli.specs.Client.{Target}
-use Rattle.tk_cli.specs.Exchange.{pair_for, reply_to}
-use Rattle.tk_cli.specs.Asked.{frame_with, asked, AreWhole, IsPair}
-use Rattle.tk_cli.proofs.AskingLaws.{vector_bits, length-shares}
-
--- ---- the sum grows
-
-pub sized_part : {X : Type 0} (size : ℕ) (f : X → List ℕ) (xs : List X) (i : ℕ) (x : X) →
-    AllSized size (map f xs) → i < length xs →
-    x ≡ get_or xs i x → length (f x) ≡ size
-sized_part size f [] i x h low is = absurd (omega (arith, low))
-sized_part size f (y ∷ xs) zero x h low is = ap (λ z. length (f z)) is ∙ h.0
-sized_part size f (y ∷ xs) (suc i) x h low is = sized_part size f xs i x h.1 (omega (arith, low)) is
-
-pub sum_more : {X : Type 0} (size : ℕ) (f : X → List ℕ) (xs : List X) (i : ℕ) (x : X)
-    (sum : List ℕ) → AllSized size (map f xs) →
-    i < length xs → x ≡ get_or xs i x → sum ≡ xor_all size (map f (take i xs)) →
-    xor_bytes sum (f x) ≡ xor_all size (map f (take (i + 1) xs))
-sum_more size f xs i x sum h low is so_far =
-    let long = sized_part size f xs i x h low is in
-    let last : f (get_or xs i x) ≡ f x = ap f (sym is) in
-    let one : xor_bytes (f x) (replicate size 0) ≡ f x =
-    ap (λ n. xor_bytes (f x) (replicate n 0)) (sym long) ∙ xor_bytes-zeros (f x) in
-    ap (λ s. xor_bytes s (f x)) so_far
-    ∙ ap (xor_bytes (xor_all size (map f (take i xs)))) (sym one)
-    ∙ sym (xor_all-append size (map f (take i xs)) (f x ∷ []) (long, tt))
-    ∙ ap (λ y. xor_all size (map f (take i xs) ++ y ∷ [])) (sym last)
-    ∙ ap (xor_all size) (sym (map_more f xs i x low))
+use Rattle.tk_client.specs.Client.{Target}
+use Rattle.tk_cli.specs.Exchange.{reply_to}
+use Rattle.tk_client.specs.Asked.{frame_with, asked, AreWhole, IsPair, pair_for}
+use Rattle.tk_client.proofs.AskingLaws.{vector_bits, length-shares}
 
 -- ---- what servers with equal blocks reply
 
@@ -156,26 +127,3 @@ replies_join shape b R g c e t whole are within =
           ap sum (seconds shape R g c e us vs js) ∙ ap sums (by_servers vs shape.servers vs_each)
           ∙ answers_of shape R vectors.second pair.1 are whole.second_sized within.second;
     }
-
--- ---- the replies have the blocks' length
-
-length-chosen_sum : (size : ℕ) (blocks : List (List ℕ)) (v : List ℕ) → AllSized size blocks →
-    length (chosen_sum size blocks v) ≡ size
-unfolding chosen_sum
-length-chosen_sum size blocks v sized = length-chosen size 0 blocks v sized
-
-pub replies_sized-first : (shape : Shape) (R : List Record) (frames : List ReadFrame) →
-    AllSized (width shape) (blocks_of (layout shape R)) →
-    AllSized (width shape) (map (λ (r : ReplyFrame). r.first) (map (reply_to shape R) frames))
-replies_sized-first shape R [] sized = tt
-replies_sized-first shape R (f ∷ fs) sized =
-    let long = length-chosen_sum (width shape) (blocks_of (layout shape R)) f.first sized in
-    (long, replies_sized-first shape R fs sized)
-
-pub replies_sized-second : (shape : Shape) (R : List Record) (frames : List ReadFrame) →
-    AllSized (width shape) (blocks_of (layout shape R)) →
-    AllSized (width shape) (map (λ (r : ReplyFrame). r.second) (map (reply_to shape R) frames))
-replies_sized-second shape R [] sized = tt
-replies_sized-second shape R (f ∷ fs) sized =
-    let long = length-chosen_sum (width shape) (blocks_of (layout shape R)) f.second sized in
-    (long, replies_sized-second shape R fs sized)

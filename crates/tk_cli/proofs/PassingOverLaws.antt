@@ -12,7 +12,7 @@ use Rattle.std.proofs.lemmas.Option.{slice_get_within}
 use Rattle.tk_shape.specs.declared.shape.Shape.{Shape}
 use Rattle.tk_shape.specs.Lengths.{turn_count}
 use Rattle.tk_schedule.specs.declared.history.History.{History}
-use Rattle.tk_schedule.specs.Schedule.{epoch_at}
+use Rattle.tk_schedule.specs.Schedule.{epoch_at, serial_history}
 use Rattle.tk_script.specs.declared.script.Script.{Script}
 use Rattle.tk_script.proofs.SoundLaws.{parts}
 use Rattle.tk_words.specs.Words.{BookWords, words_of}
@@ -20,17 +20,20 @@ use Rattle.tk_words.specs.Opening.{IsNumber, OpensSealed}
 use Rattle.tk_words.specs.OpeningLaws.{opens_sealed}
 use Rattle.tk_frames.specs.Order.{before}
 use Rattle.tk_table.specs.Lists.{first_some}
-use Rattle.tk_cli.specs.declared.got.Got.{Got}
-use Rattle.tk_cli.specs.declared.got.Got.TheVariants.{Absent, Text}
+use Rattle.tk_client.specs.declared.got.Got.{Got}
+use Rattle.tk_client.specs.declared.got.Got.TheVariants.{Absent, Text}
 use Rattle.tk_cli.specs.Bloom.{is_shown}
 use Rattle.tk_cli.specs.Entries.{entries}
-use Rattle.tk_cli.specs.Client.{Follow, Reader, Target, next_of, new_follow, untried}
-use Rattle.tk_cli.specs.Client.{at_epoch, wanted, follow_at, places_from_cursor, target}
-use Rattle.tk_cli.specs.Client.{follow_after, after_read}
+use Rattle.tk_client.specs.Client.{Follow, Reader, Target, next_of, new_follow, untried}
+use Rattle.tk_client.specs.Client.{at_epoch, wanted, follow_at, places_from_cursor, target}
+use Rattle.tk_client.specs.Client.{follow_after, after_read}
 use Rattle.tk_cli.specs.Report.{lookup, is_follower, read_over, target_for, answer_for}
-use Rattle.tk_cli.specs.Report.{reader_step, reader_before, target_at, first_got, got_in}
+use Rattle.tk_client.specs.Readers.{first_got, got_in}
+use Rattle.tk_cli.specs.Report.{reader_step, reader_before, target_at}
 use Rattle.tk_cli.specs.PassingOver.{IsNotRetained, IsRightlyPassed}
-use Rattle.tk_cli.specs.PassingOver.{HonestPassingOver}
+use Rattle.tk_cli.specs.PassingOver.{HonestPassingOver, SerialRunsPassOverHonestly}
+use Rattle.tk_cli.specs.Serial.{book_of}
+use Rattle.tk_cli.proofs.SerialLaws.{run-book}
 use Rattle.tk_cli.proofs.RetainedLaws.{not_shown-not_retained, not_found-not_retained}
 
 -- ---- the number that is wanted
@@ -495,3 +498,10 @@ honest-passing_over S b H c log s served absent =
     got-passed S w H c r.last log s r.follows
     (before-honest S w H c (opens_sealed S.shape b served) (turn_count S.shape) (omega arith))
     absent
+
+-- an input's words fit its shape
+pub serial-passing_over : SerialRunsPassOverHonestly
+serial-passing_over bytes input c log s run absent =
+    let S = input.first in
+    honest-passing_over S (book_of input) (serial_history S.shape) c log s
+    (run-book bytes input run) absent

@@ -1,15 +1,14 @@
 -- What servers answer, what each of them saw, and what a client takes from their replies.
-use Rattle.std.proofs.Common.{◌≡◌, ◌≢◌, ap, ap₂, sym, ◌∙◌, subst, arith}
+use Rattle.std.proofs.Common.{◌≡◌, ◌≢◌, refl, None, ap, ap₂, sym, ◌∙◌, subst, arith}
 use Rattle.std.proofs.Common.{ℕ, ◌+◌, ◌-◌, ◌*◌, ◌<◌, ◌≤◌}
 use Rattle.std.proofs.Common.{List, [], ◌∷◌, ◌++◌, length, map, take, set, get_or, Option, Some}
 use Rattle.std.proofs.Common.{append_assoc, append-nil, get_or-set_same, get_or-set_other}
 use Rattle.std.proofs.Common.{length-set, below_more}
 use Rattle.std.specs.Prelude.{slice_index_or}
 use Rattle.std.specs.List.{AllByRecursion, range_with_len}
-use Rattle.std.proofs.lemmas.List.{length-map, map_more, take_all, get_or_default}
+use Rattle.std.proofs.lemmas.List.{length-map, map_more, map-append, take_all, get_or_default, get_or-map}
 use Rattle.std.proofs.lemmas.List.Elements.{All-from_recursion, recursion_from_All}
 use Rattle.std.proofs.lemmas.List.Elements.{All-from_get_or}
-use Rattle.std.proofs.lemmas.List.FromFn.{length-map-range_with_len}
 use Rattle.std.proofs.lemmas.List.FromFn.{get_or-map-range_with_len}
 use Rattle.tk_shape.specs.declared.shape.Shape.{Shape}
 use Rattle.tk_shape.specs.Lengths.{vector_len, width}
@@ -17,10 +16,8 @@ use Rattle.tk_schedule.specs.declared.history.History.{History}
 use Rattle.tk_schedule.specs.Schedule.{epoch_at}
 use Rattle.tk_script.specs.declared.script.Script.{Script}
 use Rattle.tk_kernel.specs.Xor.{xor_all}
-use Rattle.tk_kernel.specs.Pieces.{AllSized}
 use Rattle.tk_kernel.specs.Chosen.{chosen_sum}
-use Rattle.tk_kernel.proofs.Sums.{length-xor_all}
-use Rattle.tk_words.specs.Words.{WordBook, words_of, opened, fresh_vectors}
+use Rattle.tk_words.specs.Words.{WordBook, words_of, opened as opens_to, fresh_vectors}
 use Rattle.tk_frames.specs.declared.read_frame.ReadFrame.{ReadFrame}
 use Rattle.tk_frames.specs.declared.reply_frame.ReplyFrame.{ReplyFrame}
 use Rattle.tk_frames.specs.Ranges.{IsRead, IsReply}
@@ -34,12 +31,17 @@ use Rattle.tk_table.proofs.Each.{each-push}
 use Rattle.tk_table.proofs.LaidOut.{layout-laid_out}
 use Rattle.tk_table.proofs.BucketBytes.{layout-read_back, layout-as_read}
 use Rattle.tk_cli.specs.declared.server.Server.{Server}
-use Rattle.tk_cli.specs.Client.{Target}
-use Rattle.tk_cli.specs.Report.{lookup, target_at}
-use Rattle.tk_cli.specs.Exchange.{pair_for, read_at, reply_to, bytes_of, with_reply}
-use Rattle.tk_cli.specs.Asked.{asked, AreWhole, IsPair}
-use Rattle.tk_cli.specs.Servers.{IsServer, AreServers, seen_with, blank_read, read_for}
-use Rattle.tk_cli.proofs.AskingLaws.{vector_bits, asked-read_at}
+use Rattle.tk_client.specs.Client.{Target, at_epoch, after_read}
+use Rattle.tk_client.specs.Replies.{answer_in, frames_in, first_joined, second_joined}
+use Rattle.tk_client.specs.State.{ClientState, OpenRead, opened, after_replies}
+use Rattle.tk_client.proofs.RepliesLaws.{frames_in-spelled}
+use Rattle.tk_cli.specs.Clients.{knowing}
+use Rattle.tk_cli.specs.Report.{lookup, answered, target_at}
+use Rattle.tk_cli.specs.Exchange.{read_at, reply_to, bytes_of, with_reply}
+use Rattle.tk_client.specs.Asked.{asked, AreWhole, IsPair, pair_for}
+use Rattle.tk_cli.specs.Servers.{IsServer, AreServers, AreReads, seen_with, blank_read, read_for}
+use Rattle.tk_client.proofs.AskingLaws.{vector_bits}
+use Rattle.tk_cli.proofs.AskingLaws.{asked-read_at}
 use Rattle.tk_cli.proofs.JoiningLaws.{AreBlocks, replies_join}
 
 -- ---- one server
@@ -186,78 +188,88 @@ asked-all shape R shown seen reads servers i all are =
 
 -- one reply more
 pub replies-more : (shape : Shape) (shown : List Record) (reads : List ReadFrame) (i : ℕ)
-    (read : ReadFrame) (reply : ReplyFrame) (replies more : List ReplyFrame) → i < length reads →
-    get_or reads i read ≡ read → reply ≡ reply_to shape shown read →
-    replies ≡ map (reply_to shape shown) (take i reads) →
+    (read : ReadFrame) (reply : List ℕ) (replies more : List (List ℕ)) → i < length reads →
+    get_or reads i read ≡ read → reply ≡ reply_frame (reply_to shape shown read) →
+    replies ≡ map reply_frame (map (reply_to shape shown) (take i reads)) →
     more ≡ replies ++ reply ∷ [] →
-    more ≡ map (reply_to shape shown) (take (i + 1) reads)
+    more ≡ map reply_frame (map (reply_to shape shown) (take (i + 1) reads))
 replies-more shape shown reads i read reply replies more low read_is reply_is so_far more_is =
+    let one = reply_to shape shown in
     more_is
-    ∙ ap₂ (λ (xs : List ReplyFrame) x. xs ++ x ∷ []) so_far
-    (reply_is ∙ ap (reply_to shape shown) (sym read_is))
-    ∙ sym (map_more (reply_to shape shown) reads i read low)
+    ∙ ap₂ (λ (xs : List (List ℕ)) x. xs ++ x ∷ []) so_far
+    (reply_is ∙ ap (λ (r : ReadFrame). reply_frame (one r)) (sym read_is))
+    ∙ sym (map-append reply_frame (map one (take i reads)) (one (get_or reads i read) ∷ []))
+    ∙ ap (map reply_frame) (sym (map_more one reads i read low))
 
 pub replies-all : (shape : Shape) (shown : List Record) (reads : List ReadFrame) (i : ℕ)
-    (replies : List ReplyFrame) → length reads ≤ i →
-    replies ≡ map (reply_to shape shown) (take i reads) →
-    replies ≡ map (reply_to shape shown) reads
+    (replies : List (List ℕ)) → length reads ≤ i →
+    replies ≡ map reply_frame (map (reply_to shape shown) (take i reads)) →
+    replies ≡ map reply_frame (map (reply_to shape shown) reads)
 replies-all shape shown reads i replies all so_far =
-    so_far ∙ ap (map (reply_to shape shown)) (take_all i reads all)
+    so_far ∙ ap (λ (rs : List ReadFrame). map reply_frame (map (reply_to shape shown) rs))
+    (take_all i reads all)
 
-pub in_range-more : (shape : Shape) (replies : List ReplyFrame) (reply : ReplyFrame) →
-    AllByRecursion (IsReply shape) replies → IsReply shape reply →
-    AllByRecursion (IsReply shape) (replies ++ reply ∷ [])
-in_range-more shape replies reply all is = each-push (IsReply shape) replies reply all is
+pub in_range-more : (shape : Shape) (shown : List Record) (reads : List ReadFrame) (i : ℕ)
+    (read : ReadFrame) → i < length reads → get_or reads i read ≡ read →
+    AllByRecursion (IsReply shape) (map (reply_to shape shown) (take i reads)) →
+    IsReply shape (reply_to shape shown read) →
+    AllByRecursion (IsReply shape) (map (reply_to shape shown) (take (i + 1) reads))
+in_range-more shape shown reads i read low read_is all is =
+    let one = reply_to shape shown in
+    subst (AllByRecursion (IsReply shape)) (sym (map_more one reads i read low))
+    (each-push (IsReply shape) (map one (take i reads)) (one (get_or reads i read)) all
+    (subst (λ (r : ReadFrame). IsReply shape (one r)) (sym read_is) is))
 
--- a read among those that are in range
-pub read-in_range : (shape : Shape) (reads : List ReadFrame) (i : ℕ) (read : ReadFrame) →
-    AllByRecursion (IsRead shape) reads → i < length reads → get_or reads i read ≡ read →
-    IsRead shape read
-read-in_range shape reads i read all low is =
-    subst (IsRead shape) is (All-from_recursion (IsRead shape) reads all i read low)
+pub in_range-all : (shape : Shape) (shown : List Record) (reads : List ReadFrame) (i : ℕ) →
+    length reads ≤ i →
+    AllByRecursion (IsReply shape) (map (reply_to shape shown) (take i reads)) →
+    AllByRecursion (IsReply shape) (map (reply_to shape shown) reads)
+in_range-all shape shown reads i all is =
+    subst (λ (rs : List ReadFrame). AllByRecursion (IsReply shape) (map (reply_to shape shown) rs))
+    (take_all i reads all) is
 
--- a read is the one for the server at its place
-pub read-is_for : (reads : List ReadFrame) (i : ℕ) (read : ReadFrame) → i < length reads →
-    get_or reads i read ≡ read → read ≡ read_for reads (i + 1)
-read-is_for reads i read low is =
+pub frames_counted : (shape : Shape) (reads : List ReadFrame) (frames : List (List ℕ)) →
+    AreReads shape reads frames → length frames ≡ length reads
+frames_counted shape reads frames posed =
+    ap (λ (fs : List (List ℕ)). length fs) posed.spelled ∙ length-map reads read_frame
+
+-- the read for the server at a place: it is in range, the frame there is its own, and the server has
+-- not been asked yet
+pub record IsNext (shape : Shape) (R shown : List Record) (seen : ℕ → List ℕ)
+    (reads : List ReadFrame) (i : ℕ) (frame : List ℕ) (server : Server) : Type 0 where
+  pub low : i < length reads
+  pub here : get_or reads i (read_for reads (i + 1)) ≡ read_for reads (i + 1)
+  pub in_range : IsRead shape (read_for reads (i + 1))
+  pub frame_is : frame ≡ read_frame (read_for reads (i + 1))
+  pub server_is : IsServer shape R shown (seen (i + 1)) server
+
+pub next-is : (shape : Shape) (R shown : List Record) (seen : ℕ → List ℕ) (reads : List ReadFrame)
+    (frames : List (List ℕ)) (servers : List Server) (i : ℕ) (frame : List ℕ) (server : Server) →
+    AreReads shape reads frames → i < length frames → i < length servers →
+    frame ≡ get_or frames i frame → AreAsked shape R shown seen reads i servers →
+    IsNext shape R shown seen reads i frame (get_or servers i server)
+next-is shape R shown seen reads frames servers i frame server posed low within frame_at asked =
+    let counted = frames_counted shape reads frames posed in
+    let there : i < length reads = omega (arith, low, counted) in
+    let read = read_for reads (i + 1) in
     let place : i ≡ i + 1 - 1 = omega arith in
-    sym is ∙ get_or_default reads i read blank_read low
-    ∙ ap (λ n. get_or reads n blank_read) place
-
--- servers that were asked for what a client asks
-pub servers-asked : (shape : Shape) (b : WordBook) (R shown : List Record) (seen : ℕ → List ℕ)
-    (g c e : ℕ) (t : Option Target) (reads frames : List ReadFrame) (servers : List Server) →
-    reads ≡ frames → frames ≡ asked shape b g c e t →
-    AllByRecursion (IsRead shape) frames →
-    (AllByRecursion (IsRead shape) reads →
-    AreServers shape R shown (seen_with shape shown seen reads) servers) →
-    AreServers shape R shown (seen_with shape shown seen (asked shape b g c e t)) servers
-servers-asked shape b R shown seen g c e t reads frames servers same frames_are all are =
-    subst (λ (rs : List ReadFrame).
-    AreServers shape R shown (seen_with shape shown seen rs) servers)
-    (same ∙ frames_are)
-    (are (subst (λ (rs : List ReadFrame). AllByRecursion (IsRead shape) rs) (sym same) all))
+    let here : get_or reads i read ≡ read =
+    get_or_default reads i read blank_read there ∙ ap (λ n. get_or reads n blank_read) place
+    in
+    record {
+      low = there;
+      here = here;
+      in_range = subst (IsRead shape) here
+          (All-from_recursion (IsRead shape) reads posed.in_range i read there);
+      frame_is =
+          frame_at
+          ∙ ap (λ (fs : List (List ℕ)). get_or fs i frame) posed.spelled
+          ∙ get_or-map read_frame reads i read frame there
+          ∙ ap read_frame here;
+      server_is = asked.left i server (omega arith) within;
+    }
 
 -- ---- what a client takes
-
-pub firsts_sized : (shape : Shape) (rs : List ReplyFrame) → AllByRecursion (IsReply shape) rs →
-    AllSized (width shape) (map (λ (r : ReplyFrame). r.first) rs)
-firsts_sized shape [] all = tt
-firsts_sized shape (r ∷ rs) all = (all.0.first_len, firsts_sized shape rs all.1)
-
-pub seconds_sized : (shape : Shape) (rs : List ReplyFrame) → AllByRecursion (IsReply shape) rs →
-    AllSized (width shape) (map (λ (r : ReplyFrame). r.second) rs)
-seconds_sized shape [] all = tt
-seconds_sized shape (r ∷ rs) all = (all.0.second_len, seconds_sized shape rs all.1)
-
--- how long sums of replies are
-pub sum-sized : (size : ℕ) (blocks : List (List ℕ)) (sum : List ℕ) → AllSized size blocks →
-    sum ≡ xor_all size blocks → length sum ≡ size
-sum-sized size blocks sum sized is = ap length is ∙ length-xor_all size blocks sized
-
-pub length-asked : (shape : Shape) (b : WordBook) (g c e : ℕ) (t : Option Target) →
-    length (asked shape b g c e t) ≡ shape.servers
-length-asked shape b g c e t = length-map-range_with_len _ 1 shape.servers
 
 -- the blocks of a table: one for each bucket, each of a bucket's width
 pub blocks-whole : (shape : Shape) (R : List Record) → AreOrdered shape R →
@@ -285,7 +297,7 @@ pub text-taken : (shape : Shape) (b : WordBook) (R : List Record) (g c e : ℕ) 
     first ≡ xor_all (width shape) (map (λ (r : ReplyFrame). r.first) replies) →
     second ≡ xor_all (width shape) (map (λ (r : ReplyFrame). r.second) replies) →
     o
-    ≡ text_among (w.pair t.log t.number) (opened w t.log t.number)
+    ≡ text_among (w.pair t.log t.number) (opens_to w t.log t.number)
     (slots_in shape first ++ slots_in shape second) →
     o ≡ lookup shape w R t.log t.number
 unfolding lookup
@@ -293,7 +305,7 @@ text-taken shape b R g c e t reads replies first second o
     ordered storable whole within reads_are replies_are first_is second_is text_is =
     let w = words_of shape b in
     let pair = w.pair t.log t.number in
-    let opens = opened w t.log t.number in
+    let opens = opens_to w t.log t.number in
     let T = layout shape R in
     let sum = xor_all (width shape) in
     let join =
@@ -310,6 +322,40 @@ text-taken shape b R g c e t reads replies first second o
     ∙ ap₂ (λ (x y : List ℕ). text_among pair opens (slots_in shape x ++ slots_in shape y))
     first_block second_block
     ∙ layout-as_read shape R pair opens ordered storable within.first within.second
+
+-- so the answer to a read is what is looked up for its target
+pub answer-taken : (shape : Shape) (b : WordBook) (R : List Record) (g c e : ℕ) (t : Option Target)
+    (replies : List (List ℕ)) → let w = words_of shape b in
+    AreOrdered shape R → AllByRecursion (IsStorable shape) R →
+    AreWhole shape (fresh_vectors shape b g c) → IsPair shape (pair_for w g c t) →
+    AllByRecursion (IsReply shape) (map (reply_to shape R) (asked shape b g c e t)) →
+    replies ≡ map reply_frame (map (reply_to shape R) (asked shape b g c e t)) →
+    answer_in shape w (frames_in shape replies) t ≡ answered shape w R t
+answer-taken shape b R g c e None replies ordered storable whole within in_range are = refl
+answer-taken shape b R g c e (Some t) replies ordered storable whole within in_range are =
+    let rs = map (reply_to shape R) (asked shape b g c e (Some t)) in
+    ap (λ (fs : List ReplyFrame). answer_in shape (words_of shape b) fs (Some t))
+    (ap (frames_in shape) are ∙ frames_in-spelled shape rs in_range)
+    ∙ text-taken shape b R g c e t (asked shape b g c e (Some t)) rs
+    (first_joined shape rs) (second_joined shape rs) _ ordered storable whole within refl refl refl
+    refl refl
+
+-- a client that had no read open, after its read and the replies
+pub client-read : (s asks new : ClientState) (b : WordBook) (g e : ℕ) (t : Option Target)
+    (replies : List (List ℕ)) (answer : Option (List ℕ)) → s.read ≡ None →
+    asks ≡ opened g e t s →
+    answer_in s.shape (words_of s.shape b) (frames_in s.shape replies) t ≡ answer →
+    new ≡ after_replies (words_of asks.shape b) replies asks → new ≡ knowing e t answer s
+client-read s asks new b g e t replies answer idle asked_is answer_is is =
+    is ∙ ap (λ (k : ClientState). after_replies (words_of k.shape b) replies k) asked_is
+    ∙ ap (λ (a : Option (List ℕ)). record s {
+      reader = after_read s.shape (at_epoch e s.reader) t a;
+      read = None;
+    }) answer_is
+    ∙ ap (λ (o : Option OpenRead). record s {
+      reader = after_read s.shape (at_epoch e s.reader) t answer;
+      read = o;
+    }) (sym idle)
 
 -- ---- in a run
 

@@ -1,12 +1,11 @@
--- The reads of a turn: what readers are then, and what servers saw of them.
+-- The reads of a turn: what clients know then, and what servers saw of them.
 use Rattle.std.proofs.Common.{◌≡◌, ◌≢◌, ap, ap₂, sym, subst, ◌∙◌, arith}
-use Rattle.std.proofs.Common.{ℕ, ◌+◌, ◌<◌, ◌≤◌, List, [], ◌∷◌, ◌++◌, Option, Some, None}
-use Rattle.std.proofs.Common.{length, set, length-append, length-set, add-zero, inl, inr}
+use Rattle.std.proofs.Common.{ℕ, ◌+◌, ◌<◌, ◌≤◌, List, [], ◌∷◌, ◌++◌, Option, Bool, add-one}
+use Rattle.std.proofs.Common.{length, set, length-append, length-set, add-zero}
 use Rattle.std.proofs.Common.{get_or-set_same, get_or-set_other, get_or-append-add, below_more}
 use Rattle.std.proofs.Common.{le_trans, div-mul-le_self, le_of_mul-le-mul_right}
-use Rattle.std.specs.Prelude.{slice_index_or}
-use Rattle.std.specs.Option.{option_map}
-use Rattle.std.proofs.lemmas.Bool.{cases_lt}
+use Rattle.std.specs.Prelude.{slice_index_or, None}
+use Rattle.std.specs.List.{AllByRecursion}
 use Rattle.std.proofs.lemmas.List.{get_or_append_left}
 use Rattle.tk_shape.specs.declared.shape.Shape.{Shape}
 use Rattle.tk_shape.specs.Lengths.{turn_count}
@@ -16,16 +15,20 @@ use Rattle.tk_script.specs.declared.script.Script.{Script}
 use Rattle.tk_words.specs.Words.{WordBook, BookWords, words_of}
 use Rattle.tk_frames.specs.declared.read_frame.ReadFrame.{ReadFrame}
 use Rattle.tk_frames.specs.Order.{Record}
-use Rattle.tk_cli.specs.declared.follow.Target.{Target as KeptTarget}
-use Rattle.tk_cli.specs.declared.reader.Reader.{Reader as KeptReader}
+use Rattle.tk_bloom.specs.declared.filter.Filter.{Filter}
+use Rattle.tk_client.specs.Asked.{asked, shown_by}
+use Rattle.tk_client.specs.Client.{Target, target, at_epoch, after_read}
+use Rattle.tk_client.specs.State.{ClientState, target_over}
 use Rattle.tk_cli.specs.declared.server.Server.{Server}
-use Rattle.tk_cli.specs.Client.{Target, new_reader, at_epoch, after_read}
-use Rattle.tk_cli.specs.Report.{read_over, follows_of, target_at, answer_for, reader_before}
-use Rattle.tk_cli.specs.Exchange.{read_answered, bytes_of}
-use Rattle.tk_cli.specs.Asked.{asked}
-use Rattle.tk_cli.specs.Readers.{IsReader, AreReadersBefore, target_of}
+use Rattle.tk_cli.specs.Bloom.{is_shown}
+use Rattle.tk_cli.specs.Clients.{idle, knowing, client_wrote, client_before}
+use Rattle.tk_cli.specs.Queues.{writing_before}
+use Rattle.tk_cli.specs.Report.{answered, read_over, target_at, reader_before, reader_step}
+use Rattle.tk_cli.specs.Exchange.{read_at, read_answered, with_reply, bytes_of}
+use Rattle.tk_table.specs.Ordered.{AreOrdered}
+use Rattle.tk_table.specs.Laws.{IsStorable}
 use Rattle.tk_cli.specs.Servers.{AreServers, seen_with}
-use Rattle.tk_cli.proofs.ReaderLaws.{before-first, before-next, step-dummy, step-read}
+use Rattle.tk_cli.specs.Turns.{IsReadable}
 use Rattle.tk_cli.proofs.PrivateReadLaws.{seen_with-run}
 use Rattle.tk_cli.proofs.TurnLaws.{servers-same}
 
@@ -38,7 +41,7 @@ pushed-last xs x d =
     ∙ get_or-append-add xs (x ∷ []) 0 d
 
 -- one more behind them
-each-pushed : {X : Type 0} (P : ℕ → X → Type 0) (xs : List X) (x : X) →
+pub each-pushed : {X : Type 0} (P : ℕ → X → Type 0) (xs : List X) (x : X) →
     ((k : ℕ) (d : X) → k < length xs → P k (slice_index_or xs k d)) → P (length xs) x →
     (k : ℕ) (d : X) → k < length (xs ++ x ∷ []) → P k (slice_index_or (xs ++ x ∷ []) k d)
 each-pushed {X} P xs x each is k d within =
@@ -68,69 +71,6 @@ past-set P xs i x past k d from within =
     subst (P k) (sym (get_or-set_other xs i k x d other))
     (past k d (omega (arith, from)) (omega (arith, within, length-set xs i x)))
 
--- what all have, and the new one too
-pub each-set : {X : Type 0} (P : X → Type 0) (xs : List X) (i : ℕ) (x : X) → i < length xs →
-    ((k : ℕ) (d : X) → k < length xs → P (slice_index_or xs k d)) → P x →
-    (k : ℕ) (d : X) → k < length (set xs i x) → P (slice_index_or (set xs i x) k d)
-each-set P xs i x low each is k d within =
-    elim (cases_lt k (i + 1)) [
-      | inl before ↦
-          below-set (λ n. P) xs i x low (λ n e less. each n e (omega (arith, less, low))) is
-          k d before
-      | inr from ↦ past-set (λ n. P) xs i x (λ n e past inside. each n e inside) k d from within
-    ]
-
--- ---- readers that know nothing yet
-
--- one for each client below this number
-pub record AreNew (S : Script) (count : ℕ) (readers : List KeptReader) : Type 0 where
-  pub counted : length readers ≡ count
-  pub logs : (c : ℕ) (d : KeptReader) → c < length readers →
-      (slice_index_or readers c d).logs ≡ S.shape.logs
-  pub each : (c : ℕ) (d : KeptReader) → c < length readers →
-      IsReader (slice_index_or readers c d) (new_reader (follows_of S c))
-
-pub new-none : (S : Script) (readers : List KeptReader) → readers ≡ [] → AreNew S 0 readers
-new-none S readers none =
-    let counted : length readers ≡ 0 = ap length none in
-    record {
-      counted = counted;
-      logs = λ c d within. absurd (omega (arith, within, counted));
-      each = λ c d within. absurd (omega (arith, within, counted));
-    }
-
-pub new-more : (S : Script) (count : ℕ) (readers more : List KeptReader) (r : KeptReader) →
-    more ≡ readers ++ r ∷ [] → r.logs ≡ S.shape.logs →
-    IsReader r (new_reader (follows_of S count)) → AreNew S count readers →
-    AreNew S (count + 1) more
-new-more S count readers more r pushed logs is so_far =
-    let here =
-    subst (λ c. IsReader r (new_reader (follows_of S c))) (sym so_far.counted) is
-    in
-    let all : AreNew S (count + 1) (readers ++ r ∷ []) = record {
-      counted = length-append readers (r ∷ []) ∙ omega (arith, so_far.counted);
-      logs =
-          each-pushed (λ (c : ℕ) (k : KeptReader). k.logs ≡ S.shape.logs) readers r so_far.logs
-          logs;
-      each =
-          each-pushed (λ (c : ℕ) (k : KeptReader). IsReader k (new_reader (follows_of S c)))
-          readers r so_far.each here;
-    }
-    in
-    subst (AreNew S (count + 1)) (sym pushed) all
-
--- that is what readers are before the first turn
-pub new-all : (S : Script) (w : BookWords) (H : History) (count : ℕ) (readers : List KeptReader) →
-    count ≡ S.shape.clients → AreNew S count readers → AreReadersBefore S w H 0 readers
-new-all S w H count readers all are =
-    record {
-      counted = are.counted ∙ all;
-      logs = are.logs;
-      each = λ c d within.
-          subst (IsReader (slice_index_or readers c d)) (sym (before-first S w H c))
-          (are.each c d within);
-    }
-
 -- ---- epochs
 
 -- no more phases are over behind a turn than a run has
@@ -147,48 +87,137 @@ epoch-in shape H g c e legal within low is =
     let newest = (legal.each_turn g within).none_ahead c low in
     omega (arith, is, newest, phases-most shape g within)
 
--- ---- the reader
+-- ---- a client
 
--- after a read for a target, to which the answer is what is looked up
-pub reader-read : (new : KeptReader) (S : Script) (w : BookWords) (H : History) (c g : ℕ)
-    (target : Option KeptTarget) (t : KeptTarget) (answer : Option (List ℕ)) →
-    target ≡ Some t → option_map target_of target ≡ target_at S w H g c →
-    answer ≡ answer_for S w H g c (option_map target_of target) →
-    IsReader new (after_read S.shape
-    (at_epoch (epoch_at H g c) (reader_before S w H c g)) (Some (target_of t)) answer) →
-    IsReader new (reader_before S w H c (g + 1))
-reader-read new S w H c g target t answer some aims found is =
-    let is_for = ap (option_map target_of) some in
-    subst (IsReader new) (sym (before-next S w H c g))
-    (step-read new S w H g c (reader_before S w H c g) (target_of t) answer (sym aims ∙ is_for)
-    (found ∙ ap (answer_for S w H g c) is_for) is)
+pub before-next : (S : Script) (w : BookWords) (H : History) (c g : ℕ) →
+    reader_before S w H c (g + 1) ≡ reader_step S w H g c (reader_before S w H c g)
+unfolding reader_before
+before-next S w H c g = ap (reader_before S w H c) (add-one g)
 
--- after a read for nothing
-pub reader-idle : (kept : KeptReader) (S : Script) (w : BookWords) (H : History) (c g : ℕ)
-    (target : Option KeptTarget) → target ≡ None →
-    option_map target_of target ≡ target_at S w H g c →
-    IsReader kept (reader_before S w H c g) → IsReader kept (reader_before S w H c (g + 1))
-reader-idle kept S w H c g target none aims is =
-    subst (IsReader kept) (sym (before-next S w H c g))
-    (step-dummy kept S w H g c (reader_before S w H c g) is
-    (sym aims ∙ ap (option_map target_of) none))
+-- what a filter shows of what the servers show is what the read's target is chosen by
+pub target-shown : (S : Script) (w : BookWords) (H : History) (g c : ℕ) (shown : List Record)
+    (filter : Filter) → IsReadable S w H g shown filter → c < S.shape.clients →
+    target S.shape (shown_by filter w) (at_epoch (epoch_at H g c) (reader_before S w H c g))
+    ≡ target_at S w H g c
+target-shown S w H g c shown filter readable low =
+    let now = at_epoch (epoch_at H g c) (reader_before S w H c g) in
+    let shows : shown_by filter w ≡ (λ log s. is_shown S.shape shown (w.hits log s)) =
+    λ i log s. readable.shows (w.hits log s) i
+    in
+    ap (λ (f : ℕ → ℕ → Bool). target S.shape f now) shows
+    ∙ ap (λ (R : List Record). target S.shape (λ log s. is_shown S.shape R (w.hits log s)) now)
+    (sym (readable.over c low))
+
+-- after a read a client knows what it knows before the next turn
+pub reader-next : (S : Script) (w : BookWords) (H : History) (g c e : ℕ) (shown : List Record)
+    (filter : Filter) → IsReadable S w H g shown filter → c < S.shape.clients →
+    e ≡ epoch_at H g c →
+    let now = at_epoch e (reader_before S w H c g) in
+    let t = target S.shape (shown_by filter w) now in
+    after_read S.shape now t (answered S.shape w shown t) ≡ reader_before S w H c (g + 1)
+reader-next S w H g c e shown filter readable low epoch =
+    let r = reader_before S w H c g in
+    let step = λ (n : ℕ) (t : Option Target) (R : List Record).
+    after_read S.shape (at_epoch n r) t (answered S.shape w R t)
+    in
+    ap (λ n. step n (target S.shape (shown_by filter w) (at_epoch n r)) shown) epoch
+    ∙ ap (λ t. step (epoch_at H g c) t shown) (target-shown S w H g c shown filter readable low)
+    ∙ ap (λ R. step (epoch_at H g c) (target_at S w H g c) R) (sym (readable.over c low))
+    ∙ sym (before-next S w H c g)
+
+-- what becomes of a client by its read
+abbrev pub ReadsAs : WordBook → ℕ → Filter → List Server → ClientState → ClientState → Type 0
+ReadsAs b e filter servers old new =
+    let w = words_of old.shape b in
+    let read = target_over w filter e old in
+    (R shown : List Record) (seen : ℕ → List ℕ) → AreServers old.shape R shown seen servers →
+    AreOrdered old.shape shown → AllByRecursion (IsStorable old.shape) shown →
+    new ≡ knowing e read (answered old.shape w shown read) old
+
+-- and what the servers see of it
+abbrev pub SeesRead : WordBook → ℕ → ℕ → Filter → ClientState → List Server → List Server → Type 0
+SeesRead b g e filter client old new =
+    let shape = client.shape in
+    let read = target_over (words_of shape b) filter e client in
+    (R shown : List Record) (seen : ℕ → List ℕ) → AreServers shape R shown seen old →
+    AreServers shape R shown
+    (seen_with shape shown seen (asked shape b g client.number e read)) new
+
+-- a client that wrote is one of the script's, and waits for no replies
+pub record IsIdle (S : Script) (c : ℕ) (s : ClientState) : Type 0 where
+  pub shape : s.shape ≡ S.shape
+  pub number : s.number ≡ c
+  pub read : s.read ≡ None
+
+wrote-idle : (S : Script) (w : BookWords) (H : History) (g c : ℕ) (s : ClientState) →
+    s ≡ client_wrote S w H g c → IsIdle S c s
+unfolding client_wrote
+wrote-idle S w H g c s was =
+    record {
+      shape = ap (λ (k : ClientState). k.shape) was;
+      number = ap (λ (k : ClientState). k.number) was;
+      read = ap (λ (k : ClientState). k.read) was;
+    }
+
+-- so is the client whose read is due
+pub due-idle : (S : Script) (w : BookWords) (H : History) (g : ℕ) (clients : List ClientState)
+    (i : ℕ) (d : ClientState) →
+    ((c : ℕ) (e : ClientState) → i ≤ c → c < length clients →
+    slice_index_or clients c e ≡ client_wrote S w H g c) →
+    i < length clients → IsIdle S i (slice_index_or clients i d)
+due-idle S w H g clients i d due within =
+    wrote-idle S w H g i (slice_index_or clients i d) (due i d (omega arith) within)
+
+-- so after its read it is the client before the next turn
+pub client-next : (S : Script) (b : WordBook) (H : History) (g c e : ℕ) (filter : Filter)
+    (servers : List Server) (old new : ClientState) (R shown : List Record) (seen : ℕ → List ℕ) →
+    let w = words_of S.shape b in
+    old ≡ client_wrote S w H g c → c < S.shape.clients → e ≡ epoch_at H g c →
+    AreServers S.shape R shown seen servers → IsReadable S w H g shown filter →
+    ReadsAs b e filter servers old new → new ≡ client_before S w H (g + 1) c
+unfolding client_wrote client_before
+client-next S b H g c e filter servers old new R shown seen was low epoch are readable reads =
+    let w = words_of S.shape b in
+    let wrote = idle S.shape c (writing_before S c (g + 1)) (reader_before S w H c g) in
+    let then : ReadsAs b e filter servers wrote new =
+    subst (λ (s : ClientState). ReadsAs b e filter servers s new) was reads
+    in
+    then R shown seen are readable.ordered readable.storable
+    ∙ ap (idle S.shape c (writing_before S c (g + 1)))
+    (reader-next S w H g c e shown filter readable low epoch)
 
 -- ---- the servers
 
 -- asked for the target of a client's read in a turn, each server saw the read and replied
-pub servers-read : (S : Script) (b : WordBook) (H : History) (c g e : ℕ) (t : Option Target)
-    (R : List Record) (seen : ℕ → List ℕ) (servers : List Server) →
+pub servers-read : (S : Script) (b : WordBook) (H : History) (g c e : ℕ) (filter : Filter)
+    (client : ClientState) (old new : List Server) (R shown : List Record) (seen : ℕ → List ℕ) →
     let w = words_of S.shape b in
-    let over = read_over S w H g c in
-    e ≡ epoch_at H g c → t ≡ target_at S w H g c →
-    AreServers S.shape R over (seen_with S.shape over seen (asked S.shape b g c e t)) servers →
-    AreServers S.shape R over (λ j. seen j ++ bytes_of (read_answered S b H j g c)) servers
-servers-read S b H c g e t R seen servers epoch aim are =
+    client ≡ client_wrote S w H g c → c < S.shape.clients → e ≡ epoch_at H g c →
+    AreServers S.shape R shown seen old → IsReadable S w H g shown filter →
+    SeesRead b g e filter client old new →
+    AreServers S.shape R shown (λ j. seen j ++ bytes_of (read_answered S b H j g c)) new
+unfolding client_wrote
+servers-read S b H g c e filter client old new R shown seen was low epoch are readable sees =
     let w = words_of S.shape b in
-    let over = read_over S w H g c in
-    let reads = asked S.shape b g c (epoch_at H g c) (target_at S w H g c) in
-    servers-same S.shape R over (seen_with S.shape over seen reads)
-    (λ j. seen j ++ bytes_of (read_answered S b H j g c)) servers
-    (λ j low high. seen_with-run S b H g c j over seen low high)
-    (subst (λ (rs : List ReadFrame). AreServers S.shape R over (seen_with S.shape over seen rs)
-    servers) (ap₂ (asked S.shape b g c) epoch aim) are)
+    let shape = S.shape in
+    let wrote = idle shape c (writing_before S c (g + 1)) (reader_before S w H c g) in
+    let then : SeesRead b g e filter wrote old new =
+    subst (λ (s : ClientState). SeesRead b g e filter s old new) was sees
+    in
+    let asks = λ (n : ℕ) (t : Option Target). asked shape b g c n t in
+    let target_is : target_over w filter e wrote ≡ target_at S w H g c =
+    ap (λ n. target shape (shown_by filter w) (at_epoch n (reader_before S w H c g))) epoch
+    ∙ target-shown S w H g c shown filter readable low
+    in
+    let reads : asks e (target_over w filter e wrote) ≡ asks (epoch_at H g c) (target_at S w H g c) =
+    ap₂ asks epoch target_is
+    in
+    let over : read_over S w H g c ≡ shown = readable.over c low in
+    let seen_now = λ (j : ℕ). seen j ++ bytes_of (read_answered S b H j g c) in
+    servers-same shape R shown
+    (seen_with shape shown seen (asks (epoch_at H g c) (target_at S w H g c))) seen_now new
+    (λ j one most. seen_with-run S b H g c j shown seen one most
+    ∙ ap (λ (rs : List Record). seen j ++ bytes_of (with_reply shape rs (read_at S b H g c j)))
+    (sym over))
+    (subst (λ (rs : List ReadFrame). AreServers shape R shown (seen_with shape shown seen rs) new)
+    reads (then R shown seen are))

@@ -1,4 +1,4 @@
--- Lines of fields, lists that are written one by one, and what a reader has of a log.
+-- Lines of fields, lists that are written one by one, and what a client has at the end.
 use Rattle.std.proofs.Common.{◌≡◌, ◌<◌, ℕ, ◌+◌, List, [], ◌∷◌, ◌++◌, length, map, flat_map, take, get_or, ap, ap₂, sym, ◌∙◌, append_assoc, append-nil, zero-add}
 use Rattle.std.specs.List.{join_with_byte, range_with_len}
 use Rattle.std.proofs.lemmas.List.{flat_map_more, map-id, take_more}
@@ -6,10 +6,13 @@ use Rattle.std.proofs.lemmas.List.FromFn.{map-range_with_len_more}
 use Rattle.tk_schedule.specs.declared.history.History.{History}
 use Rattle.tk_script.specs.declared.script.Script.{Script}
 use Rattle.tk_words.specs.Words.{BookWords}
-use Rattle.tk_cli.specs.declared.got.Got.{Got}
-use Rattle.tk_cli.specs.declared.reader.Reader as kept_reader
-use Rattle.tk_cli.specs.Report.{line, got_in, got_of}
-use Rattle.tk_cli.specs.Readers.{AreReaders, follow_of}
+use Rattle.tk_client.specs.declared.got.Got.{Got}
+use Rattle.tk_client.specs.Readers.{got_in}
+use Rattle.tk_client.specs.State.{ClientState}
+use Rattle.tk_script.specs.Sent.{unsent_count}
+use Rattle.tk_cli.specs.Clients.{AreClientsAtEnd, client_before}
+use Rattle.tk_cli.specs.Report.{line, got_of}
+use Rattle.tk_cli.proofs.QueueLaws.{unsent_waits}
 
 -- ---- fields
 
@@ -90,15 +93,27 @@ five_parts old a b c d e {to_e = to_e} a_is b_is c_is d_is e_is =
     let chain : to_e ≡ ((((old ++ a) ++ b) ++ c) ++ d) ++ e = cc in
     chain ∙ simp append_assoc
 
--- ---- readers
+-- ---- clients at the end of a run
 
--- what a client's reader has of a log is what the log gave to the client
-pub got_kept : (S : Script) (w : BookWords) (H : History) (readers : List kept_reader.Reader)
-    (log c : ℕ) (reader : kept_reader.Reader) (got : List Got) →
-    AreReaders S w H readers → c < length readers → reader ≡ get_or readers c reader →
-    got ≡ got_in (map follow_of reader.follows.items) log →
+-- what a client has of a log is what the log gave to it
+pub got_kept : (S : Script) (w : BookWords) (H : History) (clients : List ClientState)
+    (log c : ℕ) (client : ClientState) (got : List Got) →
+    AreClientsAtEnd S w H clients → c < length clients → client ≡ get_or clients c client →
+    got ≡ got_in client.reader.follows log →
     got ≡ got_of S w H c log
-got_kept S w H readers log c reader got are within here is =
+unfolding client_before
+got_kept S w H clients log c client got are within here is =
     is
-    ∙ ap (λ (r : kept_reader.Reader). got_in (map follow_of r.follows.items) log) here
-    ∙ ap (λ follows. got_in follows log) (sym (are.each c reader within).follows)
+    ∙ ap (λ (k : ClientState). got_in k.reader.follows log) (here ∙ are.each c client within)
+
+-- and how many texts wait is how many are left over
+pub unsent_kept : (S : Script) (w : BookWords) (H : History) (clients : List ClientState)
+    (c : ℕ) (client : ClientState) (count : ℕ) →
+    AreClientsAtEnd S w H clients → c < length clients → client ≡ get_or clients c client →
+    count ≡ length client.writing.waiting →
+    count ≡ unsent_count S c
+unfolding client_before
+unsent_kept S w H clients c client count are within here is =
+    is
+    ∙ ap (λ (k : ClientState). length k.writing.waiting) (here ∙ are.each c client within)
+    ∙ unsent_waits S c

@@ -1,11 +1,11 @@
 -- A record that is retained is shown, and its text is what is looked up.
 use Rattle.std.proofs.Common.{◌≡◌, refl, ap, ap₂, sym, ◌∙◌, subst, arith, inl, inr, eq-eqb}
 use Rattle.std.proofs.Common.{ℕ, zero, suc, ◌+◌, ◌-◌, Bool, true, false, cond, ◌&&◌, ◌==◌}
-use Rattle.std.proofs.Common.{List, [], ◌∷◌, ◌++◌, length, drop, flat_map, Option, Some, None}
+use Rattle.std.proofs.Common.{List, [], ◌∷◌, ◌++◌, length, drop, Option, Some, None}
 use Rattle.std.proofs.Common.{eqb-true, count_by, zero-add, ◌||◌}
-use Rattle.std.specs.List.{AllByRecursion, list_all, list_any}
-use Rattle.std.specs.Option.{option_or}
-use Rattle.std.proofs.lemmas.Bool.{and_from, or_left, or_right, both_ways}
+use Rattle.std.specs.List.{AllByRecursion, list_all}
+use Rattle.std.specs.Option.{option_or, option_map}
+use Rattle.std.proofs.lemmas.Bool.{both_ways}
 use Rattle.tk_shape.specs.declared.shape.Shape.{Shape}
 use Rattle.tk_shape.specs.Lengths.{turn_count}
 use Rattle.tk_schedule.specs.declared.item.Item.{Item}
@@ -25,14 +25,18 @@ use Rattle.tk_table.specs.Ordered.{AscendFrom}
 use Rattle.tk_table.specs.Table.{window, has_position, retained}
 use Rattle.tk_table.proofs.Ascending.{ascend-above}
 use Rattle.tk_table.proofs.InWindow.{retained-in_window}
-use Rattle.tk_table.proofs.Members.{IsIn, in_from_contains, each-in, in_front, in_back}
+use Rattle.tk_table.proofs.Members.{IsIn, in_from_contains, contains_from_in, each-in, in_map}
 use Rattle.tk_table.proofs.RetainedEach.{retained-each}
-use Rattle.tk_cli.specs.Bloom.{positions_of, is_shown}
-use Rattle.tk_cli.specs.Entries.{write_of, write_at, placed_from, placed_after, entries_before}
+use Rattle.tk_bloom.proofs.Showing.{is_shown-positions_of}
+use Rattle.tk_cli.specs.Bloom.{pushes_of, is_shown}
+use Rattle.tk_client.specs.Writes.{write_of}
+use Rattle.tk_cli.specs.Queues.{waiting_of}
+use Rattle.tk_cli.specs.Entries.{write_at, placed_from, placed_after, entries_before}
 use Rattle.tk_cli.specs.Entries.{entries}
 use Rattle.tk_cli.specs.Orders.{ArePlacedFrom}
-use Rattle.tk_cli.specs.PassingOver.{IsRecordOf, IsNotRetained}
-use Rattle.tk_cli.specs.Report.{text_in, lookup}
+use Rattle.tk_cli.specs.PassingOver.{IsRecordOf, IsNotRetained, RecordsAreShown}
+use Rattle.tk_table.specs.Slots.{text_in}
+use Rattle.tk_cli.specs.Report.{lookup}
 use Rattle.tk_cli.proofs.PlacedLaws.{ascend-entry}
 use Rattle.tk_cli.proofs.SentTextLaws.{sent-sealable}
 
@@ -158,42 +162,22 @@ retained-inside shape R r ascend there =
 
 -- ---- what is in the window is shown
 
-positions-own : (W : List Record) (r : Record) (h : ℕ) → IsIn W r → IsIn r.write.hits h →
-    IsIn (flat_map (λ (q : Record). q.write.hits) W) h
-positions-own [] r h there hit = absurd there
-positions-own (q ∷ W) r h (inl e) hit =
-    in_front q.write.hits (flat_map (λ (q : Record). q.write.hits) W) h
-    (subst (λ (x : Record). IsIn x.write.hits h) (sym e) hit)
-positions-own (q ∷ W) r h (inr there) hit =
-    in_back q.write.hits (flat_map (λ (q : Record). q.write.hits) W) h
-    (positions-own W r h there hit)
-
-any-own : (xs : List ℕ) (h : ℕ) → IsIn xs h → list_any (λ k. h == k) xs ≡ true
-any-own [] h there = absurd there
-any-own (x ∷ xs) h (inl e) = or_left (h == x) (list_any (λ k. h == k) xs) (eq-eqb h x (sym e))
-any-own (x ∷ xs) h (inr there) =
-    or_right (h == x) (list_any (λ k. h == k) xs) (any-own xs h there)
-
-all-from : {X : Type 0} (test : X → Bool) (xs : List X) → ((x : X) → IsIn xs x → test x ≡ true) →
-    list_all test xs ≡ true
-all-from test [] each = refl
-all-from test (x ∷ xs) each =
-    and_from (test x) (list_all test xs) (each x (inl refl))
-    (all-from test xs (λ y there. each y (inr there)))
-
 window-shown : (shape : Shape) (R : List Record) (r : Record) → IsIn (window shape R) r →
     is_shown shape R r.write.hits ≡ true
 window-shown shape R r there =
-    all-from (λ h. list_any (λ k. h == k) (positions_of shape R)) r.write.hits
-    (λ h hit. any-own (positions_of shape R) h (positions-own (window shape R) r h there hit))
+    let hits = λ (q : Record). q.write.hits in
+    is_shown-positions_of (pushes_of shape R) r.write.hits
+    (contains_from_in (pushes_of shape R) r.write.hits (in_map hits (window shape R) r there))
 
 -- ---- the record of a number
 
 -- it is what was written for what was sent
 record-write : (S : Script) (w : BookWords) (g c : ℕ) (y : Sending) (r : Record) →
-    sent S g c ≡ Some y → r.write ≡ write_at S w g c → r.write ≡ write_of w g c (Some y)
+    sent S g c ≡ Some y → r.write ≡ write_at S w g c →
+    r.write ≡ write_of w g c (Some (waiting_of y))
 unfolding write_at
-record-write S w g c y r sends written = written ∙ ap (write_of w g c) sends
+record-write S w g c y r sends written =
+    written ∙ ap (λ (o : Option Sending). write_of w g c (option_map waiting_of o)) sends
 
 record-hits : (S : Script) (w : BookWords) (log s : ℕ) (r : Record) → IsRecordOf S w log s r →
     r.write.hits ≡ w.hits log s
@@ -201,6 +185,12 @@ record-hits S w log s r known =
     let sends = known.sends in
     let write = record-write S w known.turn known.client known.sending r sends known.written in
     ap (λ (x : WriteFrame). x.hits) write ∙ ap₂ w.hits known.of_log known.of_number
+
+-- so a number whose record is in the window is shown
+pub records-shown : RecordsAreShown
+records-shown S w R log s r there known =
+    sym (ap (is_shown S.shape R) (record-hits S w log s r known))
+    ∙ window-shown S.shape R r (in_from_contains (window S.shape R) r there)
 
 -- what isn't shown isn't retained
 pub not_shown-not_retained : (S : Script) (w : BookWords) (H : History) (e log s : ℕ) →
@@ -230,7 +220,7 @@ none-each {X} {Y} f (z ∷ xs) x none there =
 
 record-gives : (S : Script) (w : BookWords) (log s : ℕ) (r : Record) → OpensSealed S.shape w →
     IsNumber S.shape log s → (known : IsRecordOf S w log s r) →
-    text_in w log s r ≡ Some known.sending.text
+    text_in (w.pair log s) (opened w log s) r ≡ Some known.sending.text
 record-gives S w log s r opens number known =
     let y = known.sending in
     let write = record-write S w known.turn known.client y r known.sends known.written in
@@ -257,7 +247,7 @@ pub not_found-not_retained : (S : Script) (w : BookWords) (R : List Record) (log
 unfolding lookup
 not_found-not_retained S w R log s opens number none r there known =
     let kept = in_from_contains (retained S.shape R) r there in
-    let gives_none = none-each (text_in w log s) (retained S.shape R) r none kept in
+    let gives_none = none-each (text_in (w.pair log s) (opened w log s)) (retained S.shape R) r none kept in
     some_none known.sending.text
     (sym (record-gives S w log s r opens number known) ∙ gives_none)
   where

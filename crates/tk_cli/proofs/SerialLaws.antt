@@ -1,16 +1,18 @@
 -- Where the words of an input come from, and its run.
-use Rattle.std.proofs.Common.{◌≡◌, ◌∙◌, ◌-◌, ◌^◌, refl, ap, sym, subst, ℕ, List, length, take, Option, Some, arith, rules}
+use Rattle.std.proofs.Common.{◌≡◌, ◌∙◌, ◌-◌, ◌^◌, ◌==◌, refl, ap, sym, subst, ℕ, List, length, take}
+use Rattle.std.proofs.Common.{Option, Some, arith, rules, eqb-true, IsTrue}
 use Rattle.std.specs.Prelude.{None, min}
 use Rattle.std.proofs.lemmas.List.{length-take-le}
 use Rattle.tk_shape.specs.declared.shape.Shape.{Shape}
 use Rattle.tk_shape.specs.Lengths.{tape_len}
-use Rattle.tk_script.specs.Built.{IsBuiltShape}
 use Rattle.tk_script.specs.Grammar.{Line, Spells, TapeFor, kept_of}
+use Rattle.tk_script.specs.SoundScript.{has_keys}
+use Rattle.tk_script.proofs.SoundLaws.{parts}
 use Rattle.tk_script.specs.declared.keys.Keys.{Keys}
 use Rattle.tk_script.specs.declared.input.RawTape.{RawTape}
 use Rattle.tk_script.specs.declared.input.Input.{Input}
 use Rattle.tk_schedule.specs.Schedule.{serial_history}
-use Rattle.tk_words.specs.Words.{WordBook, keyed, drawn}
+use Rattle.tk_words.specs.Words.{WordBook, keyed, drawn, IsBook}
 use Rattle.tk_cli.specs.Report.{report}
 use Rattle.tk_cli.specs.Exchange.{exchange, bytes_of}
 use Rattle.tk_cli.specs.Tapped.{TapsGain, TapsGainFronts, TapsKeepBut}
@@ -27,10 +29,9 @@ keyed_whole shape (Some keys) lines tape k t is =
     subst (IsWholeTape shape) (sym t.1) tt
 
 pub keyed_run : (bytes : List ℕ) (input : Input) (keys : Keys) → Spells bytes input →
-    IsBuiltShape input.first.shape → input.first.keys ≡ Some keys → IsRunOf bytes input
-keyed_run bytes input keys s built is = record {
+    input.first.keys ≡ Some keys → IsRunOf bytes input
+keyed_run bytes input keys s is = record {
   spelled = s;
-  built = built;
   tape = keyed_whole input.first.shape input.first.keys s.rest input.tape keys s.tape is;
 }
 
@@ -72,11 +73,10 @@ drawn_kept bytes input t s is some got =
     tape_kept input.first.shape input.first.keys s.rest input.tape t s.tape is some got
 
 pub drawn_run : (bytes : List ℕ) (input : Input) (t : RawTape) → Spells bytes input →
-    IsBuiltShape input.first.shape → input.first.keys ≡ None → input.tape ≡ Some t →
+    input.first.keys ≡ None → input.tape ≡ Some t →
     t.got ≡ tape_len input.first.shape → IsRunOf bytes input
-drawn_run bytes input t s built is some got = record {
+drawn_run bytes input t s is some got = record {
   spelled = s;
-  built = built;
   tape = subst (IsWholeTape input.first.shape) (sym some)
       (drawn_kept bytes input t s is some got, got);
 }
@@ -84,6 +84,27 @@ drawn_run bytes input t s built is some got = record {
 pub drawn_book : (keys : Option Keys) (tape : Option RawTape) (t : RawTape) → keys ≡ None →
     tape ≡ Some t → drawn t.bytes ≡ book_from keys tape
 drawn_book keys tape t none some = rw (none, some) refl
+
+-- ---- its words fit its shape
+
+book-fits : (shape : Shape) (keys : Option Keys) (lines : List Line) (tape : Option RawTape) →
+    IsTrue (has_keys shape keys) → TapeFor shape keys lines tape → IsWholeTape shape tape →
+    IsBook shape (book_from keys tape)
+book-fits shape (Some k) lines tape counted ends whole =
+    let split = parts (length k.handles == shape.logs) (length k.seeds == shape.clients) counted in (
+      eqb-true (length k.handles) shape.logs split.0,
+      eqb-true (length k.seeds) shape.clients split.1,
+    )
+book-fits shape None lines (Some t) counted ends whole = whole.0
+book-fits shape None lines None counted ends whole =
+    absurd (no_tape shape None lines None ends refl refl)
+
+pub run-book : (bytes : List ℕ) (input : Input) → IsRunOf bytes input →
+    IsBook input.first.shape (book_of input)
+run-book bytes input run =
+    let S = input.first in
+    book-fits S.shape S.keys run.spelled.rest input.tape S.sound.keys_counted run.spelled.tape
+    run.tape
 
 -- ---- its run
 

@@ -3,7 +3,7 @@ use Rattle.std.proofs.Common.{◌≡◌, ℕ, zero, suc, ◌+◌, ◌<◌, ◌�
 use Rattle.std.proofs.Common.{arith, List, [], ◌∷◌, ◌++◌, true, cond, length, count_by}
 use Rattle.std.proofs.Common.{append-nil, append_assoc, eq-eqb}
 use Rattle.std.specs.Prelude.{◌==◌, slice_index}
-use Rattle.std.specs.List.{AllByRecursion, cons_option}
+use Rattle.std.specs.List.{cons_option}
 use Rattle.std.proofs.lemmas.List.Elements.{filter_map-append}
 use Rattle.std.proofs.lemmas.List.Sums.{sum_by-append, sum_by-cons}
 use Rattle.tk_shape.specs.declared.shape.Shape.{Shape}
@@ -22,15 +22,11 @@ use Rattle.tk_table.specs.Ordered.{AscendFrom, HasBuckets, AreOrdered}
 use Rattle.tk_cli.specs.Entries.{placed_from, entries_before}
 use Rattle.tk_cli.specs.Orders.{AreEnds}
 use Rattle.tk_cli.specs.Servers.{shown_with, shown_after}
+use Rattle.tk_cli.proofs.EachLaws.{each-front}
 use Rattle.tk_cli.proofs.OrderLaws.{ends-write, ends-mark-at}
 use Rattle.tk_cli.proofs.EpochLaws.{marks-before, before-stays}
 
 -- ---- records in order
-
-pub each-front : {X : Type 0} (P : X → Type 0) (xs ys : List X) → AllByRecursion P (xs ++ ys) →
-    AllByRecursion P xs
-each-front P [] ys h = tt
-each-front P (x ∷ xs) ys h = (h.0, each-front P xs ys h.1)
 
 ascend-of_front : (p : ℕ) (R later : List Record) → AscendFrom p (R ++ later) → AscendFrom p R
 ascend-of_front p [] later h = tt

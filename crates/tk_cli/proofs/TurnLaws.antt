@@ -27,12 +27,17 @@ use Rattle.tk_cli.specs.Entries.{write_at, entries, entries_at, entries_before}
 use Rattle.tk_cli.specs.Exchange.{turn_frames, frames_before, read_answered, exchange, bytes_of}
 use Rattle.tk_cli.specs.Servers.{AreServers, nothing_seen, shown_after}
 use Rattle.tk_cli.specs.Turns.{turn_seen, seen_before, seen_of_reads, placed_before}
-use Rattle.tk_cli.specs.Turns.{AreReadOver, AreServersBefore, IsTurnOf}
-use Rattle.tk_cli.specs.Sendable.{placed_has_block}
+use Rattle.tk_cli.specs.Turns.{AreReadOver, AreServersBefore, IsReadable, IsTurnOf}
+use Rattle.tk_cli.specs.declared.notices.Notices.{Notices}
+use Rattle.tk_cli.specs.Bloom.{is_shown}
+use Rattle.tk_cli.specs.Notices.{AreNotices}
+use Rattle.tk_cli.specs.Runs.{AreNoticesBefore}
+use Rattle.tk_cli.specs.Sendable.{placed_has_block, HasPositions}
 use Rattle.tk_cli.specs.Orders.{IsOrder}
 use Rattle.tk_cli.specs.declared.order.Order.{Order}
 use Rattle.tk_cli.proofs.PlacedLaws.{order-ordered}
-use Rattle.tk_cli.proofs.ShownLaws.{each-front, ordered-front, records-append, shown-append}
+use Rattle.tk_cli.proofs.EachLaws.{each-front, each-behind}
+use Rattle.tk_cli.proofs.ShownLaws.{ordered-front, records-append, shown-append}
 use Rattle.tk_cli.proofs.ShownLaws.{shown-front, shown-read}
 use Rattle.tk_io.specs.Content.{gained}
 use Rattle.tk_cli.specs.Tapped.{GainsFront, TapsGain, TapsGainFronts}
@@ -252,14 +257,16 @@ shown-storable shape E storable =
 
 -- what stands behind the entries before a turn is a turn of the run
 pub turn-of_order : (S : Script) (w : BookWords) (H : History) (g : ℕ) (old : List Placed)
-    (o : Order) (placed : List Placed) → old ≡ placed_before S w H g →
-    placed ≡ drop (length old) o.placed.items → IsOrder o → o.shape ≡ S.shape →
+    (o : Order) (start : ℕ) (placed : List Placed) → old ≡ placed_before S w H g →
+    start ≡ length old → placed ≡ drop start o.placed.items → IsOrder o → o.shape ≡ S.shape →
     o.placed.items ≡ placed_before S w H (g + 1) → IsLegal S.shape H →
     H ≡ serial_history S.shape → g < turn_count S.shape → IsTurnOf S w H g placed
-turn-of_order S w H g old o placed old_is placed_is order shape new_is legal serial turn_in =
+turn-of_order S w H g old o start placed old_is start_is placed_is order shape new_is legal serial
+    turn_in =
     let E = placed_before S w H g in
     let entries_are : placed ≡ entries_at (write_at S w) H g =
-    placed_is ∙ entries-added (write_at S w) H g old o.placed.items old_is new_is
+    placed_is ∙ ap (λ (n : ℕ). drop n o.placed.items) start_is
+    ∙ entries-added (write_at S w) H g old o.placed.items old_is new_is
     in
     let whole : o.placed.items ≡ E ++ placed =
     new_is ∙ entries-next (write_at S w) H g ∙ ap (λ (xs : List Placed). E ++ xs) (sym entries_are)
@@ -275,6 +282,10 @@ turn-of_order S w H g old o placed old_is placed_is order shape new_is legal ser
     subst (AllByRecursion (IsStorable S.shape)) writes
     (subst (λ s. AllByRecursion (IsStorable s) (records o.placed.items)) shape order.storable)
     in
+    let positions : AllByRecursion (HasPositions S.shape) (records E ++ records placed) =
+    subst (AllByRecursion (HasPositions S.shape)) writes
+    (subst (λ s. AllByRecursion (HasPositions s) (records o.placed.items)) shape order.positions)
+    in
     let blocks : IsTrue (list_all (placed_has_block S.shape.block) (E ++ placed)) =
     subst (λ xs. IsTrue (list_all (placed_has_block S.shape.block) xs)) whole
     (subst (λ s. IsTrue (list_all (placed_has_block (Shape.block s)) o.placed.items)) shape
@@ -287,8 +298,55 @@ turn-of_order S w H g old o placed old_is placed_is order shape new_is legal ser
         blocks = list_all-behind (placed_has_block S.shape.block) E placed blocks;
       };
       storable = each-front (IsStorable S.shape) (records E) (records placed) storable;
+      positions = each-behind (HasPositions S.shape) (records E) (records placed) positions;
       over = read_over-serial S w H g legal serial turn_in;
     }
+
+-- what is shown before a turn can be read in it
+pub turn-readable : (S : Script) (w : BookWords) (H : History) (g : ℕ) (placed : List Placed)
+    (n : Notices) → IsTurnOf S w H g placed → AreNoticesBefore S w H g n →
+    IsReadable S w H g (shown_after [] [] (placed_before S w H g)) n.shown
+turn-readable S w H g placed n turn notices =
+    let E = placed_before S w H g in
+    let shown = shown_after [] [] E in
+    let ordered = ordered-front S.shape (records E) (records placed) turn.may.ordered in
+    record {
+      over = turn.over;
+      ordered = shown-ordered S.shape E ordered;
+      storable = shown-storable S.shape E turn.storable;
+      shows = λ hits.
+          notices.are.shows hits
+          ∙ ap (λ (shape : Shape). is_shown shape shown hits) notices.same;
+    }
+
+-- what was worth reading before a turn, and what is before the next
+pub notices-next : (S : Script) (w : BookWords) (H : History) (g : ℕ) (placed : List Placed)
+    (n : Notices) → placed ≡ entries_at (write_at S w) H g → n.shape ≡ S.shape →
+    let E = placed_before S w H g in
+    AreNotices (records E ++ records placed) (shown_after (records E) (shown_after [] [] E) placed) n →
+    AreNoticesBefore S w H (g + 1) n
+notices-next S w H g placed n entries_are same are =
+    let E = placed_before S w H g in
+    let next : placed_before S w H (g + 1) ≡ E ++ placed =
+    entries-next (write_at S w) H g ∙ ap (λ (xs : List Placed). E ++ xs) (sym entries_are)
+    in
+    let writes : records E ++ records placed ≡ records (placed_before S w H (g + 1)) =
+    sym (records-append E placed) ∙ sym (ap records next)
+    in
+    let shown : shown_after (records E) (shown_after [] [] E) placed
+    ≡ shown_after [] [] (placed_before S w H (g + 1)) =
+    sym (shown-append [] [] E placed) ∙ sym (ap (shown_after [] []) next)
+    in
+    record {
+      same = same;
+      are = subst (λ rs. AreNotices rs (shown_after [] [] (placed_before S w H (g + 1))) n) writes
+          (subst (λ rs. AreNotices (records E ++ records placed) rs n) shown are);
+    }
+
+pub notices-first : (S : Script) (w : BookWords) (H : History) (n : Notices) →
+    n.shape ≡ S.shape → AreNotices [] [] n → AreNoticesBefore S w H 0 n
+unfolding entries_before shown_after
+notices-first S w H n same are = record { same = same; are = are }
 
 -- ---- the first turn
 

@@ -1,11 +1,9 @@
 -- How a run of bytes ends without a report.
-use Rattle.std.specs.Prelude.{◌≡◌, ◌≢◌, ◌⊎◌, ℕ, List, Option, Err}
+use Rattle.std.specs.Prelude.{◌≡◌, ◌⊎◌, ℕ, List, Option, Err}
 use Rattle.tk_script.specs.declared.cause.Cause.{Cause}
-use Rattle.tk_script.specs.declared.cause.Cause.TheVariants as cause
 use Rattle.tk_script.specs.declared.error.ScriptError.{ScriptError}
 use Rattle.tk_script.specs.declared.error.ScriptError.TheVariants as script_error
 use Rattle.tk_script.specs.declared.input.Input.{Input}
-use Rattle.tk_script.specs.Built.{IsBuiltShape}
 use Rattle.tk_script.specs.Grammar.{lines_of, Spells}
 use Rattle.tk_script.specs.Reading.{read_input}
 use Rattle.tk_cli.specs.declared.run_error.RunError.{RunError}
@@ -15,35 +13,26 @@ use Rattle.tk_cli.specs.declared.status.Status.TheVariants as status
 use Rattle.tk_cli.specs.Serial.{RunsInto, HasOtherTape, TakesAll}
 use Rattle.tk_cli.specs.Tapped.{TapsKeep}
 
--- what a refused line is told by
-abbrev pub line_status : ℕ → Cause → Status
-line_status line cause.NotBuilt = status.Later line
-line_status line c = status.Script line c
-
 abbrev pub script_status : ScriptError → Status
-script_status (script_error.Line line c) = line_status line c
+script_status (script_error.Line line c) = status.Script line c
 script_status script_error.Memory = status.Memory
 
 abbrev pub run_status : RunError → Status
 run_status run_error.Taps = status.Write
 run_status run_error.Memory = status.Memory
 
--- this line of the bytes is the first that is refused, for this cause; and they spell no input of a
--- shape that is built
+-- this line of the bytes is the first that is refused, for this cause; and they spell no input
 pub record Refuses (bytes : List ℕ) (line : ℕ) (c : Cause) : Type 0 where
   pub first : read_input (lines_of bytes) ≡ Err (line, c)
-  pub none : (input : Input) → IsBuiltShape input.first.shape → Spells bytes input → ⊥
+  pub none : (input : Input) → Spells bytes input → ⊥
 
 -- a run of the bytes may end with this status
 abbrev pub EndsWith : Status → List ℕ → (ℕ → Option (List ℕ)) → (ℕ → Option (List ℕ)) → Type 0
 EndsWith status.Memory bytes tap tap' = RunsInto bytes tap tap' ⊎ TapsKeep tap tap'
-EndsWith (status.Script line c) bytes tap tap' =
-    Refuses bytes line c × (c ≢ cause.NotBuilt) × TapsKeep tap tap'
+EndsWith (status.Script line c) bytes tap tap' = Refuses bytes line c × TapsKeep tap tap'
 EndsWith status.Write bytes tap tap' = RunsInto bytes tap tap'
 EndsWith (status.Tape want got) bytes tap tap' =
     HasOtherTape bytes want got × TapsKeep tap tap'
-EndsWith (status.Later line) bytes tap tap' =
-    Refuses bytes line cause.NotBuilt × TapsKeep tap tap'
 EndsWith _ bytes tap tap' = ⊥
 
 -- all was taken, and this line of it is the first that is refused, for this cause

@@ -1,5 +1,5 @@
 -- The order that a history gives.
-use Rattle.std.specs.Prelude.{ℕ, zero, suc, ◌+◌, List, [], ◌∷◌, ◌++◌, length, count_by, Option, Some, None}
+use Rattle.std.specs.Prelude.{ℕ, zero, suc, ◌+◌, List, [], ◌∷◌, ◌++◌, length, count_by, option_map}
 use Rattle.tk_schedule.specs.declared.item.Item.{Item}
 use Rattle.tk_schedule.specs.declared.item.Item.TheVariants.{Client, Publish}
 use Rattle.tk_schedule.specs.declared.history.History.{History}
@@ -9,38 +9,26 @@ use Rattle.tk_frames.specs.declared.entry.Placed.{Placed}
 use Rattle.tk_frames.specs.declared.entry.Entry.TheVariants.{Write, Mark}
 use Rattle.tk_shape.specs.Lengths.{turn_count}
 use Rattle.tk_schedule.specs.Schedule.{order_at}
-use Rattle.tk_words.specs.Words.{BookWords, FreshWrite, sealed}
+use Rattle.tk_words.specs.Words.{BookWords}
+use Rattle.tk_client.specs.Writes.{write_of}
+use Rattle.tk_cli.specs.Queues.{waiting_of}
 use Rattle.tk_frames.specs.Order.{is_mark_entry}
-use Rattle.tk_script.specs.Sent.{Sending, sent}
+use Rattle.tk_script.specs.Sent.{sent}
 
--- a fresh write as a frame
-abbrev pub dummy : ℕ → ℕ → FreshWrite → WriteFrame
-dummy g c w =
-    record { client = c; turn = g; first = w.first; second = w.second; hits = w.hits; block = w.block }
-
--- what a client writes in a turn: the text that it sends, sealed, or a fresh write that nobody can tell from one
-abbrev pub write_of : BookWords → ℕ → ℕ → Option Sending → WriteFrame
-write_of w g c None = dummy g c (w.fresh_write g c)
-write_of w g c (Some y) =
-    record {
-      client = c;
-      turn = g;
-      first = (w.pair y.log y.number).0;
-      second = (w.pair y.log y.number).1;
-      hits = w.hits y.log y.number;
-      block = sealed w y.log y.number y.text;
-    }
-
+-- what a client writes in a turn
 unfoldable pub write_at : Script → BookWords → ℕ → ℕ → WriteFrame
-write_at S w g c = write_of w g c (sent S g c)
+write_at S w g c = write_of w g c (option_map waiting_of (sent S g c))
 
--- a turn's entries, from a position and a mark's number on; write gives each client's write of the turn
+-- a turn's entries, from a position and a mark's number on; write gives each client's write of the
+-- turn
 unfoldable pub placed_from : (ℕ → WriteFrame) → ℕ → ℕ → List Item → List Placed
 placed_from write position e [] = []
 placed_from write position e (Client c ∷ items) =
-    record { position = position; entry = Write (write c) } ∷ placed_from write (position + 1) e items
+    record { position = position; entry = Write (write c) }
+    ∷ placed_from write (position + 1) e items
 placed_from write position e (Publish ∷ items) =
-    record { position = position; entry = Mark e } ∷ placed_from write (position + 1) (e + 1) items
+    record { position = position; entry = Mark e }
+    ∷ placed_from write (position + 1) (e + 1) items
 
 -- a turn's entries behind those of the turns before: positions from 1, marks numbered from 1
 abbrev pub placed_after : (ℕ → WriteFrame) → List Placed → List Item → List Placed

@@ -1,6 +1,5 @@
 -- What each server sees of a run, and what it replies.
 use Rattle.std.specs.Prelude.{ℕ, ◌-◌, List, [], ◌∷◌, ◌++◌, map, flat_map, slice_index_or}
-use Rattle.std.specs.Prelude.{Option, Some, None}
 use Rattle.std.specs.List.{range_with_len}
 use Rattle.tk_shape.specs.declared.shape.Shape.{Shape}
 use Rattle.tk_shape.specs.Lengths.{turn_count, vector_len, width}
@@ -16,16 +15,11 @@ use Rattle.tk_frames.specs.declared.reply_frame.ReplyFrame.{ReplyFrame}
 use Rattle.tk_frames.specs.Spelling.{placed_frame, read_frame, reply_frame}
 use Rattle.tk_frames.specs.Order.{Record}
 use Rattle.tk_table.specs.Table.{layout, blocks_of}
-use Rattle.tk_cli.specs.Client.{Target}
+use Rattle.tk_client.specs.Asked.{pair_for}
 use Rattle.tk_cli.specs.Entries.{write_at, entries_at}
 use Rattle.tk_cli.specs.Report.{target_at, read_over}
 
 -- ---- a read
-
--- the buckets of a client's read: those of its target, or for a dummy those that are drawn
-abbrev pub pair_for : BookWords → ℕ → ℕ → Option Target → ℕ × ℕ
-pair_for w g c None = w.fresh_pair g c
-pair_for w g c (Some t) = w.pair t.log t.number
 
 unfoldable pub read_pair : Script → BookWords → History → ℕ → ℕ → ℕ × ℕ
 read_pair S w H g c = pair_for w g c (target_at S w H g c)

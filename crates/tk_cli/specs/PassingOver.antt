@@ -1,17 +1,21 @@
 -- What it means that a number of a log was rightly passed over.
-use Rattle.std.specs.Prelude.{◌≡◌, ℕ, ◌<◌, List, slice_get, Contains, Some}
+use Rattle.std.specs.Prelude.{◌≡◌, ℕ, ◌<◌, true, List, slice_get, Contains, Some}
 use Rattle.tk_shape.specs.Lengths.{turn_count}
 use Rattle.tk_schedule.specs.declared.history.History.{History}
+use Rattle.tk_schedule.specs.Schedule.{serial_history}
 use Rattle.tk_script.specs.declared.script.Script.{Script}
+use Rattle.tk_script.specs.declared.input.Input.{Input}
 use Rattle.tk_script.specs.Sent.{Sending, sent}
 use Rattle.tk_words.specs.Words.{WordBook, BookWords, IsBook, words_of}
 use Rattle.tk_frames.specs.Order.{Record}
-use Rattle.tk_table.specs.Table.{retained}
-use Rattle.tk_cli.specs.declared.got.Got.{Got}
-use Rattle.tk_cli.specs.declared.got.Got.TheVariants.{Absent, Text}
-use Rattle.tk_cli.specs.Client.{Target}
+use Rattle.tk_table.specs.Table.{window, retained}
+use Rattle.tk_client.specs.declared.got.Got.{Got}
+use Rattle.tk_client.specs.declared.got.Got.TheVariants.{Absent, Text}
+use Rattle.tk_client.specs.Client.{Target}
+use Rattle.tk_cli.specs.Bloom.{is_shown}
 use Rattle.tk_cli.specs.Entries.{write_at}
 use Rattle.tk_cli.specs.Report.{lookup, read_over, target_at, got_of}
+use Rattle.tk_cli.specs.Serial.{IsRunOf, book_of}
 
 -- the record is that of number s of a log: the write of a client in a turn in which it sent it
 pub record IsRecordOf (S : Script) (w : BookWords) (log s : ℕ) (r : Record) : Type 0 where
@@ -62,3 +66,20 @@ HonestPassingOver =
     let w = words_of S.shape b in
     let got = got_of S w H c log in
     slice_get got s ≡ Some Absent → IsRightlyPassed S w H c log got s
+
+-- and so in the serial run of whatever input bytes spell
+abbrev pub SerialRunsPassOverHonestly : Type 0
+SerialRunsPassOverHonestly =
+    (bytes : List ℕ) (input : Input) (c log s : ℕ) → IsRunOf bytes input →
+    let S = input.first in
+    let w = words_of S.shape (book_of input) in
+    let H = serial_history S.shape in
+    let got = got_of S w H c log in
+    slice_get got s ≡ Some Absent → IsRightlyPassed S w H c log got s
+
+-- whatever the writes are: if the record of a number is among the latest, the number is shown
+abbrev pub RecordsAreShown : Type 0
+RecordsAreShown =
+    (S : Script) (w : BookWords) (R : List Record) (log s : ℕ) (r : Record) →
+    Contains (window S.shape R) r → IsRecordOf S w log s r →
+    is_shown S.shape R (w.hits log s) ≡ true

@@ -1,5 +1,5 @@
 -- What a run delivers, and the report of it.
-use Rattle.std.specs.Prelude.{ℕ, zero, suc, ◌+◌, ◌==◌, Bool, ◌&&◌, cond, List, [], ◌∷◌, ◌++◌, length, map, filter, flat_map, codes, decimal, slice_index_or, Option, None, option_and_then}
+use Rattle.std.specs.Prelude.{ℕ, zero, suc, ◌+◌, ◌==◌, Bool, cond, List, [], ◌∷◌, ◌++◌, length, map, filter, flat_map, codes, decimal, slice_index_or, Option, option_and_then}
 use Rattle.std.specs.List.{range_with_len, list_any, join_with_byte}
 use Rattle.tk_shape.specs.declared.shape.Shape.{Shape}
 use Rattle.tk_schedule.specs.declared.item.Item.{Item}
@@ -7,30 +7,27 @@ use Rattle.tk_schedule.specs.declared.item.Item.TheVariants.{Client, Publish}
 use Rattle.tk_schedule.specs.declared.history.History.{History}
 use Rattle.tk_script.specs.declared.script.Script.{Script}
 use Rattle.tk_script.specs.declared.role.Role.{Role}
-use Rattle.tk_cli.specs.declared.got.Got.{Got}
-use Rattle.tk_cli.specs.declared.got.Got.TheVariants.{Absent, Text}
+use Rattle.tk_client.specs.declared.got.Got.{Got}
+use Rattle.tk_client.specs.declared.got.Got.TheVariants.{Absent, Text}
 use Rattle.tk_table.specs.Lists.{first_some}
 use Rattle.tk_shape.specs.Lengths.{turn_count}
 use Rattle.tk_schedule.specs.Schedule.{phase_of, tick_of, is_closing, order_at, epoch_at}
 use Rattle.tk_words.specs.Words.{WordBook, BookWords, words_of, opened}
 use Rattle.tk_frames.specs.Order.{Record, before}
+use Rattle.tk_table.specs.Slots.{text_in}
 use Rattle.tk_table.specs.Table.{retained}
 use Rattle.tk_cli.specs.Bloom.{is_shown}
-use Rattle.tk_cli.specs.Client.{Reader, Follow, Target, new_reader, at_epoch, target, after_read}
+use Rattle.tk_client.specs.Readers.{got_in}
+use Rattle.tk_client.specs.Client.{Reader, Follow, Target, new_reader, at_epoch, target, after_read}
 use Rattle.tk_script.specs.Sent.{blank_role, unsent_count}
 use Rattle.tk_cli.specs.Entries.{entries}
 
 -- ---- lookup
 
--- the text that a record gives for a number of a log: its buckets are the pair, in order, and its block opens
-abbrev pub text_in : BookWords → ℕ → ℕ → Record → Option (List ℕ)
-text_in w log s r =
-    cond (r.write.first == (w.pair log s).0 && r.write.second == (w.pair log s).1)
-    (opened w log s r.write.block) None
-
 -- the text of the earliest record that is retained and gives one; none where the number is absent
 unfoldable pub lookup : Shape → BookWords → List Record → ℕ → ℕ → Option (List ℕ)
-lookup shape w R log s = first_some (text_in w log s) (retained shape R)
+lookup shape w R log s =
+    first_some (text_in (w.pair log s) (opened w log s)) (retained shape R)
 
 -- ---- the reads of a run
 
@@ -51,11 +48,16 @@ read_over S w H g c = before (entries S w H) (epoch_at H g c)
 -- the reader's target in a turn, before which the reader is r
 abbrev pub target_for : Script → BookWords → History → ℕ → ℕ → Reader → Option Target
 target_for S w H g c r =
-    target S.shape (λ log s. is_shown S.shape (read_over S w H g c) (w.hits log s)) (at_epoch (epoch_at H g c) r)
+    target S.shape (λ log s. is_shown S.shape (read_over S w H g c) (w.hits log s))
+    (at_epoch (epoch_at H g c) r)
+
+-- what a target's number gives over these writes; nothing where there is no target
+abbrev pub answered : Shape → BookWords → List Record → Option Target → Option (List ℕ)
+answered shape w R t = option_and_then (λ (x : Target). lookup shape w R x.log x.number) t
 
 -- the answer to a read of a target
 abbrev pub answer_for : Script → BookWords → History → ℕ → ℕ → Option Target → Option (List ℕ)
-answer_for S w H g c t = option_and_then (λ (x : Target). lookup S.shape w (read_over S w H g c) x.log x.number) t
+answer_for S w H g c t = answered S.shape w (read_over S w H g c) t
 
 -- the reader after a turn, before which it is r
 abbrev pub reader_step : Script → BookWords → History → ℕ → ℕ → Reader → Reader
@@ -76,14 +78,6 @@ target_at S w H g c = target_for S w H g c (reader_before S w H c g)
 abbrev pub logs : Script → BookWords → History → ℕ → List Follow
 logs S w H c = (reader_before S w H c (turn_count S.shape)).follows
 
-abbrev pub first_got : List Follow → List Got
-first_got [] = []
-first_got (f ∷ fs) = f.got
-
--- what a log gave to one who follows these; nothing where it isn't among them
-abbrev pub got_in : List Follow → ℕ → List Got
-got_in follows log = first_got (filter (λ f. f.log == log) follows)
-
 -- what a log gave to a client
 abbrev pub got_of : Script → BookWords → History → ℕ → ℕ → List Got
 got_of S w H c log = got_in (logs S w H c) log
@@ -101,9 +95,11 @@ item_field Publish = codes "mark"
 -- a turn's order, and where it closes a phase its epochs
 abbrev pub turn_lines : Shape → History → ℕ → List ℕ
 turn_lines shape H g =
-    line (codes "order" ∷ decimal (phase_of shape g) ∷ decimal (tick_of shape g) ∷ map item_field (order_at H g))
+    line (codes "order" ∷ decimal (phase_of shape g) ∷ decimal (tick_of shape g)
+    ∷ map item_field (order_at H g))
     ++ cond (is_closing shape g)
-    (line (codes "reads" ∷ decimal (phase_of shape g) ∷ decimal (tick_of shape g) ∷ map (λ c. decimal (epoch_at H g c)) (range_with_len 0 shape.clients)))
+    (line (codes "reads" ∷ decimal (phase_of shape g) ∷ decimal (tick_of shape g)
+    ∷ map (λ c. decimal (epoch_at H g c)) (range_with_len 0 shape.clients)))
     []
 
 unfoldable pub history_lines : Shape → History → List ℕ
@@ -120,17 +116,21 @@ got_lines s (x ∷ xs) = got_line s x ++ got_lines (s + 1) xs
 
 -- what a log gave to a follower
 abbrev pub log_lines : ℕ → ℕ → List Got → List ℕ
-log_lines log c got = line (codes "log" ∷ decimal log ∷ decimal c ∷ decimal (length got) ∷ []) ++ got_lines 0 got
+log_lines log c got =
+    line (codes "log" ∷ decimal log ∷ decimal c ∷ decimal (length got) ∷ []) ++ got_lines 0 got
 
 abbrev pub unsent_line : ℕ → ℕ → List ℕ
 unsent_line c count = line (codes "unsent" ∷ decimal c ∷ decimal count ∷ [])
 
--- the report of a history: its turns, what each log gave to each follower, and how many texts each client has left
+-- the report of a history: its turns, what each log gave to each follower, and how many texts each
+-- client has left
 unfoldable pub report_of : Script → BookWords → History → List ℕ
 report_of S w H =
     line (codes "report" ∷ [])
     ++ history_lines S.shape H
-    ++ flat_map (λ log. flat_map (λ c. log_lines log c (got_of S w H c log)) (role_at S log).followers) (range_with_len 0 S.shape.logs)
+    ++ flat_map
+    (λ log. flat_map (λ c. log_lines log c (got_of S w H c log)) (role_at S log).followers)
+    (range_with_len 0 S.shape.logs)
     ++ flat_map (λ c. unsent_line c (unsent_count S c)) (range_with_len 0 S.shape.clients)
     ++ line (codes "end" ∷ [])
 

@@ -1,18 +1,11 @@
--- What can be sent and stored in a run of a shape.
-use Rattle.std.specs.Prelude.{ℕ, ◌+◌, Bool, true, ◌&&◌, ◌==◌, nat_lt, nat_le, length}
+-- What an order's entries have, so that a table and its notices can take them.
+use Rattle.std.specs.Prelude.{◌≡◌, ◌<◌, ℕ, Bool, true, ◌==◌, length}
+use Rattle.std.specs.List.{AllByRecursion}
 use Rattle.tk_shape.specs.declared.shape.Shape.{Shape}
-use Rattle.tk_shape.specs.Lengths.{turn_count}
-use Rattle.tk_seal.specs.Texts.{is_allowed}
 use Rattle.tk_frames.specs.declared.entry.Placed.{Placed}
 use Rattle.tk_frames.specs.declared.entry.Entry.{Entry}
 use Rattle.tk_frames.specs.declared.entry.Entry.TheVariants.{Write, Mark}
-use Rattle.tk_cli.specs.declared.outgoing.Outgoing.{Outgoing}
-
--- the log and the number are in range, and the text is allowed and has room in a block
-abbrev pub can_send : Shape → Outgoing → Bool
-can_send shape s =
-    nat_lt s.log shape.logs && nat_lt s.number (turn_count shape) && nat_le (length s.text + 18) shape.block
-    && is_allowed s.text
+use Rattle.tk_frames.specs.Order.{Record}
 
 -- a write has a block of this size
 abbrev pub has_block : ℕ → Entry → Bool
@@ -21,3 +14,8 @@ has_block size (Mark e) = true
 
 abbrev pub placed_has_block : ℕ → Placed → Bool
 placed_has_block size p = has_block size p.entry
+
+-- as many positions as the shape wants, each within its filter
+pub record HasPositions (shape : Shape) (r : Record) : Type 0 where
+  pub counted : length r.write.hits ≡ shape.hits
+  pub within : AllByRecursion (λ h. h < shape.filter_bits) r.write.hits

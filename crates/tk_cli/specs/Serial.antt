@@ -8,7 +8,6 @@ use Rattle.tk_script.specs.declared.keys.Keys.{Keys}
 use Rattle.tk_script.specs.declared.input.RawTape.{RawTape}
 use Rattle.tk_script.specs.declared.input.Input.{Input}
 use Rattle.tk_script.specs.Grammar.{Spells}
-use Rattle.tk_script.specs.Built.{IsBuiltShape}
 use Rattle.tk_words.specs.Words.{WordBook, keyed, drawn}
 use Rattle.tk_cli.specs.Report.{report}
 use Rattle.tk_cli.specs.Exchange.{exchange, bytes_of}
@@ -38,10 +37,9 @@ IsWholeTape shape None = Unit {0}
 IsWholeTape shape (Some tape) =
     (length tape.bytes ≡ tape_len shape) × (tape.got ≡ tape_len shape)
 
--- the bytes spell this input, of which a run is built
+-- the bytes spell this input, with a tape of the wanted length where it is drawn
 pub record IsRunOf (bytes : List ℕ) (input : Input) : Type 0 where
   pub spelled : Spells bytes input
-  pub built : IsBuiltShape input.first.shape
   pub tape : IsWholeTape input.first.shape input.tape
 
 -- the bytes spell an input, the output is the report of its serial run, and the taps gained what
@@ -60,13 +58,11 @@ pub record RunsInto (bytes : List ℕ) (tap tap' : ℕ → Option (List ℕ)) : 
   pub taps : TapsGainFronts input.first.shape.servers (seen_in input) tap tap'
   pub others : TapsKeepBut input.first.shape.servers tap tap'
 
--- the bytes spell a drawn input of a shape that is built, of which the tape has another length than
--- the shape wants
+-- the bytes spell a drawn input, of which the tape has another length than the shape wants
 pub record HasOtherTape (bytes : List ℕ) (want got : ℕ) : Type 0 where
   pub input : Input
   pub tape : RawTape
   pub spelled : Spells bytes input
-  pub built : IsBuiltShape input.first.shape
   pub drawn : input.tape ≡ Some tape
   pub wanted : want ≡ tape_len input.first.shape
   pub gotten : got ≡ tape.got

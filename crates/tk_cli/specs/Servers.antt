@@ -1,13 +1,15 @@
 -- What a server's table stands for, what it shows, and what it saw.
-use Rattle.std.specs.Prelude.{◌≡◌, ℕ, ◌+◌, ◌-◌, ◌<◌, List, [], ◌∷◌, ◌++◌, length, slice_index_or}
+use Rattle.std.specs.Prelude.{◌≡◌, ℕ, ◌+◌, ◌-◌, ◌<◌, List, [], ◌∷◌, ◌++◌, length, map, slice_index_or}
 use Rattle.std.specs.Prelude.{IsTrue}
-use Rattle.std.specs.List.{list_all}
+use Rattle.std.specs.List.{list_all, AllByRecursion}
 use Rattle.tk_shape.specs.declared.shape.Shape.{Shape}
 use Rattle.tk_shape.specs.Lengths.{width}
 use Rattle.tk_frames.specs.declared.entry.Entry.{Entry}
 use Rattle.tk_frames.specs.declared.entry.Entry.TheVariants.{Write, Mark}
 use Rattle.tk_frames.specs.declared.entry.Placed.{Placed}
 use Rattle.tk_frames.specs.declared.read_frame.ReadFrame.{ReadFrame}
+use Rattle.tk_frames.specs.Ranges.{IsRead}
+use Rattle.tk_frames.specs.Spelling.{read_frame}
 use Rattle.tk_frames.specs.Order.{Record, records}
 use Rattle.tk_table.specs.Ordered.{AreOrdered}
 use Rattle.tk_table.specs.Table.{layout, blocks_of}
@@ -89,6 +91,11 @@ blank_read = record { client = 0; turn = 0; epoch = 0; first = []; second = [] }
 
 abbrev pub read_for : List ReadFrame → ℕ → ReadFrame
 read_for reads j = slice_index_or reads (j - 1) blank_read
+
+-- these are the frames of reads that are in range
+pub record AreReads (shape : Shape) (reads : List ReadFrame) (frames : List (List ℕ)) : Type 0 where
+  pub in_range : AllByRecursion (IsRead shape) reads
+  pub spelled : frames ≡ map read_frame reads
 
 -- what server j sees of reads: its own, and its reply
 abbrev pub seen_with : Shape → List Record → (ℕ → List ℕ) → List ReadFrame → ℕ → List ℕ

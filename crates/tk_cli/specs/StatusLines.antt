@@ -45,7 +45,6 @@ abbrev pub cause_text : Cause → List ℕ
 cause_text cause.Early = codes "early"
 cause_text cause.Form = codes "form"
 cause_text (cause.Shape f value) = codes "shape " ++ field_name f ++ spaced value
-cause_text cause.NotBuilt = codes "later"
 cause_text (cause.Number value) = codes "number" ++ spaced value
 cause_text cause.Order = codes "order"
 cause_text (cause.Room room) = codes "room" ++ spaced room

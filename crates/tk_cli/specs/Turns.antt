@@ -6,16 +6,30 @@ use Rattle.tk_script.specs.declared.script.Script.{Script}
 use Rattle.tk_words.specs.Words.{WordBook, BookWords, words_of}
 use Rattle.tk_frames.specs.declared.entry.Placed.{Placed}
 use Rattle.tk_frames.specs.Order.{Record, records}
+use Rattle.tk_table.specs.Ordered.{AreOrdered}
 use Rattle.tk_table.specs.Laws.{IsStorable}
+use Rattle.tk_bloom.specs.declared.filter.Filter.{Filter}
+use Rattle.tk_bloom.specs.Filters.{all_marked}
+use Rattle.tk_cli.specs.Bloom.{is_shown}
 use Rattle.tk_cli.specs.declared.server.Server.{Server}
 use Rattle.tk_cli.specs.Entries.{write_at, entries_before, entries_at}
 use Rattle.tk_cli.specs.Exchange.{turn_frames, frames_before, read_answered, bytes_of}
 use Rattle.tk_cli.specs.Report.{read_over}
+use Rattle.tk_cli.specs.Sendable.{HasPositions}
 use Rattle.tk_cli.specs.Servers.{AreServers, MayFollow, shown_after}
 
 -- the clients' reads of a turn are all over these writes
 abbrev pub AreReadOver : Script → BookWords → History → ℕ → List Record → Type 0
 AreReadOver S w H g shown = (c : ℕ) → c < S.shape.clients → read_over S w H g c ≡ shown
+
+-- what the servers show can be read in a turn: its reads are all over these writes, which can be
+-- read back from a table, and the filter shows what they show
+pub record IsReadable (S : Script) (w : BookWords) (H : History) (g : ℕ) (shown : List Record)
+    (filter : Filter) : Type 0 where
+  pub over : AreReadOver S w H g shown
+  pub ordered : AreOrdered S.shape shown
+  pub storable : AllByRecursion (IsStorable S.shape) shown
+  pub shows : (hits : List ℕ) → all_marked filter hits ≡ is_shown S.shape shown hits
 
 -- what server j saw, and then the reads of the first count clients in a turn and its replies
 abbrev pub seen_of_reads :
@@ -50,4 +64,5 @@ pub record IsTurnOf (S : Script) (w : BookWords) (H : History) (g : ℕ) (placed
   pub entries : placed ≡ entries_at (write_at S w) H g
   pub may : MayFollow S.shape (records (placed_before S w H g)) placed
   pub storable : AllByRecursion (IsStorable S.shape) (records (placed_before S w H g))
+  pub positions : AllByRecursion (HasPositions S.shape) (records placed)
   pub over : AreReadOver S w H g (shown_after [] [] (placed_before S w H g))

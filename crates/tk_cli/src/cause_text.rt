@@ -18,7 +18,6 @@ pub(crate) fn push_cause(alloc: Global, cause: &Cause, out: &mut Vec<u8>) -> Res
             push_name(*field, out)?;
             push_field(alloc, out, *value)?;
         }
-        Cause::NotBuilt => out.extend_from_slice(b"later")?,
         Cause::Number { value } => {
             out.extend_from_slice(b"number")?;
             push_field(alloc, out, u64::from(*value))?;

@@ -1,22 +1,26 @@
-ghost use Rattle.std.specs.Prelude.{◌≡◌, ◌<◌, ◌+◌, ◌++◌, ◌∷◌, [], ℕ, length, IsTrue, IfOk, OnOk, slice_index_or};
+ghost use Rattle.std.specs.Prelude.{◌≡◌, ◌<◌, ◌+◌, ◌++◌, ◌∷◌, [], ℕ, length, IsTrue, IfOk, OnOk};
+ghost use Rattle.std.specs.Prelude.{slice_index_or, slice_set};
+ghost use Rattle.std.specs.Option.{ForSome};
 ghost use Rattle.tk_shape.specs.Lengths.{turn_count};
+ghost use Rattle.tk_schedule.specs.declared.item.Item.TheVariants.{Client as Writes, Publish};
 ghost use Rattle.tk_schedule.specs.Schedule.{IsLegal, is_within};
 ghost use Rattle.tk_words.specs.Words.{words_of};
-ghost use Rattle.tk_cli.specs.declared.outbox.Outbox.{Outbox};
+ghost use Rattle.tk_frames.specs.Ranges.{IsWrite};
+ghost use Rattle.tk_client.specs.State.{ClientState};
+ghost use Rattle.tk_client.specs.Writing.{first_waiting, after_write};
+ghost use Rattle.tk_client.specs.Writes.{write_of};
+ghost use Rattle.tk_cli.specs.Clients.{AreClients, client_said, client_wrote};
 ghost use Rattle.tk_cli.specs.Entries.{entries_before, placed_after, write_at};
 ghost use Rattle.tk_cli.specs.Orders.{IsOrder};
-ghost use Rattle.tk_cli.specs.Outboxes.{AreOutboxes};
 
 use crate::order::Order;
 use crate::ordering::{mark, put};
-use crate::outbox::Outbox;
-use crate::outboxes::due;
-use crate::writes::{dummy_write, text_write};
 use std::alloc::Global;
-use tk_frames::WriteFrame;
+use tk_client::Client;
+use tk_frames::{WriteFrame, decode_write};
 use tk_schedule::{History, Item};
 use tk_script::Script;
-use tk_shape::Memory;
+use tk_shape::{Memory, Shape};
 use tk_words::Draws;
 
 /// Appends a turn's entries: what each client writes, in the history's order, and the mark where the turn closes a
@@ -26,26 +30,31 @@ pub(crate) fn write_turn<D: Draws>(
     script: &Script,
     draws: &D,
     history: &History,
-    outboxes: &[Outbox],
     turn: u32,
+    clients: &mut [Client],
     order: &mut Order,
 ) -> Result<(), Memory>
     requires one_shape { D.shape draws.now ≡ script.now.shape }
     requires legal { IsLegal script.now.shape history.now }
     requires turn_in { turn < turn_count script.now.shape }
-    requires outboxes { AreOutboxes script.now outboxes.now }
     requires order { IsOrder order.old }
     requires shape { order.old.shape ≡ script.now.shape }
     requires before { let words = words_of script.now.shape (D.book draws.now) in
         order.old.placed.items ≡ entries_before (write_at script.now words) history.now turn }
+    requires clients { let words = words_of script.now.shape (D.book draws.now) in
+        AreClients script.now.shape.clients (client_said script.now words history.now turn)
+        clients.old }
     ensures order { OnOk result (IsOrder order.new) }
     ensures shape { order.new.shape ≡ script.now.shape }
     ensures entries { let words = words_of script.now.shape (D.book draws.now) in
         OnOk result (order.new.placed.items
         ≡ entries_before (write_at script.now words) history.now (turn + 1)) }
+    ensures clients { let words = words_of script.now.shape (D.book draws.now) in
+        OnOk result (AreClients script.now.shape.clients
+        (client_wrote script.now words history.now turn) clients.new) }
 {
     'items: for item in history.order(turn) {
-        let Ok(()) = write_item(alloc, script, draws, outboxes, turn, item, order) else {
+        let Ok(()) = write_item(alloc, script, draws, history, turn, item, clients, order) else {
             return Err(Memory);
         };
     }
@@ -57,55 +66,67 @@ fn write_item<D: Draws>(
     alloc: Global,
     script: &Script,
     draws: &D,
-    outboxes: &[Outbox],
+    history: &History,
     turn: u32,
     item: &Item,
+    clients: &mut [Client],
     order: &mut Order,
 ) -> Result<(), Memory>
     requires one_shape { D.shape draws.now ≡ script.now.shape }
     requires turn_in { turn < turn_count script.now.shape }
-    requires outboxes { AreOutboxes script.now outboxes.now }
     requires item { IsTrue (is_within script.now.shape.clients item.now) }
     requires order { IsOrder order.old }
     requires shape { order.old.shape ≡ script.now.shape }
+    requires counted { length clients.old ≡ script.now.shape.clients }
+    requires due { let words = words_of script.now.shape (D.book draws.now) in
+        (c : ℕ) (d : ClientState) → item.now ≡ Writes c
+        → slice_index_or clients.old c d ≡ client_said script.now words history.now turn c }
     ensures order { OnOk result (IsOrder order.new) }
     ensures shape { order.new.shape ≡ script.now.shape }
     ensures placed { let words = words_of script.now.shape (D.book draws.now) in
         let before = order.old.placed.items in
         OnOk result (order.new.placed.items
         ≡ before ++ placed_after (write_at script.now words turn) before (item.now ∷ [])) }
+    ensures wrote { let words = words_of script.now.shape (D.book draws.now) in
+        (c : ℕ) → item.now ≡ Writes c → OnOk result (clients.new
+        ≡ slice_set clients.old c (client_wrote script.now words history.now turn c)) }
+    ensures marked { item.now ≡ Publish → OnOk result (clients.new ≡ clients.old) }
 {
     match item {
         Item::Client(client) => {
-            let write = write_of(alloc, script, draws, outboxes, *client, turn)?;
-            put(order, write)
+            let client = &mut clients[*client as usize];
+            let frame = frame_of(alloc, &script.shape, draws, turn, client)?;
+            put(order, frame)
         }
         Item::Publish => mark(order),
     }
 }
 
-/// What a client writes in a turn: the text that is due, or a fresh write that nobody can tell from one.
-fn write_of<D: Draws>(
+/// What a client writes in a turn, as its frame tells.
+fn frame_of<D: Draws>(
     alloc: Global,
-    script: &Script,
+    shape: &Shape,
     draws: &D,
-    outboxes: &[Outbox],
-    client: u32,
     turn: u32,
+    client: &mut Client,
 ) -> Result<WriteFrame, Memory>
-    requires one_shape { D.shape draws.now ≡ script.now.shape }
-    requires client_in { client < script.now.shape.clients }
-    requires turn_in { turn < turn_count script.now.shape }
-    requires outboxes { AreOutboxes script.now outboxes.now }
-    ensures block { IfOk result (λ w. length w.block ≡ script.now.shape.block) }
-    ensures first_in { IfOk result (λ w. w.first < script.now.shape.buckets) }
-    ensures second_in { IfOk result (λ w. w.second < script.now.shape.buckets) }
-    ensures write { let words = words_of script.now.shape (D.book draws.now) in
-        IfOk result (λ w. w ≡ write_at script.now words turn client) }
+    requires same { client.old.shape ≡ shape.now }
+    requires one_shape { D.shape draws.now ≡ shape.now }
+    requires turn_in { turn < turn_count shape.now }
+    requires number_in { ForSome (first_waiting client.old.writing)
+        (λ y. y.number < turn_count shape.now) }
+    ensures in_range { IfOk result (IsWrite shape.now) }
+    ensures write { let words = words_of shape.now (D.book draws.now) in
+        let waiting = first_waiting client.old.writing in
+        IfOk result (λ w. w ≡ write_of words turn client.old.number waiting) }
+    ensures client { OnOk result (client.new
+        ≡ record client.old { writing = after_write client.old.writing }) }
 {
-    let outbox = &outboxes[client as usize];
-    match due(outbox, turn) {
-        Some(outgoing) => text_write(alloc, &script.shape, draws, client, outgoing),
-        None => dummy_write(alloc, &script.shape, draws, client, turn),
-    }
+    let mut bytes = Vec::new(alloc);
+    client.write_frame(alloc, draws, turn, &mut bytes)?;
+    // what a client sends is a write frame, so that only memory may be wanting
+    let Ok(frame) = decode_write(alloc, shape, bytes.as_slice()) else {
+        return Err(Memory);
+    };
+    Ok(frame)
 }

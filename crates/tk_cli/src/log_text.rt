@@ -3,12 +3,11 @@ ghost use Rattle.std.specs.List.{range_with_len};
 ghost use Rattle.tk_schedule.specs.declared.history.History.{History};
 ghost use Rattle.tk_words.specs.Words.{BookWords};
 ghost use Rattle.tk_cli.specs.Report.{line, got_line, got_lines, got_of, log_lines, role_at};
-ghost use Rattle.tk_cli.specs.Readers.{AreReaders};
+ghost use Rattle.tk_cli.specs.Clients.{AreClientsAtEnd};
 
-use crate::got::Got;
 use crate::printing::{push_line, push_numbers};
-use crate::reader::Reader;
 use std::alloc::Global;
+use tk_client::{Client, Got};
 use tk_script::Script;
 use tk_shape::Memory;
 
@@ -16,17 +15,17 @@ use tk_shape::Memory;
 pub(crate) fn push_logs(
     alloc: Global,
     script: &Script,
-    readers: &[Reader],
+    clients: &[Client],
     out: &mut Vec<u8>,
 ) -> Result<(), Memory>
-    requires readers { length readers.now ≡ script.now.shape.clients }
-    ensures { (w : BookWords) (H : History) → AreReaders script.now w H readers.now
+    requires counted { length clients.now ≡ script.now.shape.clients }
+    ensures { (w : BookWords) (H : History) → AreClientsAtEnd script.now w H clients.now
         → OnOk result (out.new.items ≡ out.old.items
         ++ flat_map (λ log. flat_map (λ c. log_lines log c (got_of script.now w H c log))
         (role_at script.now log).followers) (range_with_len 0 script.now.shape.logs)) }
 {
     for log in 0..script.shape.logs {
-        push_followers(alloc, script, readers, log, out)?;
+        push_followers(alloc, script, clients, log, out)?;
     }
     Ok(())
 }
@@ -35,21 +34,21 @@ pub(crate) fn push_logs(
 fn push_followers(
     alloc: Global,
     script: &Script,
-    readers: &[Reader],
+    clients: &[Client],
     log: u32,
     out: &mut Vec<u8>,
 ) -> Result<(), Memory>
-    requires readers { length readers.now ≡ script.now.shape.clients }
+    requires counted { length clients.now ≡ script.now.shape.clients }
     requires log_in { log < script.now.shape.logs }
-    ensures { (w : BookWords) (H : History) → AreReaders script.now w H readers.now
+    ensures { (w : BookWords) (H : History) → AreClientsAtEnd script.now w H clients.now
         → OnOk result (out.new.items ≡ out.old.items
         ++ flat_map (λ c. log_lines log c (got_of script.now w H c log))
         (role_at script.now log).followers) }
 {
     let followers = script.role(log).followers.as_slice();
     for client in followers {
-        let reader = &readers[*client as usize];
-        push_log(alloc, log, *client, reader.got(log), out)?;
+        let got = clients[*client as usize].log(log);
+        push_log(alloc, log, *client, got, out)?;
     }
     Ok(())
 }

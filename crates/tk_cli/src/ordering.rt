@@ -1,5 +1,6 @@
 ghost use Rattle.std.specs.Prelude.{◌≡◌, ◌<◌, ◌+◌, ◌++◌, ◌∷◌, [], length, IsTrue, IfOk, OnOk};
 ghost use Rattle.std.specs.List.{list_all};
+ghost use Rattle.tk_frames.specs.Ranges.{IsWrite};
 ghost use Rattle.tk_frames.specs.Order.{records, before};
 ghost use Rattle.tk_frames.specs.declared.entry.Entry.TheVariants.{Write, Mark};
 ghost use Rattle.tk_cli.specs.Sendable.{placed_has_block};
@@ -28,9 +29,7 @@ pub(crate) fn empty_order(alloc: Global, shape: &Shape) -> Result<Order, Memory>
 /// Puts a write behind all entries.
 pub(crate) fn put(order: &mut Order, write: WriteFrame) -> Result<(), Memory>
     requires order { IsOrder order.old }
-    requires block { length write.block ≡ order.old.shape.block }
-    requires first_in { write.first < order.old.shape.buckets }
-    requires second_in { write.second < order.old.shape.buckets }
+    requires in_range { IsWrite order.old.shape write }
     ensures order { OnOk result (IsOrder order.new) }
     ensures shape { order.new.shape ≡ order.old.shape }
     ensures placed { let before = order.old.placed.items in

@@ -5,7 +5,6 @@ ghost use Rattle.tk_cli.specs.Report.{report};
 ghost use Rattle.tk_cli.specs.Exchange.{exchange, bytes_of};
 ghost use Rattle.tk_cli.specs.Tapped.{TapsGain, TapsGainFronts, TapsKeepBut};
 
-use crate::outboxes::outboxes_of;
 use crate::report::push_report;
 use crate::run_error::RunError;
 use crate::turns::take_turns;
@@ -23,7 +22,6 @@ pub(crate) fn serial<D: Draws, T: Taps>(
     taps: &mut T,
 ) -> Result<Vec<u8>, RunError>
     requires one_shape { D.shape draws.now ≡ script.now.shape }
-    requires not_ahead { script.now.shape.ahead ≡ 0 }
     ensures report { let history = serial_history script.now.shape in
         IfOk result (λ out. out.items ≡ report script.now (D.book draws.now) history) }
     ensures ok { let history = serial_history script.now.shape in
@@ -42,17 +40,12 @@ pub(crate) fn serial<D: Draws, T: Taps>(
     let Ok(history) = History::serial(alloc, &script.shape) else {
         return Err(RunError::Memory);
     };
-    let Ok(outboxes) = outboxes_of(alloc, script) else {
-        return Err(RunError::Memory);
-    };
-    let outboxes = outboxes.as_slice();
-    let readers = match take_turns(alloc, script, draws, &history, outboxes, taps) {
-        Ok(readers) => readers,
+    let clients = match take_turns(alloc, script, draws, &history, taps) {
+        Ok(clients) => clients,
         Err(error) => return Err(error),
     };
     let mut out = Vec::new(alloc);
-    let readers = readers.as_slice();
-    let Ok(()) = push_report(alloc, script, &history, readers, outboxes, &mut out) else {
+    let Ok(()) = push_report(alloc, script, &history, clients.as_slice(), &mut out) else {
         return Err(RunError::Memory);
     };
     Ok(out)

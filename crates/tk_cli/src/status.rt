@@ -17,7 +17,7 @@ pub enum Status {
     Memory,
     /// The words are none of the forms.
     Usage,
-    /// The input is refused at this line, for this cause: never for what isn't built.
+    /// The input is refused at this line, for this cause.
     Script { line: u64, cause: Cause },
     /// The source failed.
     Read,
@@ -27,7 +27,7 @@ pub enum Status {
     TooLong,
     /// The tape has another length than the shape wants.
     Tape { want: u64, got: u64 },
-    /// What isn't built yet: with line 0 the form that the words ask for, else that line of the input.
+    /// The form that the words ask for isn't built yet. The line is always 0.
     Later { line: u64 },
 }
 

@@ -1,5 +1,6 @@
 use crate::Status;
-use crate::tests::{LARGER_REPORT, ONE_TEXT, REPORT, run_tapped, source_of};
+use crate::run_tests::LARGER_REPORT;
+use crate::testing::{ONE_TEXT, REPORT, run_tapped, source_of};
 use std::alloc::{AllocError, Global};
 use std::test::Fail;
 use tk_io::{MemSink, MemTaps};

@@ -17,7 +17,7 @@ use std::alloc::Global;
 use std::sync::Wait;
 use std::thread::Threads;
 use tk_io::{Gate, ReadError, Sink, Source, Taps, put_all, read_all};
-use tk_script::{Cause, Input, ScriptError, parse};
+use tk_script::{Input, ScriptError, parse};
 use tk_shape::Bytes;
 
 /// The most bytes of an input.
@@ -51,9 +51,8 @@ pub fn talek<R: Threads + Wait + Sync, S: Source, K: Sink, T: Taps, G: Gate>(
     ensures usage { (result ≡ Status.Usage) ↔ AsksNothing words.now }
     ensures later { (result ≡ Status.Later 0) ↔ AsksLater words.now }
     ensures script { (line : ℕ) (cause : Cause) → result ≡ Status.Script line cause →
-        RefusesLine (S.left source.old) (S.left source.new) line cause × (cause ≢ Cause.NotBuilt) }
-    ensures not_built { (line : ℕ) → result ≡ Status.Later line → line ≢ 0 →
-        RefusesLine (S.left source.old) (S.left source.new) line Cause.NotBuilt }
+        RefusesLine (S.left source.old) (S.left source.new) line cause }
+    ensures no_line { (line : ℕ) → result ≡ Status.Later line → line ≡ 0 }
     ensures tape { (want got : ℕ) → result ≡ Status.Tape want got →
         RefusesTape (S.left source.old) (S.left source.new) want got }
     ensures unread { AsksNothing words.now ⊎ AsksLater words.now ⊎ AsksSomeHandle words.now →
@@ -64,7 +63,8 @@ pub fn talek<R: Threads + Wait + Sync, S: Source, K: Sink, T: Taps, G: Gate>(
     ensures taken { let too_long = result ≡ Status.TooLong in (taken : List ℕ)
         × TakesUpTo INPUT_LIMIT (S.left source.old) (S.left source.new) too_long taken }
     ensures source_faults { S.faults source.old ≤ S.faults source.new }
-    ensures quiet { result ≢ Status.Done → result ≢ Status.Write → K.held sink.new ≡ K.held sink.old }
+    ensures quiet { result ≢ Status.Done → result ≢ Status.Write
+        → K.held sink.new ≡ K.held sink.old }
     ensures quiet_taps { result ≢ Status.Done → result ≢ Status.Write → result ≢ Status.Memory
         → TapsKeep (T.tap taps.old) (T.tap taps.new) }
     ensures sink_faults { K.faults sink.old ≤ K.faults sink.new }
@@ -97,18 +97,17 @@ fn run_serial<S: Source, K: Sink, T: Taps>(
         TapsFronts (S.left source.old) (S.left source.new) (T.tap taps.old) (T.tap taps.new)
         ⊎ TapsKeep (T.tap taps.old) (T.tap taps.new) }
     ensures usage { result ≢ Status.Usage }
-    ensures later { result ≢ Status.Later 0 }
+    ensures later { (line : ℕ) → result ≢ Status.Later line }
     ensures script { (line : ℕ) (cause : Cause) → result ≡ Status.Script line cause →
-        RefusesLine (S.left source.old) (S.left source.new) line cause × (cause ≢ Cause.NotBuilt) }
-    ensures not_built { (line : ℕ) → result ≡ Status.Later line →
-        RefusesLine (S.left source.old) (S.left source.new) line Cause.NotBuilt }
+        RefusesLine (S.left source.old) (S.left source.new) line cause }
     ensures tape { (want got : ℕ) → result ≡ Status.Tape want got →
         RefusesTape (S.left source.old) (S.left source.new) want got }
     ensures read { result ≡ Status.Read → Rose (S.faults source.old) (S.faults source.new) }
     ensures taken { let too_long = result ≡ Status.TooLong in (taken : List ℕ)
         × TakesUpTo INPUT_LIMIT (S.left source.old) (S.left source.new) too_long taken }
     ensures source_faults { S.faults source.old ≤ S.faults source.new }
-    ensures quiet { result ≢ Status.Done → result ≢ Status.Write → K.held sink.new ≡ K.held sink.old }
+    ensures quiet { result ≢ Status.Done → result ≢ Status.Write
+        → K.held sink.new ≡ K.held sink.old }
     ensures quiet_taps { result ≢ Status.Done → result ≢ Status.Write → result ≢ Status.Memory
         → TapsKeep (T.tap taps.old) (T.tap taps.new) }
     ensures sink_faults { K.faults sink.old ≤ K.faults sink.new }
@@ -173,10 +172,6 @@ fn status_of_script(error: ScriptError) -> Status
     ensures { result ≡ script_status error }
 {
     match error {
-        ScriptError::Line {
-            line,
-            cause: Cause::NotBuilt,
-        } => Status::Later { line },
         ScriptError::Line { line, cause } => Status::Script { line, cause },
         ScriptError::Memory => Status::Memory,
     }

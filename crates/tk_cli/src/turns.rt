@@ -2,26 +2,29 @@ ghost use Rattle.std.specs.Prelude.{◌≡◌, ◌+◌, ◌<◌, ◌≤◌, [], 
 ghost use Rattle.tk_io.specs.Content.{Rose};
 ghost use Rattle.tk_shape.specs.Lengths.{turn_count};
 ghost use Rattle.tk_schedule.specs.Schedule.{IsLegal, serial_history};
-ghost use Rattle.tk_words.specs.Words.{words_of};
+ghost use Rattle.tk_schedule.specs.declared.history.History.{History};
+ghost use Rattle.tk_words.specs.Words.{WordBook, words_of};
+ghost use Rattle.tk_cli.specs.Clients.{AreClients, client_before, client_wrote};
 ghost use Rattle.tk_cli.specs.Exchange.{exchange, bytes_of};
-ghost use Rattle.tk_cli.specs.Orders.{IsOrder};
-ghost use Rattle.tk_cli.specs.Outboxes.{AreOutboxes};
-ghost use Rattle.tk_cli.specs.Readers.{AreReaders, AreReadersBefore};
-ghost use Rattle.tk_cli.specs.Servers.{AreServers, nothing_seen};
+ghost use Rattle.tk_cli.specs.Runs.{IsRunBefore, AreNoticesBefore};
+ghost use Rattle.tk_cli.specs.Servers.{nothing_seen};
 ghost use Rattle.tk_cli.specs.Tapped.{TapsGain, TapsGainFronts, TapsKeepBut};
-ghost use Rattle.tk_cli.specs.Turns.{AreServersBefore, IsTurnOf, placed_before, turn_seen};
+ghost use Rattle.tk_cli.specs.Turns.{AreServersBefore, IsTurnOf, turn_seen};
 
+use crate::clients::open_clients;
 use crate::entries::write_turn;
+use crate::notices::Notices;
 use crate::order::Order;
 use crate::ordering::empty_order;
-use crate::outbox::Outbox;
-use crate::reader::Reader;
-use crate::reading::{new_readers, read_turn};
+use crate::reading::read_turn;
+use crate::run::Run;
 use crate::run_error::RunError;
+use crate::saying::say_turn;
 use crate::server::Server;
 use crate::servers::{apply_all, open_servers, see_all};
 use crate::tapping::give_all;
 use std::alloc::Global;
+use tk_client::Client;
 use tk_frames::Placed;
 use tk_io::Taps;
 use tk_schedule::History;
@@ -29,23 +32,20 @@ use tk_script::Script;
 use tk_shape::Memory;
 use tk_words::Draws;
 
-/// Each client as a reader at the end of the run, turn after turn. What each server sees goes to its tap at the end of
-/// each turn.
+/// The clients at the end of a run, turn after turn. What each server sees goes to its tap at the end of each turn.
 pub(crate) fn take_turns<D: Draws, T: Taps>(
     alloc: Global,
     script: &Script,
     draws: &D,
     history: &History,
-    outboxes: &[Outbox],
     taps: &mut T,
-) -> Result<Vec<Reader>, RunError>
+) -> Result<Vec<Client>, RunError>
     requires one_shape { D.shape draws.now ≡ script.now.shape }
-    requires not_ahead { script.now.shape.ahead ≡ 0 }
     requires legal { IsLegal script.now.shape history.now }
     requires serial { history.now ≡ serial_history script.now.shape }
-    requires outboxes { AreOutboxes script.now outboxes.now }
-    ensures readers { let words = words_of script.now.shape (D.book draws.now) in
-        IfOk result (λ r. AreReaders script.now words history.now r.items) }
+    ensures clients { let words = words_of script.now.shape (D.book draws.now) in
+        IfOk result (λ clients. AreClients script.now.shape.clients
+        (client_before script.now words history.now (turn_count script.now.shape)) clients.items) }
     ensures ok { OnOk result (TapsGain script.now.shape.servers
         (λ j. bytes_of (exchange script.now (D.book draws.now) history.now j))
         (T.tap taps.old) (T.tap taps.new)) }
@@ -57,30 +57,27 @@ pub(crate) fn take_turns<D: Draws, T: Taps>(
         → Rose (T.faults taps.old) (T.faults taps.new)) }
     ensures counts { T.faults taps.old ≤ T.faults taps.new }
 {
-    let Ok(mut order) = empty_order(alloc, &script.shape) else {
+    let Ok(mut run) = open_run(alloc, script) else {
         return Err(RunError::Memory);
     };
-    let Ok(mut servers) = open_servers(alloc, &script.shape) else {
-        return Err(RunError::Memory);
-    };
-    let Ok(mut readers) = new_readers(alloc, script) else {
-        return Err(RunError::Memory);
-    };
-    let taken = take_all_turns(
-        alloc,
-        script,
-        draws,
-        history,
-        outboxes,
-        &mut order,
-        servers.as_mut_slice(),
-        readers.as_mut_slice(),
-        taps,
-    );
-    match taken {
-        Ok(()) => Ok(readers),
+    match take_all_turns(alloc, script, draws, history, &mut run, taps) {
+        Ok(()) => Ok(run.clients),
         Err(error) => Err(error),
     }
+}
+
+/// A run before its first turn.
+fn open_run(alloc: Global, script: &Script) -> Result<Run, Memory>
+    ensures { (b : WordBook) (H : History)
+        → IfOk result (IsRunBefore script.now b H 0 nothing_seen) }
+{
+    Ok(Run {
+        said: 0,
+        clients: open_clients(alloc, script)?,
+        order: empty_order(alloc, &script.shape)?,
+        servers: open_servers(alloc, &script.shape)?,
+        notices: Notices::open(alloc, &script.shape)?,
+    })
 }
 
 /// All turns of a run, from the first.
@@ -89,25 +86,15 @@ fn take_all_turns<D: Draws, T: Taps>(
     script: &Script,
     draws: &D,
     history: &History,
-    outboxes: &[Outbox],
-    order: &mut Order,
-    servers: &mut [Server],
-    readers: &mut [Reader],
+    run: &mut Run,
     taps: &mut T,
 ) -> Result<(), RunError>
     requires one_shape { D.shape draws.now ≡ script.now.shape }
-    requires not_ahead { script.now.shape.ahead ≡ 0 }
     requires legal { IsLegal script.now.shape history.now }
     requires serial { history.now ≡ serial_history script.now.shape }
-    requires outboxes { AreOutboxes script.now outboxes.now }
-    requires order { IsOrder order.old }
-    requires shape { order.old.shape ≡ script.now.shape }
-    requires empty { order.old.placed.items ≡ [] }
-    requires servers { AreServers script.now.shape [] [] nothing_seen servers.old }
-    requires readers { let words = words_of script.now.shape (D.book draws.now) in
-        AreReadersBefore script.now words history.now 0 readers.old }
-    ensures readers { let words = words_of script.now.shape (D.book draws.now) in
-        OnOk result (AreReaders script.now words history.now readers.new) }
+    requires run { IsRunBefore script.now (D.book draws.now) history.now 0 nothing_seen run.old }
+    ensures run { let end = turn_count script.now.shape in OnOk result
+        (IsRunBefore script.now (D.book draws.now) history.now end nothing_seen run.new) }
     ensures ok { OnOk result (TapsGain script.now.shape.servers
         (λ j. bytes_of (exchange script.now (D.book draws.now) history.now j))
         (T.tap taps.old) (T.tap taps.new)) }
@@ -120,10 +107,7 @@ fn take_all_turns<D: Draws, T: Taps>(
     ensures counts { T.faults taps.old ≤ T.faults taps.new }
 {
     'turns: for turn in 0..script.shape.turns() {
-        let taken = take_turn(
-            alloc, script, draws, history, outboxes, turn, order, servers, readers, taps,
-        );
-        match taken {
+        match take_turn(alloc, script, draws, history, turn, run, taps) {
             Ok(()) => {}
             Err(error) => return Err(error),
         }
@@ -137,37 +121,17 @@ fn take_turn<D: Draws, T: Taps>(
     script: &Script,
     draws: &D,
     history: &History,
-    outboxes: &[Outbox],
     turn: u32,
-    order: &mut Order,
-    servers: &mut [Server],
-    readers: &mut [Reader],
+    run: &mut Run,
     taps: &mut T,
 ) -> Result<(), RunError>
     requires one_shape { D.shape draws.now ≡ script.now.shape }
-    requires not_ahead { script.now.shape.ahead ≡ 0 }
     requires legal { IsLegal script.now.shape history.now }
     requires serial { history.now ≡ serial_history script.now.shape }
-    requires outboxes { AreOutboxes script.now outboxes.now }
     requires turn_in { turn < turn_count script.now.shape }
-    requires order { IsOrder order.old }
-    requires shape { order.old.shape ≡ script.now.shape }
-    requires before { let words = words_of script.now.shape (D.book draws.now) in
-        order.old.placed.items ≡ placed_before script.now words history.now turn }
-    requires servers { let words = words_of script.now.shape (D.book draws.now) in
-        AreServersBefore script.now words history.now turn nothing_seen servers.old }
-    requires readers { let words = words_of script.now.shape (D.book draws.now) in
-        AreReadersBefore script.now words history.now turn readers.old }
-    ensures order { OnOk result (IsOrder order.new) }
-    ensures shape { OnOk result (order.new.shape ≡ script.now.shape) }
-    ensures before { let words = words_of script.now.shape (D.book draws.now) in
-        OnOk result
-        (order.new.placed.items ≡ placed_before script.now words history.now (turn + 1)) }
-    ensures servers { let words = words_of script.now.shape (D.book draws.now) in
-        OnOk result (AreServersBefore script.now words history.now (turn + 1) nothing_seen
-        servers.new) }
-    ensures readers { let words = words_of script.now.shape (D.book draws.now) in
-        OnOk result (AreReadersBefore script.now words history.now (turn + 1) readers.new) }
+    requires run { IsRunBefore script.now (D.book draws.now) history.now turn nothing_seen run.old }
+    ensures run { OnOk result (IsRunBefore script.now (D.book draws.now) history.now (turn + 1)
+        nothing_seen run.new) }
     ensures ok { OnOk result (TapsGain script.now.shape.servers
         (turn_seen script.now (D.book draws.now) history.now turn)
         (T.tap taps.old) (T.tap taps.new)) }
@@ -179,61 +143,51 @@ fn take_turn<D: Draws, T: Taps>(
         → Rose (T.faults taps.old) (T.faults taps.new)) }
     ensures counts { T.faults taps.old ≤ T.faults taps.new }
 {
-    let Ok(()) = meet(
-        alloc, script, draws, history, outboxes, turn, order, servers, readers,
-    ) else {
+    let Ok(()) = meet(alloc, script, draws, history, turn, run) else {
         return Err(RunError::Memory);
     };
-    match give_all(servers, taps) {
+    match give_all(run.servers.as_mut_slice(), taps) {
         Ok(()) => Ok(()),
         Err(_) => Err(RunError::Taps),
     }
 }
 
-/// What clients and servers do in a turn: each client writes, and then the servers are asked.
+/// What clients and servers do in a turn: texts are said, each client writes, and then the servers are asked.
 fn meet<D: Draws>(
     alloc: Global,
     script: &Script,
     draws: &D,
     history: &History,
-    outboxes: &[Outbox],
     turn: u32,
-    order: &mut Order,
-    servers: &mut [Server],
-    readers: &mut [Reader],
+    run: &mut Run,
 ) -> Result<(), Memory>
     requires one_shape { D.shape draws.now ≡ script.now.shape }
-    requires not_ahead { script.now.shape.ahead ≡ 0 }
     requires legal { IsLegal script.now.shape history.now }
     requires serial { history.now ≡ serial_history script.now.shape }
-    requires outboxes { AreOutboxes script.now outboxes.now }
     requires turn_in { turn < turn_count script.now.shape }
-    requires order { IsOrder order.old }
-    requires shape { order.old.shape ≡ script.now.shape }
-    requires before { let words = words_of script.now.shape (D.book draws.now) in
-        order.old.placed.items ≡ placed_before script.now words history.now turn }
-    requires servers { let words = words_of script.now.shape (D.book draws.now) in
-        AreServersBefore script.now words history.now turn nothing_seen servers.old }
-    requires readers { let words = words_of script.now.shape (D.book draws.now) in
-        AreReadersBefore script.now words history.now turn readers.old }
-    ensures order { OnOk result (IsOrder order.new) }
-    ensures shape { OnOk result (order.new.shape ≡ script.now.shape) }
-    ensures before { let words = words_of script.now.shape (D.book draws.now) in
+    requires run { IsRunBefore script.now (D.book draws.now) history.now turn nothing_seen run.old }
+    ensures run { let seen = turn_seen script.now (D.book draws.now) history.now turn in
         OnOk result
-        (order.new.placed.items ≡ placed_before script.now words history.now (turn + 1)) }
-    ensures servers { let words = words_of script.now.shape (D.book draws.now) in
-        let seen = turn_seen script.now (D.book draws.now) history.now turn in
-        OnOk result
-        (AreServersBefore script.now words history.now (turn + 1) seen servers.new) }
-    ensures readers { let words = words_of script.now.shape (D.book draws.now) in
-        OnOk result (AreReadersBefore script.now words history.now (turn + 1) readers.new) }
+        (IsRunBefore script.now (D.book draws.now) history.now (turn + 1) seen run.new) }
 {
-    let start = order.placed.len();
-    write_turn(alloc, script, draws, history, outboxes, turn, order)?;
-    let placed = entries_from(order, start);
+    run.said = say_turn(alloc, script, turn, run.said, run.clients.as_mut_slice())?;
+    let start = run.order.placed.len();
+    let clients = run.clients.as_mut_slice();
+    write_turn(alloc, script, draws, history, turn, clients, &mut run.order)?;
+    let placed = entries_from(&run.order, start);
+    let servers = run.servers.as_mut_slice();
     serve_turn(
-        alloc, script, draws, history, turn, placed, servers, readers,
-    )
+        alloc,
+        script,
+        draws,
+        history,
+        turn,
+        placed,
+        &run.notices,
+        servers,
+        clients,
+    )?;
+    run.notices.apply_each(alloc, placed)
 }
 
 /// The entries of an order from a place on.
@@ -254,27 +208,34 @@ fn serve_turn<D: Draws>(
     history: &History,
     turn: u32,
     placed: &[Placed],
+    notices: &Notices,
     servers: &mut [Server],
-    readers: &mut [Reader],
+    clients: &mut [Client],
 ) -> Result<(), Memory>
     requires one_shape { D.shape draws.now ≡ script.now.shape }
-    requires not_ahead { script.now.shape.ahead ≡ 0 }
     requires legal { IsLegal script.now.shape history.now }
     requires turn_in { turn < turn_count script.now.shape }
     requires servers { let words = words_of script.now.shape (D.book draws.now) in
         AreServersBefore script.now words history.now turn nothing_seen servers.old }
-    requires readers { let words = words_of script.now.shape (D.book draws.now) in
-        AreReadersBefore script.now words history.now turn readers.old }
+    requires notices { let words = words_of script.now.shape (D.book draws.now) in
+        AreNoticesBefore script.now words history.now turn notices.now }
+    requires clients { let words = words_of script.now.shape (D.book draws.now) in
+        AreClients script.now.shape.clients (client_wrote script.now words history.now turn)
+        clients.old }
     requires turn { let words = words_of script.now.shape (D.book draws.now) in
         IsTurnOf script.now words history.now turn placed.now }
     ensures servers { let words = words_of script.now.shape (D.book draws.now) in
         let seen = turn_seen script.now (D.book draws.now) history.now turn in
         OnOk result
         (AreServersBefore script.now words history.now (turn + 1) seen servers.new) }
-    ensures readers { let words = words_of script.now.shape (D.book draws.now) in
-        OnOk result (AreReadersBefore script.now words history.now (turn + 1) readers.new) }
+    ensures clients { let words = words_of script.now.shape (D.book draws.now) in
+        OnOk result (AreClients script.now.shape.clients
+        (client_before script.now words history.now (turn + 1)) clients.new) }
 {
     see_all(servers, placed)?;
-    read_turn(alloc, script, draws, history, turn, servers, readers)?;
+    let filter = &notices.shown;
+    read_turn(
+        alloc, script, draws, history, turn, filter, servers, clients,
+    )?;
     apply_all(alloc, servers, placed)
 }

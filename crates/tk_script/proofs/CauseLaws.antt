@@ -15,7 +15,7 @@ use Rattle.tk_script.specs.declared.cause.Cause.TheVariants as cause
 use Rattle.tk_script.specs.declared.role.Role.{Role}
 use Rattle.tk_script.specs.Fields.{LacksSpace}
 use Rattle.tk_script.specs.SoundScript.{is_ascending, is_role}
-use Rattle.tk_script.specs.Reading.{named, if_built, unbroken, read_numbers, drawn_if, read_kind, first_from, in_order, read_clients}
+use Rattle.tk_script.specs.Reading.{named, unbroken, read_numbers, drawn_if, read_kind, first_from, in_order, read_clients}
 use Rattle.tk_script.proofs.SoundLaws.{both, parts}
 
 -- ---- words
@@ -35,16 +35,10 @@ lacks_by_test (x ∷ xs) t (suc k) within e =
 -- ---- the shape line
 
 pub read_numbers-kept : (ns : List ℕ) (z : Shape) → numbers_of z ≡ ns →
-    broken (numbers_in ns) ≡ None → read_numbers (Some ns) ≡ if_built (named z)
+    broken (numbers_in ns) ≡ None → read_numbers (Some ns) ≡ Ok (named z)
 read_numbers-kept ns z e kept =
-    subst (λ ms. broken (numbers_in ms) ≡ None → read_numbers (Some ms) ≡ if_built (named z)) e
+    subst (λ ms. broken (numbers_in ms) ≡ None → read_numbers (Some ms) ≡ Ok (named z)) e
     (λ k. ap (unbroken (named z)) k) kept
-
-pub built : (n : Numbers) → n.ahead ≡ 0 → if_built n ≡ Ok n
-built n e = rw (eq-eqb n.ahead 0 e) refl
-
-pub reads_ahead : (n : Numbers) → n.ahead ≢ 0 → if_built n ≡ Err cause.NotBuilt
-reads_ahead n h = rw (ne_eqb n.ahead 0 h) refl
 
 pub read_numbers-broken : (ns : List ℕ) (f : Field) (v : ℕ) → length ns ≡ 12 →
     broken (numbers_in ns) ≡ Some (limit f v false) →

@@ -8,7 +8,7 @@ use Rattle.std.proofs.Common.{refl}
 use Rattle.hex.proofs.OnLiterals.{hex_on_literals}
 use Rattle.tk_shape.specs.declared.field.Field.TheVariants.{Servers, Tape}
 use Rattle.tk_script.specs.declared.cause.Cause.{Cause}
-use Rattle.tk_script.specs.declared.cause.Cause.TheVariants.{Early, Form, Shape, NotBuilt, Number, Order, Room, Text, After}
+use Rattle.tk_script.specs.declared.cause.Cause.TheVariants.{Early, Form, Shape, Number, Order, Room, Text, After}
 use Rattle.tk_script.specs.Grammar.{lines_of}
 use Rattle.tk_script.specs.Reading.{Refusal, read_head, read_keys, read_script, read_tape, read_end, read_input}
 
@@ -51,11 +51,6 @@ few_servers : read_input (lines_of (codes "talek 1\nshape 1 8 4 4 24 64 1 0 2 2 
     ≡ refused 2 (Shape Servers 1)
 unfolding computing lines_of hex_on_literals read_head read_keys read_script read_tape read_end read_input
 few_servers = refl
-
-ahead : read_input (lines_of (codes "talek 1\nshape 2 8 4 4 24 64 1 1 2 2 1 1\ndrawn\nlog 0 1\n"))
-    ≡ refused 2 NotBuilt
-unfolding computing lines_of hex_on_literals read_head read_keys read_script read_tape read_end read_input
-ahead = refl
 
 long_tape : read_input (lines_of (codes "talek 1\nshape 2 8 4 4 24 64 1 0 64 256 3 1\ndrawn\nlog 0 1\n"))
     ≡ refused 3 (Shape Tape 2288640)

@@ -12,7 +12,6 @@ use Rattle.tk_script.specs.declared.keys.Keys.{Keys}
 use Rattle.tk_script.specs.declared.input.RawTape.{RawTape}
 use Rattle.tk_script.specs.declared.input.Input.{Input}
 use Rattle.tk_script.specs.declared.error.ScriptError.{ScriptError}
-use Rattle.tk_script.specs.Built.{IsBuiltShape}
 use Rattle.tk_script.specs.Grammar.{Line, shape_line, kind_line, role_line, say_line, lines_of, SpellsKeys, BeginsWithScript, TapeFor, Spells, kept_of}
 use Rattle.tk_script.specs.KeyLines.{kind_words, MayBeOfKind}
 use Rattle.tk_script.specs.SoundScript.{IsScript, tape_fits}
@@ -142,14 +141,6 @@ keyed_found (Ok input) S text rest begins keyed h =
       script = begins;
       tape = tape_of_keyed S.shape S.keys rest keyed h.0;
     })
-
-pub keyed_built : (r : Result Input ScriptError) (S : Script) (rest : List Line) →
-    IsBuiltShape S.shape →
-    IfOk r (λ input. (rest ≡ []) × (input ≡ record { first = S; tape = None })) →
-    IfOk r (λ input. IsBuiltShape input.first.shape)
-keyed_built (Err e) S rest built h = h
-keyed_built (Ok input) S rest built h =
-    subst (λ (i : Input). IsBuiltShape i.first.shape) (sym h.1) built
 
 -- what is known of a tape's text holds of the text that was read
 pub drawn_here : (y z : Shape) (ls ms : List Line) (tape : RawTape) → y ≡ z → ls ≡ ms →

@@ -3,7 +3,6 @@ pub mod Sent
 pub mod Grammar
 pub mod Fields
 pub mod Pieces
-pub mod Built
 pub mod Laws
 pub mod KeyLines
 pub mod Reading

@@ -70,17 +70,9 @@ numbers_after word line = word_then word (parts_of line)
 abbrev pub named : Shape → Numbers
 named shape = numbers_in (numbers_of shape)
 
--- no one reads ahead
-abbrev pub is_built : Numbers → Bool
-is_built n = n.ahead == 0
-
--- a shape within its limits, of which a run may not be built yet
-abbrev pub if_built : Numbers → Reads Numbers
-if_built n = cond (is_built n) (Ok n) (Err cause.NotBuilt)
-
 -- the first limit that is broken refuses the line
 abbrev pub unbroken : Numbers → Option Limit → Reads Numbers
-unbroken n None = if_built n
+unbroken n None = Ok n
 unbroken n (Some l) = Err (cause.Shape l.field l.value)
 
 abbrev pub read_numbers : Option (List ℕ) → Reads Numbers

@@ -9,8 +9,6 @@ pub enum Cause {
     Form,
     /// The shape's numbers break a limit, of which this is the first.
     Shape { field: Field, value: u64 },
-    /// The shape is within its limits, but a run that reads ahead isn't built yet: for the time being.
-    NotBuilt,
     /// A number is out of range, and this is the first.
     Number { value: u32 },
     /// Followers don't ascend, or a text is said before the one in front of it.

@@ -1,6 +1,5 @@
 ghost use Rattle.std.specs.Prelude.{◌≡◌, [], true, false, Some, None, IfOk};
 ghost use Rattle.tk_script.specs.Answer.{Gives, Tells};
-ghost use Rattle.tk_script.specs.Built.{IsBuiltShape};
 ghost use Rattle.tk_script.specs.Grammar.{lines_of, Spells, TapeFor};
 ghost use Rattle.tk_script.specs.Reading.{read_end, read_input};
 ghost use Rattle.tk_script.specs.Stands.{stands};
@@ -12,14 +11,11 @@ use crate::{Input, RawTape, Script, ScriptError};
 use std::alloc::Global;
 use tk_shape::Shape;
 
-/// The input that a text spells, or the first of its lines that is refused: that may also be one behind its last. An
-/// input of a shape of which no run is built yet is refused.
+/// The input that a text spells, or the first of its lines that is refused: that may also be one behind its last.
 pub fn parse(alloc: Global, text: &[u8]) -> Result<Input, ScriptError>
     ensures found { IfOk result (λ input. Spells text.now input) }
-    ensures built { IfOk result (λ input. IsBuiltShape input.first.shape) }
     ensures read { Tells (λ input. tt) result (read_input (lines_of text.now)) }
-    ensures only { (input : Input) → IsBuiltShape input.first.shape → Spells text.now input →
-        Gives result (λ x. x ≡ input) }
+    ensures only { (input : Input) → Spells text.now input → Gives result (λ x. x ≡ input) }
 {
     let (first, rest) = script_of(alloc, Place::front(text))?;
     if first.keys.is_some() {

@@ -1,8 +1,8 @@
 ghost use Rattle.tk_script.specs.PrintLaws.{PrintsScripts, PrintsTapes, PrintsKeyed, PrintsDrawn};
 
 /// What is printed is read back, with more text behind it and alone: the text of a printed script of keys, and that of
-/// a printed script of drawn words and a printed tape, spell that script. `parse` answers with what a text spells
-/// wherever a run of the shape is built, so it answers with the same script: `parse_printed` says that of the calls.
+/// a printed script of drawn words and a printed tape, spell that script. `parse` answers with what a text
+/// spells, so it answers with the same script: `parse_printed` says that of the calls.
 pub fn printed_reads()
     ensures script { PrintsScripts }
     ensures tape { PrintsTapes }

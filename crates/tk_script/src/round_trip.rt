@@ -1,6 +1,5 @@
 ghost use Rattle.std.specs.Prelude.{◌≡◌, Some, None};
 ghost use Rattle.tk_script.specs.Answer.{Gives};
-ghost use Rattle.tk_script.specs.Built.{IsBuiltShape};
 ghost use Rattle.tk_script.specs.Grammar.{kept_of};
 ghost use Rattle.tk_script.specs.declared.keys.Keys.{Keys};
 
@@ -9,7 +8,7 @@ use std::alloc::Global;
 
 /// What `parse` answers of a printed script of keys: the same script.
 pub fn parse_printed(alloc: Global, script: &Script) -> Result<Input, ScriptError>
-    ensures same { (keys : Keys) → script.now.keys ≡ Some keys → IsBuiltShape script.now.shape →
+    ensures same { (keys : Keys) → script.now.keys ≡ Some keys →
         Gives result (λ input. input ≡ record { first = script.now; tape = None }) }
 {
     let mut text = Vec::new(alloc);
@@ -20,7 +19,7 @@ pub fn parse_printed(alloc: Global, script: &Script) -> Result<Input, ScriptErro
 /// What `parse` answers of a printed script of drawn words with a printed tape behind it: the same script, and what is
 /// kept of the same tape.
 pub fn parse_printed_with(alloc: Global, script: &Script, tape: &[u8]) -> Result<Input, ScriptError>
-    ensures same { script.now.keys ≡ None → IsBuiltShape script.now.shape →
+    ensures same { script.now.keys ≡ None →
         Gives result (λ input. input ≡
         record { first = script.now; tape = Some (kept_of script.now.shape tape.now) }) }
 {

@@ -1,6 +1,5 @@
 ghost use Rattle.std.specs.Prelude.{◌≡◌, ◌∷◌, Bool, List, codes, is_some, IfOk};
 ghost use Rattle.tk_script.specs.Answer.{Gives, Tells};
-ghost use Rattle.tk_script.specs.Built.{IsBuiltShape};
 ghost use Rattle.tk_script.specs.Grammar.{Line, lines_of, shape_line, BeginsWithScript};
 ghost use Rattle.tk_script.specs.KeyLines.{kind_words, MayBeOfKind};
 ghost use Rattle.tk_script.specs.Reading.{named, read_head, read_script};
@@ -21,8 +20,7 @@ use tk_shape::Shape;
 pub(crate) fn script_of(alloc: Global, start: Place<'_>) -> Result<(Script, Place<'_>), ScriptError>
     ensures found { IfOk result (λ x.
         BeginsWithScript (lines_of start.entry.rest.now) x.0 (lines_of x.1.rest.now)) }
-    ensures built { IfOk result (λ x. IsBuiltShape x.0.shape) }
-    ensures only { (script : Script) (behind : List Line) → IsBuiltShape script.shape →
+    ensures only { (script : Script) (behind : List Line) →
         BeginsWithScript (lines_of start.entry.rest.now) script behind →
         Gives result (λ x. (x.0 ≡ script) × (lines_of x.1.rest.now ≡ behind)) }
     ensures read { Tells (λ x. (is_some x.0.keys, stands x.1)) result
@@ -45,9 +43,8 @@ pub(crate) fn script_of(alloc: Global, start: Place<'_>) -> Result<(Script, Plac
 fn head_of(alloc: Global, start: Place<'_>) -> Result<(Shape, bool, Place<'_>), ScriptError>
     ensures found { IfOk result (λ x. lines_of start.entry.rest.now
         ≡ codes "talek 1" ∷ shape_line x.0 ∷ kind_words x.1 ∷ lines_of x.2.rest.now) }
-    ensures built { IfOk result (λ x. IsBuiltShape x.0) }
     ensures may { IfOk result (λ x. MayBeOfKind x.0 x.1) }
-    ensures only { (shape : Shape) (keyed : Bool) (behind : List Line) → IsBuiltShape shape →
+    ensures only { (shape : Shape) (keyed : Bool) (behind : List Line) →
         MayBeOfKind shape keyed →
         lines_of start.entry.rest.now ≡ codes "talek 1" ∷ shape_line shape ∷ kind_words keyed ∷ behind →
         Gives result (λ x. (x.0 ≡ shape) × (x.1 ≡ keyed) × (lines_of x.2.rest.now ≡ behind)) }

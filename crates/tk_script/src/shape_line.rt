@@ -1,9 +1,8 @@
 ghost use Rattle.std.specs.Prelude.{◌≡◌, ◌≢◌, ◌∷◌, List, Some, Ok, length, IfOk, IfSome, IfNone};
 ghost use Rattle.tk_script.specs.Answer.{Gives, Tells};
-ghost use Rattle.tk_script.specs.Built.{IsBuiltShape};
 ghost use Rattle.tk_script.specs.Grammar.{Line, lines_of, shape_line};
 ghost use Rattle.tk_shape.specs.Numbers.{numbers_of};
-ghost use Rattle.tk_script.specs.Reading.{IsRead, if_built, named, next_line, read_numbers, read_shape};
+ghost use Rattle.tk_script.specs.Reading.{IsRead, named, next_line, read_numbers, read_shape};
 ghost use Rattle.tk_script.specs.Stands.{stands};
 
 use crate::fields::numbers_behind;
@@ -16,8 +15,7 @@ use tk_shape::{Memory, Shape};
 pub(crate) fn shape_of(alloc: Global, here: Place<'_>) -> Result<(Shape, Place<'_>), ScriptError>
     ensures found { IfOk result (λ x.
         lines_of here.entry.rest.now ≡ shape_line x.0 ∷ lines_of x.1.rest.now) }
-    ensures built { IfOk result (λ x. IsBuiltShape x.0) }
-    ensures only { (shape : Shape) (behind : List Line) → IsBuiltShape shape →
+    ensures only { (shape : Shape) (behind : List Line) →
         lines_of here.entry.rest.now ≡ shape_line shape ∷ behind →
         Gives result (λ x. (x.0 ≡ shape) × (lines_of x.1.rest.now ≡ behind)) }
     ensures read { Tells (λ x. (named x.0, stands x.1)) result
@@ -33,8 +31,7 @@ pub(crate) fn shape_of(alloc: Global, here: Place<'_>) -> Result<(Shape, Place<'
 /// The shape that a line spells.
 fn shape_in(alloc: Global, line: &[u8]) -> Result<Result<Shape, Cause>, Memory>
     ensures found { IfOk result (λ r. IfOk r (λ shape. line.now ≡ shape_line shape)) }
-    ensures built { IfOk result (λ r. IfOk r IsBuiltShape) }
-    ensures only { (shape : Shape) → line.now ≡ shape_line shape → IsBuiltShape shape →
+    ensures only { (shape : Shape) → line.now ≡ shape_line shape →
         IfOk result (λ r. r ≡ Ok shape) }
     ensures read { IfOk result (λ r. IsRead named r (read_shape line.now)) }
 {
@@ -47,34 +44,19 @@ fn shape_in(alloc: Global, line: &[u8]) -> Result<Result<Shape, Cause>, Memory>
 /// The shape of twelve numbers.
 fn shape_from(numbers: &[u32]) -> Result<Shape, Cause>
     ensures found { IfOk result (λ shape. numbers_of shape ≡ numbers.now) }
-    ensures built { IfOk result IsBuiltShape }
-    ensures only { (shape : Shape) → numbers_of shape ≡ numbers.now → IsBuiltShape shape →
-        result ≡ Ok shape }
+    ensures only { (shape : Shape) → numbers_of shape ≡ numbers.now → result ≡ Ok shape }
     ensures read { IsRead named result (read_numbers (Some numbers.now)) }
 {
     let Some(twelve) = twelve_of(numbers) else {
         return Err(Cause::Form);
     };
     match Shape::new(twelve) {
-        Ok(shape) => if_built(shape),
+        Ok(shape) => Ok(shape),
         Err(broken) => Err(Cause::Shape {
             field: broken.field,
             value: broken.value,
         }),
     }
-}
-
-/// A shape within its limits, where a run of it is built so far.
-fn if_built(shape: Shape) -> Result<Shape, Cause>
-    ensures same { IfOk result (λ x. x ≡ shape) }
-    ensures built { IfOk result IsBuiltShape }
-    ensures only { IsBuiltShape shape → result ≡ Ok shape }
-    ensures read { IsRead named result (if_built (named shape)) }
-{
-    if shape.ahead != 0 {
-        return Err(Cause::NotBuilt);
-    }
-    Ok(shape)
 }
 
 /// Twelve numbers as an array.

@@ -183,7 +183,7 @@ fn refused_shapes(rt: HostRuntime) {
             2,
             Cause::Form,
         ),
-        (b"9 8 4 5 24 64 1 1 2 2 1 1\ndrawn\n".as_slice(), 2, servers),
+        (b"9 8 4 5 24 64 1 9 2 2 1 1\ndrawn\n".as_slice(), 2, servers),
         (
             b"2 8 4 33 24 64 1 1 2 2 1 1\ndrawn\n".as_slice(),
             2,
@@ -195,9 +195,9 @@ fn refused_shapes(rt: HostRuntime) {
             Cause::Early,
         ),
         (
-            b"2 8 4 4 24 64 1 1 2 2 1 1\ndrawn\n".as_slice(),
-            2,
-            Cause::NotBuilt,
+            b"2 8 4 4 24 64 1 8 2 2 1 1\ndrawn\n".as_slice(),
+            4,
+            Cause::Early,
         ),
         (
             b"2 8 4 4 24 64 1 0 2 2 1 1\ndrown\n".as_slice(),

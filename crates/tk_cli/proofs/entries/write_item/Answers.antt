@@ -1,22 +1,72 @@
--- What is put is the entry of the item.
-use Rattle.std.proofs.Common.{◌≡◌, ◌++◌, List, subst}
-use Rattle.std.specs.Prelude.{OnOk, length}
+-- What is put is the entry of the item, and its client has written.
+use Rattle.std.proofs.Common.{◌≡◌, ◌∙◌, ◌++◌, ℕ, List, ap, sym, subst}
+use Rattle.std.specs.Prelude.{Ok, Err, OnOk, length, slice_index_or, slice_set}
 use Rattle.tk_words.specs.Words.{words_of}
 use Rattle.tk_frames.specs.declared.entry.Placed.{Placed}
+use Rattle.tk_client.specs.State.{ClientState}
+use Rattle.tk_cli.specs.Clients.{client_wrote}
 use Rattle.tk_cli.specs.Entries.{write_at}
 use Rattle.tk_cli.proofs.EntriesLaws.{write-placed, mark-placed}
+use Rattle.tk_cli.proofs.WritingLaws.{said-shape, said-number, said-write, said-then, same_writer}
 use Rattle.tk_cli.proofs.entries.write_item.Goals as goal
 
-pub returns-in_ok-write-in-Client-clause-placed : goal.returns-in_ok-write-in-Client-clause-placed
-returns-in_ok-write-in-Client-clause-placed g c =
+pub frame_of-requires-clause-same : goal.frame_of-requires-clause-same
+frame_of-requires-clause-same g c κs within =
     let S = c.args.script.now in
-    let write = write_at S (words_of S.shape (g.D.Draws.book c.args.draws.now)) c.args.turn in
+    let words = words_of S.shape (g.D.Draws.book c.args.draws.now) in
+    let k = c.in-Client.client in
+    let d = c.index-clients-client.result in
+    said-shape S words c.args.history.now c.args.turn k (slice_index_or c.args.clients.now k d)
+    (c.requires.due k d c.in-Client.is)
+
+pub frame_of-requires-clause-number_in : goal.frame_of-requires-clause-number_in
+frame_of-requires-clause-number_in g c κs within =
+    let S = c.args.script.now in
+    let words = words_of S.shape (g.D.Draws.book c.args.draws.now) in
+    let k = c.in-Client.client in
+    let d = c.index-clients-client.result in
+    said-number S words c.args.history.now c.args.turn k (slice_index_or c.args.clients.now k d)
+    (c.requires.due k d c.in-Client.is) c.requires.turn_in
+
+pub returns-in_ok-frame-in-Client-clause-placed : goal.returns-in_ok-frame-in-Client-clause-placed
+returns-in_ok-frame-in-Client-clause-placed g c =
+    let S = c.args.script.now in
+    let words = words_of S.shape (g.D.Draws.book c.args.draws.now) in
+    let write = write_at S words c.args.turn in
     let old = c.args.order.now.placed.items in
-    let frame = c.in_ok-write-in-Client in
+    let frame = c.in_ok-frame-in-Client in
+    let k = c.in-Client.client in
+    let d = c.index-clients-client.result in
     subst (λ (ps : List Placed). OnOk c.put.result (c.put.new.order.placed.items ≡ old ++ ps))
-    (write-placed write old c.args.item.now c.in-Client.client frame.write c.in-Client.is
-    frame.ensures.write)
+    (write-placed write old c.args.item.now k frame.frame c.in-Client.is
+    (frame.ensures.write
+    ∙ said-write S words c.args.history.now c.args.turn k
+    (slice_index_or c.args.clients.now k d) (c.requires.due k d c.in-Client.is)
+    c.requires.turn_in))
     c.put.ensures.placed
+
+pub returns-in_ok-frame-in-Client-clause-wrote : goal.returns-in_ok-frame-in-Client-clause-wrote
+returns-in_ok-frame-in-Client-clause-wrote g c = λ j is.
+    let S = c.args.script.now in
+    let words = words_of S.shape (g.D.Draws.book c.args.draws.now) in
+    let clients = c.args.clients.now in
+    let frame = c.in_ok-frame-in-Client in
+    let k = c.in-Client.client in
+    let d = c.index-clients-client.result in
+    let wrote = client_wrote S words c.args.history.now c.args.turn in
+    let then : c.frame_of.new.client ≡ wrote k =
+    frame.ensures.client
+    ∙ said-then S words c.args.history.now c.args.turn k (slice_index_or clients k d)
+    (c.requires.due k d c.in-Client.is)
+    in
+    let same : j ≡ k = same_writer k j c.args.item.now c.in-Client.is is in
+    let all : slice_set clients k c.frame_of.new.client ≡ slice_set clients j (wrote j) =
+    subst (λ (n : ℕ). slice_set clients k c.frame_of.new.client ≡ slice_set clients n (wrote n))
+    (sym same) (ap (λ (s : ClientState). slice_set clients k s) then)
+    in
+    elim c.put.result
+    as (λ r. OnOk r (slice_set clients k c.frame_of.new.client ≡ slice_set clients j (wrote j)))
+    [ Ok x ↦ all | Err e ↦ tt ]
 
 pub returns-in-Publish-clause-placed : goal.returns-in-Publish-clause-placed
 returns-in-Publish-clause-placed g c =

@@ -12,22 +12,20 @@ pub loop-client-preserved : goal.loop-client-preserved
 loop-client-preserved c w H are =
     let S = c.args.script.now in
     let log = c.args.log in
-    let readers = c.args.readers.now in
+    let clients = c.args.clients.now in
     let followers = c.as_slice-followers.result.now in
     let is = c.as_slice-followers.ensures in
     let i = c.loop-client.client-index in
     let client = get_or followers i 0 in
-    let reader = c.index-readers-client in
+    let one = c.index-clients-client in
     let within : i < length followers = omega arith in
-    let known : client < length readers =
-    subst (λ (n : ℕ). client < n) (sym c.requires.readers)
+    let known : client < length clients =
+    subst (λ (n : ℕ). client < n) (sym c.requires.counted)
     (subst (λ (xs : List ℕ). get_or xs i 0 < S.shape.clients) (sym is)
     (c.role.ensures.followers_in i (subst (λ (xs : List ℕ). i < length xs) is within)))
     in
-    let got = c.got.result.now in
-    let kept =
-    got_kept S w H readers log client reader.result got are known reader.is c.got.ensures
-    in
+    let got = c.log-got.result.now in
+    let kept = got_kept S w H clients log client one.result got are known one.is c.log-got.ensures in
     let lines = λ (k : ℕ). log_lines log k (got_of S w H k log) in
     next_element lines followers i 0 c.args.out.now.items within
     (c.loop-client.invariant w H are) c.in_ok-push_log.ensures.ok (ap (log_lines log client) kept)

@@ -1,5 +1,5 @@
 use Rattle.std.proofs.Common.{arith, refl}
-use Rattle.tk_cli.specs.Sendable.{placed_has_block}
+use Rattle.tk_cli.specs.Sendable.{placed_has_block, HasPositions}
 use Rattle.tk_cli.proofs.OrderLaws.{ends-mark-at, placed-append}
 use Rattle.tk_table.specs.Ordered.{HasBuckets}
 use Rattle.tk_table.specs.Laws.{IsStorable}
@@ -20,4 +20,5 @@ returns-clause-order c =
       placed = rw (items) (placed-append 1 E _ c.requires.order.placed (omega (arith, c.len-end.ensures)));
       buckets = rw (items) (each-mark (HasBuckets shape) E _ _ c.requires.order.buckets);
       storable = rw (items) (each-mark (IsStorable shape) E _ _ c.requires.order.storable);
+      positions = rw (items) (each-mark (HasPositions shape) E _ _ c.requires.order.positions);
     }

@@ -1,5 +1,5 @@
 use Rattle.std.proofs.Common.{arith, eq-eqb}
-use Rattle.tk_cli.specs.Sendable.{placed_has_block}
+use Rattle.tk_cli.specs.Sendable.{placed_has_block, HasPositions}
 use Rattle.tk_cli.proofs.OrderLaws.{ends-write, placed-append}
 use Rattle.tk_table.specs.Ordered.{HasBuckets}
 use Rattle.tk_table.specs.Laws.{IsStorable}
@@ -15,11 +15,13 @@ returns-clause-order c =
     let shape = c.args.order.now.shape in
     let write = c.args.write in
     record {
-      blocks = rw (items) (list_all-push (placed_has_block size) E _ c.requires.order.blocks (eq-eqb _ _ c.requires.block));
+      blocks = rw (items) (list_all-push (placed_has_block size) E _ c.requires.order.blocks (eq-eqb _ _ c.requires.in_range.block_len));
       ends = rw (items) (ends-write E c.args.order.now.ends.items _ c.args.write c.requires.order.ends);
       placed = rw (items) (placed-append 1 E _ c.requires.order.placed (omega (arith, c.len.ensures)));
       buckets = rw (items) (each-write (HasBuckets shape) E _ write c.requires.order.buckets
-          (record { first = c.requires.first_in; second = c.requires.second_in }));
+          (record { first = c.requires.in_range.first; second = c.requires.in_range.second }));
+      positions = rw (items) (each-write (HasPositions shape) E _ write c.requires.order.positions
+          (record { counted = c.requires.in_range.hits_counted; within = c.requires.in_range.hits }));
       storable = rw (items) (each-write (IsStorable shape) E _ write c.requires.order.storable
-          (record { position = omega (arith, c.len.ensures); block = c.requires.block }));
+          (record { position = omega (arith, c.len.ensures); block = c.requires.in_range.block_len }));
     }

@@ -1,41 +1,33 @@
 -- The clients so far have read, and the servers saw their reads.
 use Rattle.std.proofs.Common.{◌≡◌, ◌<◌, ◌≤◌, ◌+◌, ℕ, List, length}
 use Rattle.std.specs.Prelude.{slice_index_or}
-use Rattle.std.specs.List.{AllByRecursion}
 use Rattle.tk_words.specs.Words.{words_of}
 use Rattle.tk_frames.specs.Order.{Record}
-use Rattle.tk_table.specs.Ordered.{AreOrdered}
-use Rattle.tk_table.specs.Laws.{IsStorable}
-use Rattle.tk_cli.specs.declared.reader.Reader.{Reader as KeptReader}
-use Rattle.tk_cli.specs.Report.{reader_before}
-use Rattle.tk_cli.specs.Readers.{IsReader}
+use Rattle.tk_client.specs.State.{ClientState}
+use Rattle.tk_cli.specs.Clients.{client_wrote, client_before}
 use Rattle.tk_cli.specs.Servers.{AreServers}
-use Rattle.tk_cli.specs.Turns.{AreReadOver, seen_of_reads}
+use Rattle.tk_cli.specs.Turns.{IsReadable, seen_of_reads}
 use Rattle.tk_cli.proofs.reading.read_turn.Given as goal
 
-abbrev pub invariant-loop-client : goal.invariant-loop-client
-invariant-loop-client g l =
+abbrev pub invariant-loop-number : goal.invariant-loop-number
+invariant-loop-number g l =
     let S = l.script in
     let book = g.D.Draws.book l.draws in
     let words = words_of S.shape book in
     record {
-      low : l.client ≤ S.shape.clients;
+      low : l.number ≤ S.shape.clients;
       counted : length l.servers ≡ S.shape.servers;
-      readers : length l.readers ≡ S.shape.clients;
-      logs : (c : ℕ) (d : KeptReader) → c < length l.readers →
-          (slice_index_or l.readers c d).logs ≡ S.shape.logs;
+      clients : length l.clients ≡ S.shape.clients;
       done : (R shown : List Record) (seen : ℕ → List ℕ) →
-          AreServers S.shape R shown seen l.fn.servers → AreOrdered S.shape shown →
-          AllByRecursion (IsStorable S.shape) shown →
-          AreReadOver S words l.history l.turn shown →
-          (c : ℕ) (d : KeptReader) → c < l.client →
-          IsReader (slice_index_or l.readers c d)
-          (reader_before S words l.history c (l.turn + 1));
-      due : (c : ℕ) (d : KeptReader) → l.client ≤ c → c < length l.readers →
-          IsReader (slice_index_or l.readers c d) (reader_before S words l.history c l.turn);
+          AreServers S.shape R shown seen l.fn.servers →
+          IsReadable S words l.history l.turn shown l.filter →
+          (c : ℕ) (d : ClientState) → c < l.number →
+          slice_index_or l.clients c d ≡ client_before S words l.history (l.turn + 1) c;
+      due : (c : ℕ) (d : ClientState) → l.number ≤ c → c < length l.clients →
+          slice_index_or l.clients c d ≡ client_wrote S words l.history l.turn c;
       servers : (R shown : List Record) (seen : ℕ → List ℕ) →
           AreServers S.shape R shown seen l.fn.servers →
-          AreReadOver S words l.history l.turn shown →
-          AreServers S.shape R shown (seen_of_reads S book l.history l.turn l.client seen)
+          IsReadable S words l.history l.turn shown l.filter →
+          AreServers S.shape R shown (seen_of_reads S book l.history l.turn l.number seen)
           l.servers;
     }

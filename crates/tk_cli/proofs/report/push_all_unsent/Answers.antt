@@ -1,21 +1,26 @@
--- One more client's line stands behind the others.
-use Rattle.std.proofs.Common.{◌<◌, ◌∙◌, ℕ, ap, length, arith}
+-- One more client's line stands behind the others, and at the end all do.
+use Rattle.std.proofs.Common.{◌≡◌, ◌<◌, ◌∙◌, ◌++◌, ℕ, ap, length, flat_map, arith}
+use Rattle.std.specs.List.{range_with_len}
 use Rattle.tk_script.specs.Sent.{unsent_count}
-use Rattle.tk_cli.specs.declared.outbox.Outbox.{Outbox}
 use Rattle.tk_cli.specs.Report.{unsent_line}
-use Rattle.tk_cli.proofs.ReportLaws.{next_number}
+use Rattle.tk_cli.proofs.ReportLaws.{next_number, unsent_kept}
 use Rattle.tk_cli.proofs.report.push_all_unsent.Goals as goal
 
-pub loop-client-preserved : goal.loop-client-preserved
-loop-client-preserved c =
-    let client = c.loop-client.client in
-    let outbox = c.index-outboxes-client in
-    let outboxes = c.requires.outboxes in
-    let within : client < length c.args.outboxes.now = omega (arith, outboxes.counted) in
-    let here =
-    ap (λ (o : Outbox). unsent_line client o.unsent) outbox.is
-    ∙ ap (unsent_line client) (outboxes.each client outbox.result within).unsent
-    in
-    let lines = λ (k : ℕ). unsent_line k (unsent_count c.args.script.now k) in
-    next_number lines client c.args.out.now.items
-    c.loop-client.invariant c.in_ok-push_unsent.ensures.ok here
+pub loop-number-preserved : goal.loop-number-preserved
+loop-number-preserved c S w H are =
+    let number = c.loop-number.number in
+    let one = c.index-clients-number in
+    let within : number < length c.args.clients.now = omega arith in
+    let lines = λ (k : ℕ). unsent_line k (unsent_count S k) in
+    next_number lines number c.args.out.now.items
+    (c.loop-number.invariant S w H are) c.in_ok-push_unsent.ensures.ok
+    (ap (unsent_line number)
+    (unsent_kept S w H c.args.clients.now number one.result c.unsent.result are within one.is
+    c.unsent.ensures))
+
+pub returns : goal.returns
+returns c S w H are =
+    let lines = λ (k : ℕ). unsent_line k (unsent_count S k) in
+    let end : c.loop-number.number ≡ S.shape.clients = omega (arith, are.counted) in
+    c.loop-number.invariant S w H are
+    ∙ ap (λ (n : ℕ). c.args.out.now.items ++ flat_map lines (range_with_len 0 n)) end

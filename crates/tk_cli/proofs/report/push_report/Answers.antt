@@ -23,5 +23,5 @@ returns c w are =
     c.in_ok-extend_from_slice.ensures.items
     c.in_ok-push_history.ensures.ok
     (c.in_ok-push_logs.ensures w H are)
-    c.in_ok-push_all_unsent.ensures.ok
+    (c.in_ok-push_all_unsent.ensures S w H are)
     c.in_ok-extend_from_slice-2.ensures.items

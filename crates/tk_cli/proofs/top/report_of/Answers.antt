@@ -1,5 +1,5 @@
 -- The words are the input's, and the run is the input's run.
-use Rattle.std.proofs.Common.{◌∙◌, ◌≡◌, ap, sym, subst, None, rules}
+use Rattle.std.proofs.Common.{◌∙◌, ◌≡◌, sym, subst, None, rules}
 use Rattle.tk_cli.specs.declared.status.Status.{Status}
 use Rattle.tk_cli.specs.Endings.{EndsWith}
 use Rattle.tk_cli.proofs.SerialLaws.{keyed_run, keyed_book, drawn_run, drawn_book, run-to, run-into}
@@ -13,7 +13,7 @@ returns-in-Err-clause-ended g c =
     let e = c.in-Err.error in
     subst (λ (s : Status). EndsWith s bytes tap tap) (sym c.status_of_script.ensures)
     (script_refused e bytes tap c.in-Err.ensures.read
-    (λ input built spells. c.in-Err.ensures.only input built spells))
+    (λ input spells. c.in-Err.ensures.only input spells))
 
 pub returns-in-Ok-serial-clause-found : goal.returns-in-Ok-serial-clause-found
 returns-in-Ok-serial-clause-found g c =
@@ -23,7 +23,7 @@ returns-in-Ok-serial-clause-found g c =
     let ran = c.in-Ok-serial.ensures in
     run-to bytes c.in-Ok-serial.report.items input _ (g.T.Taps.tap c.args.taps.now)
     (g.T.Taps.tap c.serial.new.taps)
-    (keyed_run bytes input c.in-Some.keys spelled c.in-Ok.ensures.built c.in-Some.is)
+    (keyed_run bytes input c.in-Some.keys spelled c.in-Some.is)
     (c.in-Ok-keyed_draws.ensures.book
     ∙ keyed_book input.first.keys input.tape c.in-Some.keys c.in-Some.is)
     ran.report ran.ok ran.others
@@ -37,7 +37,7 @@ returns-in-Err-serial-clause-ended g c =
     let old = g.T.Taps.tap c.args.taps.now in
     let new = g.T.Taps.tap c.serial.new.taps in
     let into = run-into bytes input _ old new
-    (keyed_run bytes input c.in-Some.keys spelled c.in-Ok.ensures.built c.in-Some.is)
+    (keyed_run bytes input c.in-Some.keys spelled c.in-Some.is)
     (c.in-Ok-keyed_draws.ensures.book
     ∙ keyed_book input.first.keys input.tape c.in-Some.keys c.in-Some.is)
     ran.err ran.others in
@@ -47,7 +47,7 @@ returns-in-Err-serial-clause-ended g c =
 pub returns-in-Err-drawn_draws-clause-ended : goal.returns-in-Err-drawn_draws-clause-ended
 returns-in-Err-drawn_draws-clause-ended g c =
     tape_refused c.in-Err-drawn_draws.status c.args.text.now c.in-Ok.input c.in-Some-tape.tape
-    (g.T.Taps.tap c.args.taps.now) c.in-Ok.ensures.found c.in-Ok.ensures.built c.in-Some-tape.is
+    (g.T.Taps.tap c.args.taps.now) c.in-Ok.ensures.found c.in-Some-tape.is
     c.in-Err-drawn_draws.ensures.refused c.in-Err-drawn_draws.ensures.other
 
 pub returns-in-Ok-serial-2-clause-found : goal.returns-in-Ok-serial-2-clause-found
@@ -59,7 +59,7 @@ returns-in-Ok-serial-2-clause-found g c =
     let ran = c.in-Ok-serial-2.ensures in
     run-to bytes c.in-Ok-serial-2.report.items input _ (g.T.Taps.tap c.args.taps.now)
     (g.T.Taps.tap c.serial-2.new.taps)
-    (drawn_run bytes input c.in-Some-tape.tape c.in-Ok.ensures.found c.in-Ok.ensures.built drawn
+    (drawn_run bytes input c.in-Some-tape.tape c.in-Ok.ensures.found drawn
     c.in-Some-tape.is draws.whole)
     (draws.book ∙ drawn_book input.first.keys input.tape c.in-Some-tape.tape drawn
     c.in-Some-tape.is)
@@ -75,7 +75,7 @@ returns-clause-ended g c =
     let old = g.T.Taps.tap c.args.taps.now in
     let new = g.T.Taps.tap c.serial-2.new.taps in
     let into = run-into bytes input _ old new
-    (drawn_run bytes input c.in-Some-tape.tape c.in-Ok.ensures.found c.in-Ok.ensures.built drawn
+    (drawn_run bytes input c.in-Some-tape.tape c.in-Ok.ensures.found drawn
     c.in-Some-tape.is draws.whole)
     (draws.book ∙ drawn_book input.first.keys input.tape c.in-Some-tape.tape drawn
     c.in-Some-tape.is)

@@ -4,11 +4,10 @@ use Rattle.std.specs.List.{flat_map}
 use Rattle.tk_words.specs.Words.{words_of}
 use Rattle.tk_frames.specs.Order.{records}
 use Rattle.tk_frames.specs.Spelling.{placed_frame}
+use Rattle.tk_client.proofs.AskingLaws.{on_ok_always, on_ok_then}
 use Rattle.tk_cli.specs.Servers.{nothing_seen, shown_after}
 use Rattle.tk_cli.specs.Turns.{placed_before, seen_of_reads}
-use Rattle.tk_cli.proofs.AskingLaws.{on_ok_always, on_ok_then}
-use Rattle.tk_cli.proofs.ShownLaws.{ordered-front}
-use Rattle.tk_cli.proofs.TurnLaws.{shown-ordered, shown-storable, servers-next, turn-seen}
+use Rattle.tk_cli.proofs.TurnLaws.{servers-next, turn-seen, turn-readable}
 use Rattle.tk_cli.proofs.turns.serve_turn.Goals as goal
 
 pub apply_all-requires : goal.apply_all-requires
@@ -22,13 +21,16 @@ apply_all-requires g c =
     let shown = shown_after [] [] E in
     let entries_seen = λ (j : ℕ). nothing_seen j ++ flat_map placed_frame c.args.placed.now in
     let saw = c.in_ok-see_all.ensures S.shape (records E) shown nothing_seen c.requires.servers in
+    let readable =
+    turn-readable S words H turn c.args.placed.now c.args.notices.now c.requires.turn c.requires.notices
+    in
     record {
       shape = S.shape;
       R = records E;
       shown = shown;
       seen = seen_of_reads S book H turn S.shape.clients entries_seen;
       servers_are =
-          c.in_ok-read_turn.ensures.servers (records E) shown entries_seen saw c.requires.turn.over;
+          c.in_ok-read_turn.ensures.servers (records E) shown entries_seen saw readable;
       may = c.requires.turn.may;
     }
 
@@ -43,8 +45,11 @@ returns-clause-servers g c =
     let shown = shown_after [] [] E in
     let entries_seen = λ (j : ℕ). nothing_seen j ++ flat_map placed_frame c.args.placed.now in
     let saw = c.in_ok-see_all.ensures S.shape (records E) shown nothing_seen c.requires.servers in
+    let readable =
+    turn-readable S words H turn c.args.placed.now c.args.notices.now c.requires.turn c.requires.notices
+    in
     let answered =
-    c.in_ok-read_turn.ensures.servers (records E) shown entries_seen saw c.requires.turn.over
+    c.in_ok-read_turn.ensures.servers (records E) shown entries_seen saw readable
     in
     let seen = seen_of_reads S book H turn S.shape.clients entries_seen in
     let took =
@@ -57,18 +62,18 @@ returns-clause-servers g c =
     c.requires.turn.entries are))
     took
 
-pub returns-clause-readers : goal.returns-clause-readers
-returns-clause-readers g c =
+pub returns-clause-clients : goal.returns-clause-clients
+returns-clause-clients g c =
     let S = c.args.script.now in
     let words = words_of S.shape (g.D.Draws.book c.args.draws.now) in
-    let E = placed_before S words c.args.history.now c.args.turn in
+    let H = c.args.history.now in
+    let E = placed_before S words H c.args.turn in
     let shown = shown_after [] [] E in
     let entries_seen = λ (j : ℕ). nothing_seen j ++ flat_map placed_frame c.args.placed.now in
-    let ordered =
-    ordered-front S.shape (records E) (records c.args.placed.now) c.requires.turn.may.ordered
-    in
     let saw = c.in_ok-see_all.ensures S.shape (records E) shown nothing_seen c.requires.servers in
+    let readable =
+    turn-readable S words H c.args.turn c.args.placed.now c.args.notices.now c.requires.turn
+    c.requires.notices
+    in
     on_ok_always c.apply_all.result
-    (c.in_ok-read_turn.ensures.readers (records E) shown entries_seen saw
-    (shown-ordered S.shape E ordered) (shown-storable S.shape E c.requires.turn.storable)
-    c.requires.turn.over)
+    (c.in_ok-read_turn.ensures.clients (records E) shown entries_seen saw readable)

@@ -1,8 +1,9 @@
 -- Turn after turn the taps gain what the servers see.
-use Rattle.std.proofs.Common.{◌≡◌, ◌∙◌, arith, refl, sym, le_trans}
+use Rattle.std.proofs.Common.{◌≡◌, ◌∙◌, arith, refl, subst, le_trans}
 use Rattle.tk_shape.specs.Lengths.{turn_count}
-use Rattle.tk_words.specs.Words.{words_of}
-use Rattle.tk_cli.proofs.TurnLaws.{placed-first, servers-first, taps-first, taps-next, taps-all}
+use Rattle.tk_cli.specs.Runs.{IsRunBefore}
+use Rattle.tk_cli.specs.Servers.{nothing_seen}
+use Rattle.tk_cli.proofs.TurnLaws.{taps-first, taps-next, taps-all}
 use Rattle.tk_cli.proofs.TurnLaws.{fronts-next}
 use Rattle.tk_cli.proofs.turns.take_all_turns.Goals as goal
 
@@ -10,14 +11,9 @@ pub turns-init : goal.turns-init
 turns-init g c =
     let S = c.args.script.now in
     let book = g.D.Draws.book c.args.draws.now in
-    let words = words_of S.shape book in
     let H = c.args.history.now in
     record {
-      order = c.requires.order;
-      shape = c.requires.shape;
-      before = c.requires.empty ∙ sym (placed-first S words H);
-      servers = servers-first S words H c.args.servers.now c.requires.servers;
-      readers = c.requires.readers;
+      run = c.requires.run;
       taps = taps-first S book H (g.T.Taps.tap c.args.taps.now);
       others = λ j out. refl;
       counts = omega arith;
@@ -28,7 +24,7 @@ returns-in-Err-clause-err g c =
     let S = c.args.script.now in
     let tap = g.T.Taps.tap in
     fronts-next S (g.D.Draws.book c.args.draws.now) c.args.history.now c.turns.turn
-    (tap c.args.taps.now) (tap c.turns.taps) (tap c.take_turn-taken.new.taps)
+    (tap c.args.taps.now) (tap c.turns.taps) (tap c.take_turn.new.taps)
     (omega (arith, c.turns-test.true))
     c.turns.invariant.taps c.in-Err.ensures.err
 
@@ -47,14 +43,18 @@ turns-preserved g c =
     let is = c.turns.invariant in
     let took = c.in-Ok.ensures in
     record {
-      order = took.order;
-      shape = took.shape;
-      before = took.before;
-      servers = took.servers;
-      readers = took.readers;
+      run = took.run;
       taps = taps-next S (g.D.Draws.book c.args.draws.now) c.args.history.now c.turns.turn
-          (tap c.args.taps.now) (tap c.turns.taps) (tap c.take_turn-taken.new.taps)
+          (tap c.args.taps.now) (tap c.turns.taps) (tap c.take_turn.new.taps)
           is.taps took.ok;
       others = λ j out. took.others j out ∙ is.others j out;
       counts = le_trans is.counts took.counts;
     }
+
+pub returns-clause-run : goal.returns-clause-run
+returns-clause-run g c =
+    let S = c.args.script.now in
+    let book = g.D.Draws.book c.args.draws.now in
+    let all : c.turns.turn ≡ turn_count S.shape = omega arith in
+    subst (λ n. IsRunBefore S book c.args.history.now n nothing_seen c.turns.run) all
+    c.turns.invariant.run

@@ -8,17 +8,17 @@ use Rattle.tk_script.specs.Stands.{stands}
 use Rattle.tk_script.specs.declared.script.Script.{Script}
 use Rattle.tk_script.proofs.AnswerLaws.{gives_err, gives_weaker, tells_err, told_same, same_refused}
 use Rattle.tk_script.proofs.PlaceLaws.{same_place}
-use Rattle.tk_script.proofs.ScriptLaws.{same_input, keyed_tape, keyed_found, keyed_built, drawn_tape, drawn_here, tape_of_drawn}
+use Rattle.tk_script.proofs.ScriptLaws.{same_input, keyed_tape, keyed_found, drawn_tape, drawn_here, tape_of_drawn}
 use Rattle.tk_script.proofs.SectionLaws.{front, input_script_refused, input_script}
 use Rattle.tk_script.proofs.parsing.parse.Goals as goal
 
 pub returns-in_err-first-clause-only : goal.returns-in_err-first-clause-only
-returns-in_err-first-clause-only c input built s =
+returns-in_err-first-clause-only c input s =
     let out : c.from_residual.result ≡ Err c.in_err-first.field-0.0 = search rules in
     let begins = subst (λ ls. BeginsWithScript ls input.first s.rest)
     (sym (ap lines_of c.front.ensures.whole)) s.script in
     gives_err c.from_residual.result c.in_err-first.field-0.0 _ out
-    (c.in_err-first.ensures.only input.first s.rest built begins)
+    (c.in_err-first.ensures.only input.first s.rest begins)
 
 pub returns-in_err-first-clause-read : goal.returns-in_err-first-clause-read
 returns-in_err-first-clause-read c =
@@ -40,17 +40,12 @@ returns-then-is_some-clause-found c =
     keyed_found c.keyed_input.result c.in_ok-first.first c.args.text.now
     (lines_of c.in_ok-first.rest.rest.now) begins keyed c.keyed_input.ensures.found
 
-pub returns-then-is_some-clause-built : goal.returns-then-is_some-clause-built
-returns-then-is_some-clause-built c =
-    keyed_built c.keyed_input.result c.in_ok-first.first (lines_of c.in_ok-first.rest.rest.now)
-    c.in_ok-first.ensures.built c.keyed_input.ensures.found
-
 pub returns-then-is_some-clause-only : goal.returns-then-is_some-clause-only
-returns-then-is_some-clause-only c input built s =
+returns-then-is_some-clause-only c input s =
     let keyed : is_some c.in_ok-first.first.keys ≡ true = search rules in
     let begins = subst (λ ls. BeginsWithScript ls input.first s.rest)
     (sym (ap lines_of c.front.ensures.whole)) s.script in
-    let script = c.in_ok-first.ensures.only input.first s.rest built begins in
+    let script = c.in_ok-first.ensures.only input.first s.rest begins in
     let tape = keyed_tape input.first.shape input.first.keys s.rest input.tape
     (ap (λ (S : Script). is_some S.keys) (sym script.0) ∙ keyed) s.tape in
     gives_weaker c.keyed_input.result
@@ -71,12 +66,12 @@ returns-then-is_some-clause-read c =
     (first ∙ ap (λ k. read_end k (stands c.in_ok-first.rest)) keyed) c.keyed_input.ensures.read
 
 pub returns-in_err-tape-clause-only : goal.returns-in_err-tape-clause-only
-returns-in_err-tape-clause-only c input built s =
+returns-in_err-tape-clause-only c input s =
     let out : c.from_residual-in_err-tape.result ≡ Err c.in_err-tape.field-0.0 = search rules in
     let drawn : is_some c.in_ok-first.first.keys ≡ false = search rules in
     let begins = subst (λ ls. BeginsWithScript ls input.first s.rest)
     (sym (ap lines_of c.front.ensures.whole)) s.script in
-    let script = c.in_ok-first.ensures.only input.first s.rest built begins in
+    let script = c.in_ok-first.ensures.only input.first s.rest begins in
     let tape = drawn_tape input.first.shape input.first.keys s.rest input.tape
     (ap (λ (S : Script). is_some S.keys) (sym script.0) ∙ drawn) s.tape in
     gives_err c.from_residual-in_err-tape.result c.in_err-tape.field-0.0 _ out
@@ -99,11 +94,11 @@ returns-in_err-tape-clause-read c =
     (first ∙ ap (λ k. read_end k (stands c.in_ok-first.rest)) drawn) c.in_err-tape.ensures.read)
 
 pub returns-clause-only : goal.returns-clause-only
-returns-clause-only c input built s =
+returns-clause-only c input s =
     let drawn : is_some c.in_ok-first.first.keys ≡ false = search rules in
     let begins = subst (λ ls. BeginsWithScript ls input.first s.rest)
     (sym (ap lines_of c.front.ensures.whole)) s.script in
-    let script = c.in_ok-first.ensures.only input.first s.rest built begins in
+    let script = c.in_ok-first.ensures.only input.first s.rest begins in
     let tape = drawn_tape input.first.shape input.first.keys s.rest input.tape
     (ap (λ (S : Script). is_some S.keys) (sym script.0) ∙ drawn) s.tape in
     let same = c.in_ok-tape.ensures.only tape.value (drawn_here c.in_ok-first.first.shape

@@ -8,10 +8,10 @@ use Rattle.tk_script.proofs.round_trip.parse_printed.Goals as goal
 
 pub returns : goal.returns
 returns c = record {
-  same = λ keys keyed built.
+  same = λ keys keyed.
       let S = c.args.script.now in
       let input : Input = record { first = S; tape = None } in
       let text : c.as_slice.result.now ≡ printed S = search rules in
       let spells = prints_keyed S keys keyed c.in_ok-print.ensures.has in
-      c.parse.ensures.only input built (subst (λ t. Spells t input) (sym text) spells);
+      c.parse.ensures.only input (subst (λ t. Spells t input) (sym text) spells);
 }

@@ -16,11 +16,11 @@ returns-in_err-rest-clause-read c =
     (head_words_refused c.in_err-rest.field-0.0 (stands c.args.start) c.in_err-rest.ensures.read)
 
 pub returns-in_err-shape-clause-only : goal.returns-in_err-shape-clause-only
-returns-in_err-shape-clause-only c shape keyed behind built may e =
+returns-in_err-shape-clause-only c shape keyed behind may e =
     let out : c.from_residual-in_err-shape.result ≡ Err c.in_err-shape.field-0.0 = search rules in
     let rest = c.in_ok-rest.ensures.only (shape_line shape ∷ kind_words keyed ∷ behind) e in
     gives_err c.from_residual-in_err-shape.result c.in_err-shape.field-0.0 _ out
-    (c.in_err-shape.ensures.only shape (kind_words keyed ∷ behind) built rest)
+    (c.in_err-shape.ensures.only shape (kind_words keyed ∷ behind) rest)
 
 pub returns-in_err-shape-clause-read : goal.returns-in_err-shape-clause-read
 returns-in_err-shape-clause-read c =
@@ -32,10 +32,10 @@ returns-in_err-shape-clause-read c =
     c.in_err-shape.field-0.0 c.in_err-shape.ensures.read)
 
 pub returns-in_err-keyed-clause-only : goal.returns-in_err-keyed-clause-only
-returns-in_err-keyed-clause-only c shape keyed behind built may e =
+returns-in_err-keyed-clause-only c shape keyed behind may e =
     let out : c.from_residual-in_err-keyed.result ≡ Err c.in_err-keyed.field-0.0 = search rules in
     let rest = c.in_ok-rest.ensures.only (shape_line shape ∷ kind_words keyed ∷ behind) e in
-    let read = c.in_ok-shape.ensures.only shape (kind_words keyed ∷ behind) built rest in
+    let read = c.in_ok-shape.ensures.only shape (kind_words keyed ∷ behind) rest in
     gives_err c.from_residual-in_err-keyed.result c.in_err-keyed.field-0.0 _ out
     (c.in_err-keyed.ensures.only keyed behind
     (subst (λ z. MayBeOfKind z keyed) (sym read.0) may) read.1)
@@ -51,9 +51,9 @@ returns-in_err-keyed-clause-read c =
     c.in_err-keyed.field-0.0 c.in_err-keyed.ensures.read)
 
 pub returns-clause-only : goal.returns-clause-only
-returns-clause-only c shape keyed behind built may e =
+returns-clause-only c shape keyed behind may e =
     let rest = c.in_ok-rest.ensures.only (shape_line shape ∷ kind_words keyed ∷ behind) e in
-    let read = c.in_ok-shape.ensures.only shape (kind_words keyed ∷ behind) built rest in
+    let read = c.in_ok-shape.ensures.only shape (kind_words keyed ∷ behind) rest in
     let kind = c.in_ok-keyed.ensures.only keyed behind
     (subst (λ z. MayBeOfKind z keyed) (sym read.0) may) read.1 in
     (read.0, kind.0, kind.1)

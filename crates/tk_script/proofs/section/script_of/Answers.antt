@@ -13,11 +13,11 @@ use Rattle.tk_script.proofs.SectionLaws.{script_head_refused, script_roles_refus
 use Rattle.tk_script.proofs.section.script_of.Goals as goal
 
 pub returns-in_err-shape-clause-only : goal.returns-in_err-shape-clause-only
-returns-in_err-shape-clause-only c script behind built s =
+returns-in_err-shape-clause-only c script behind s =
     let out : c.from_residual.result ≡ Err c.in_err-shape.field-0.0 = search rules in
     let lines = script_lines (lines_of c.args.start.rest.now) script behind s in
     let rest = behind_head script s.key_lines behind in
-    let head = c.in_err-shape.ensures.only script.shape (is_some script.keys) rest built
+    let head = c.in_err-shape.ensures.only script.shape (is_some script.keys) rest
     (may_be script.shape script.keys script.sound.tape_fits) lines in
     gives_err c.from_residual.result c.in_err-shape.field-0.0 _ out head
 
@@ -29,11 +29,11 @@ returns-in_err-shape-clause-read c =
     (script_head_refused c.in_err-shape.field-0.0 (stands c.args.start) c.in_err-shape.ensures.read)
 
 pub returns-in_err-roles-clause-only : goal.returns-in_err-roles-clause-only
-returns-in_err-roles-clause-only c script behind built s =
+returns-in_err-roles-clause-only c script behind s =
     let out : c.from_residual-in_err-roles.result ≡ Err c.in_err-roles.field-0.0 = search rules in
     let lines = script_lines (lines_of c.args.start.rest.now) script behind s in
     let rest = behind_head script s.key_lines behind in
-    let head = c.in_ok-shape.ensures.only script.shape (is_some script.keys) rest built
+    let head = c.in_ok-shape.ensures.only script.shape (is_some script.keys) rest
     (may_be script.shape script.keys script.sound.tape_fits) lines in
     let texts = map say_line script.says ++ codes "end" ∷ behind in
     let others = s.key_lines ++ texts in
@@ -54,11 +54,11 @@ returns-in_err-roles-clause-read c =
     c.in_err-roles.field-0.0 c.in_err-roles.ensures.read)
 
 pub returns-in_err-keys-clause-only : goal.returns-in_err-keys-clause-only
-returns-in_err-keys-clause-only c script behind built s =
+returns-in_err-keys-clause-only c script behind s =
     let out : c.from_residual-in_err-keys.result ≡ Err c.in_err-keys.field-0.0 = search rules in
     let lines = script_lines (lines_of c.args.start.rest.now) script behind s in
     let rest = behind_head script s.key_lines behind in
-    let head = c.in_ok-shape.ensures.only script.shape (is_some script.keys) rest built
+    let head = c.in_ok-shape.ensures.only script.shape (is_some script.keys) rest
     (may_be script.shape script.keys script.sound.tape_fits) lines in
     let texts = map say_line script.says ++ codes "end" ∷ behind in
     let others = s.key_lines ++ texts in
@@ -83,11 +83,11 @@ returns-in_err-keys-clause-read c =
     c.in_err-keys.field-0.0 c.in_err-keys.ensures.read)
 
 pub returns-in_err-says-clause-only : goal.returns-in_err-says-clause-only
-returns-in_err-says-clause-only c script behind built s =
+returns-in_err-says-clause-only c script behind s =
     let out : c.from_residual-in_err-says.result ≡ Err c.in_err-says.field-0.0 = search rules in
     let lines = script_lines (lines_of c.args.start.rest.now) script behind s in
     let rest = behind_head script s.key_lines behind in
-    let head = c.in_ok-shape.ensures.only script.shape (is_some script.keys) rest built
+    let head = c.in_ok-shape.ensures.only script.shape (is_some script.keys) rest
     (may_be script.shape script.keys script.sound.tape_fits) lines in
     let texts = map say_line script.says ++ codes "end" ∷ behind in
     let others = s.key_lines ++ texts in
@@ -116,10 +116,10 @@ returns-in_err-says-clause-read c =
     c.in_err-says.field-0.0 c.in_err-says.ensures.read)
 
 pub returns-clause-only : goal.returns-clause-only
-returns-clause-only c script behind built s =
+returns-clause-only c script behind s =
     let lines = script_lines (lines_of c.args.start.rest.now) script behind s in
     let rest = behind_head script s.key_lines behind in
-    let head = c.in_ok-shape.ensures.only script.shape (is_some script.keys) rest built
+    let head = c.in_ok-shape.ensures.only script.shape (is_some script.keys) rest
     (may_be script.shape script.keys script.sound.tape_fits) lines in
     let texts = map say_line script.says ++ codes "end" ∷ behind in
     let others = s.key_lines ++ texts in

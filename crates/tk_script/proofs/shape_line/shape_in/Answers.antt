@@ -12,7 +12,7 @@ use Rattle.tk_script.proofs.ShapeLaws.{numbers_are_words}
 use Rattle.tk_script.proofs.shape_line.shape_in.Goals as goal
 
 pub returns-in_default-clause-only : goal.returns-in_default-clause-only
-returns-in_default-clause-only c shape e built =
+returns-in_default-clause-only c shape e =
     absurd (never c.in_ok-numbers.field-0 (λ v. v.items ≡ numbers_of shape) c.in_default.is
     (c.in_ok-numbers.ensures.only (numbers_of shape) (numbers_are_words shape) e))
 
@@ -23,12 +23,12 @@ returns-in_default-clause-read c =
     (c.in_ok-numbers.ensures.only ns words e)))
 
 pub returns-clause-only : goal.returns-clause-only
-returns-clause-only c shape e built =
+returns-clause-only c shape e =
     let read = the_some c.in_ok-numbers.field-0 (λ v. v.items ≡ numbers_of shape) c.in-Some.numbers
     c.in-Some.is
     (c.in_ok-numbers.ensures.only (numbers_of shape) (numbers_are_words shape) e)
     in
-    c.shape_from.ensures.only shape (sym (c.as_slice.ensures.value ∙ read)) built
+    c.shape_from.ensures.only shape (sym (c.as_slice.ensures.value ∙ read))
 
 pub returns-clause-read : goal.returns-clause-read
 returns-clause-read c =

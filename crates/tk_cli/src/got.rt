@@ -1,9 +1,0 @@
-use tk_shape::Bytes;
-
-/// What a reader knows of one number of a log.
-#[derive(Debug, Drop)]
-pub(crate) enum Got {
-    /// A later number came, and this one had not.
-    Absent,
-    Text(Bytes),
-}

@@ -1,0 +1,52 @@
+use crate::{Status, status_line};
+use std::test::Fail;
+use tk_script::Cause;
+use tk_shape::Field;
+
+#[test]
+fn status_lines(rt: HostRuntime) -> Result<(), Fail> {
+    let alloc = rt.alloc();
+    let refused = Status::Script {
+        line: 2,
+        cause: Cause::Shape {
+            field: Field::Work,
+            value: 549755813889,
+        },
+    };
+    for (status, line, code) in [
+        (Status::Done, "", 0),
+        (Status::Memory, "talek: memory", 1),
+        (Status::Usage, "talek: usage", 2),
+        (refused, "talek: line 2: shape work 549755813889", 3),
+        (Status::Read, "talek: read", 4),
+        (Status::Write, "talek: write", 5),
+        (Status::TooLong, "talek: input over 8388608 bytes", 6),
+        (Status::Tape { want: 256, got: 0 }, "talek: tape 256 0", 9),
+        (Status::Later { line: 12 }, "talek: later line 12", 11),
+    ] {
+        let mut out = Vec::new(alloc);
+        status_line(alloc, &status, &mut out)?;
+        assert_eq!(rt; out.as_slice(), line.as_bytes());
+        assert_eq!(rt; status.code(), code);
+    }
+    Ok(())
+}
+
+#[test]
+fn causes(rt: HostRuntime) -> Result<(), Fail> {
+    let alloc = rt.alloc();
+    for (cause, line) in [
+        (Cause::Early, "talek: line 5: early"),
+        (Cause::Form, "talek: line 5: form"),
+        (Cause::Number { value: 7 }, "talek: line 5: number 7"),
+        (Cause::Order, "talek: line 5: order"),
+        (Cause::Room { room: 6 }, "talek: line 5: room 6"),
+        (Cause::Text { at: 0 }, "talek: line 5: text 0"),
+        (Cause::After, "talek: line 5: after"),
+    ] {
+        let mut out = Vec::new(alloc);
+        status_line(alloc, &Status::Script { line: 5, cause }, &mut out)?;
+        assert_eq!(rt; out.as_slice(), line.as_bytes());
+    }
+    Ok(())
+}
