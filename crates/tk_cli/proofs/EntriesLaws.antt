@@ -12,10 +12,6 @@ use Rattle.tk_frames.specs.Order.{is_mark_entry}
 use Rattle.tk_cli.specs.Entries.{placed_from, placed_after, entries_before}
 use Rattle.tk_cli.proofs.OrderLaws.{entry_of, placed_after-append}
 
-pub no-turn : (write : ℕ → ℕ → WriteFrame) (H : History) → entries_before write H 0 ≡ []
-unfolding entries_before
-no-turn write H = refl
-
 pub no-item : (write : ℕ → WriteFrame) (E : List Placed) → E ++ placed_after write E [] ≡ E
 unfolding placed_from
 no-item write E = append-nil E

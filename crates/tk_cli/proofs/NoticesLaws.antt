@@ -102,20 +102,6 @@ drop_none : {X : Type 0} (n : ℕ) → drop {A = X} n [] ≡ []
 drop_none zero = refl
 drop_none (suc n) = refl
 
--- before any entry nothing is shown
-pub notices-none : (n : Notices) → n.window ≡ kept_of n.shape [] →
-    ((hits : List ℕ) → all_marked n.shown hits ≡ is_shown_in (positions_in n.window.pushes) hits) →
-    AreNotices [] [] n
-notices-none n window shows =
-    let none : pushes_of n.shape [] ≡ [] =
-    ap (map (λ (r : Record). r.write.hits)) (drop_none (0 - n.shape.retained))
-    in
-    let here : n.window.pushes ≡ pushes_of n.shape [] = ap (λ (k : Kept). k.pushes) window ∙ sym none in
-    record {
-      window_is = window ∙ ap (kept_of n.shape) (sym none);
-      shows = shows-window n.shape [] n.shown n.window.pushes here shows;
-    }
-
 -- ---- several entries
 
 pub taken-none : (R shown : List Record) (n : Notices) → AreNotices R shown n →

@@ -11,7 +11,7 @@ use Rattle.tk_frames.specs.declared.entry.Placed.{Placed}
 use Rattle.tk_frames.specs.declared.entry.Entry.{Entry}
 use Rattle.tk_frames.specs.declared.entry.Entry.TheVariants.{Write, Mark}
 use Rattle.tk_frames.specs.Order.{records, before, has_mark, is_mark_of, is_mark_entry}
-use Rattle.tk_frames.proofs.Marks.{before-settled, before-marked, before-unmarked}
+use Rattle.tk_frames.proofs.Marks.{before-settled, before-marked}
 use Rattle.tk_cli.specs.Orders.{AreEnds, ArePlacedFrom}
 use Rattle.tk_cli.specs.Entries.{placed_from, placed_after}
 
@@ -112,10 +112,6 @@ pub ends-mark-at : (E : List Placed) (ends : List ℕ) (position epoch end : ℕ
     AreEnds (E ++ record { position = position; entry = Mark epoch } ∷ []) (ends ++ end ∷ [])
 ends-mark-at E ends position epoch end are number place = rw (number, place) (ends-mark E ends position are)
 
--- what stands before the mark of an epoch that has none: all
-pub before_none : (E : List Placed) (ends : List ℕ) (e : ℕ) → AreEnds E ends → length ends ≤ e → records E ≡ before E e
-before_none E ends e are past = sym (before-unmarked E e (omega (arith, past, are.counted)) (are.unmarked e past))
-
 -- what stands before one that has a mark, or before epoch 0
 pub before_some : (E : List Placed) (ends : List ℕ) (e : ℕ) → AreEnds E ends → e < length ends → records (take (slice_index ends e) E) ≡ before E e
 unfolding before
@@ -127,11 +123,6 @@ before_some E ends (suc e) are within = are.before_is (suc e) (omega arith) with
 pub placed-append : (p : ℕ) (E : List Placed) (q : Placed) → ArePlacedFrom p E → q.position ≡ p + length E → ArePlacedFrom p (E ++ q ∷ [])
 placed-append p [] q are here = (omega (arith, here), tt)
 placed-append p (x ∷ E) q are here = (are.0, placed-append (p + 1) E q are.1 (omega (arith, here)))
-
-pub placed-take : (p n : ℕ) (E : List Placed) → ArePlacedFrom p E → ArePlacedFrom p (take n E)
-placed-take p zero E are = tt
-placed-take p (suc n) [] are = tt
-placed-take p (suc n) (x ∷ E) are = (are.0, placed-take (p + 1) n E are.1)
 
 -- ---- the entries of a turn, one by one
 

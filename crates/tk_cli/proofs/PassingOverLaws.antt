@@ -25,7 +25,8 @@ use Rattle.tk_client.specs.declared.got.Got.TheVariants.{Absent, Text}
 use Rattle.tk_cli.specs.Bloom.{is_shown}
 use Rattle.tk_cli.specs.Entries.{entries}
 use Rattle.tk_client.specs.Client.{Follow, Reader, Target, next_of, new_follow, untried}
-use Rattle.tk_client.specs.Client.{at_epoch, wanted, follow_at, places_from_cursor, target}
+use Rattle.tk_client.specs.Client.{at_epoch, wanted, follow_at, number_ahead, target_in, target}
+use Rattle.tk_client.specs.Client.{places_from_cursor}
 use Rattle.tk_client.specs.Client.{follow_after, after_read}
 use Rattle.tk_cli.specs.Report.{lookup, is_follower, read_over, target_for, answer_for}
 use Rattle.tk_client.specs.Readers.{first_got, got_in}
@@ -138,24 +139,18 @@ option_map-from : {X Y : Type 0} (f : X → Y) (o : Option X) (y : Y) → option
 option_map-from f None y e = absurd (cc e)
 option_map-from f (Some x) y e = (x, refl, some_inj (f x) y e)
 
--- the number of a log that is so far ahead of the next one
-abbrev number_ahead : Reader → ℕ → ℕ → Target
-number_ahead r i j =
-    record { place = i; log = (follow_at r i).log; number = next_of (follow_at r i) + j; ahead = j }
-
 target-is : (shape : Shape) (shown : ℕ → ℕ → Bool) (r : Reader) (t : Target) →
     target shape shown r ≡ Some t → IsTargetOf shape shown r t
 unfolding target
 target-is shape shown r t e =
     let given = first_some-from
-    (λ i. option_map (number_ahead r i) (wanted shape shown (follow_at r i)))
-    (places_from_cursor r) t e
+    (target_in shape shown r.follows) (places_from_cursor r) t e
     in
     let i = given.0 in
     let wants = wanted shape shown (follow_at r i) in
-    let number = option_map-from (number_ahead r i) wants t given.1 in
+    let number = option_map-from (number_ahead i (follow_at r i)) wants t given.1 in
     let j = number.0 in
-    let here : IsTargetOf shape shown r (number_ahead r i j) = record {
+    let here : IsTargetOf shape shown r (number_ahead i (follow_at r i) j) = record {
       of_log = refl;
       of_number = refl;
       is_wanted = wanted-is shape shown (follow_at r i) j number.1;

@@ -129,16 +129,6 @@ pub record AreAsked (shape : Shape) (R shown : List Record) (seen : ℕ → List
   pub left : (k : ℕ) (d : Server) → i ≤ k → k < length servers →
       IsServer shape R shown (seen (k + 1)) (slice_index_or servers k d)
 
-pub asked-none : (shape : Shape) (R shown : List Record) (seen : ℕ → List ℕ)
-    (reads : List ReadFrame) (servers : List Server) → AreServers shape R shown seen servers →
-    AreAsked shape R shown seen reads 0 servers
-asked-none shape R shown seen reads servers are =
-    record {
-      counted = are.counted;
-      asked = λ k d before low. absurd (omega (arith, before));
-      left = λ k d from low. are.each k d low;
-    }
-
 pub asked-one : (shape : Shape) (R shown : List Record) (seen : ℕ → List ℕ)
     (reads : List ReadFrame) (servers : List Server) (i : ℕ) (read : ReadFrame) (new : Server) →
     i < length servers →

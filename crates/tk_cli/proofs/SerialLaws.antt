@@ -45,11 +45,6 @@ no_tape : (shape : Shape) (keys : Option Keys) (lines : List Line) (tape : Optio
 no_tape shape None lines tape t is none = search rules
 no_tape shape (Some keys) lines tape t is none = search rules
 
-pub drawn_has_tape : (bytes : List ℕ) (input : Input) → Spells bytes input →
-    input.first.keys ≡ None → input.tape ≡ None → ⊥
-drawn_has_tape bytes input s is none =
-    no_tape input.first.shape input.first.keys s.rest input.tape s.tape is none
-
 -- where as many bytes were counted as the shape wants, as many are kept
 all_kept : (size limit : ℕ) (bytes : List ℕ) → min (length bytes) limit ≡ size →
     length (take size bytes) ≡ size

@@ -80,23 +80,8 @@ taps-twice n a b t u v first second j low high =
     second j low high ∙ ap (λ (w : Tap). gained w (b j)) (first j low high)
     ∙ gained-twice (t j) (a j) (b j)
 
-pub taps-then_fronts : (n : ℕ) (a b : Bytes) (t u v : AllTaps) →
-    TapsGain n a t u → TapsGainFronts n b u v → TapsGainFronts n (λ j. a j ++ b j) t v
-taps-then_fronts n a b t u v first second j low high =
-    front-of_second (t j) (u j) (v j) (a j) (b j) (first j low high) (second j low high)
-
-pub fronts-of_first : (n : ℕ) (a b : Bytes) (t u : AllTaps) → TapsGainFronts n a t u →
-    TapsGainFronts n (λ j. a j ++ b j) t u
-fronts-of_first n a b t u fronts j low high =
-    front-of_first (t j) (u j) (a j) (b j) (fronts j low high)
-
 pub fronts-of_all : (n : ℕ) (a : Bytes) (t u : AllTaps) → TapsGain n a t u → TapsGainFronts n a t u
 fronts-of_all n a t u all j low high = front-of_all (t j) (u j) (a j) (all j low high)
-
--- taps that gained nothing have a front of anything
-pub fronts-of_none : (n : ℕ) (a : Bytes) (t u : AllTaps) →
-    ((j : ℕ) → 1 ≤ j → j ≤ n → u j ≡ t j) → TapsGainFronts n a t u
-fronts-of_none n a t u stay j low high = (0, stay j low high ∙ sym (gained-nothing (t j)))
 
 -- what bytes give for the taps alone matters
 abbrev SameBytes : ℕ → Bytes → Bytes → Type 0
@@ -105,11 +90,6 @@ SameBytes n a b = (j : ℕ) → 1 ≤ j → j ≤ n → a j ≡ b j
 pub taps-same : (n : ℕ) (a b : Bytes) (t u : AllTaps) → SameBytes n a b → TapsGain n a t u →
     TapsGain n b t u
 taps-same n a b t u same all j low high = all j low high ∙ ap (gained (t j)) (same j low high)
-
-pub fronts-same : (n : ℕ) (a b : Bytes) (t u : AllTaps) → SameBytes n a b →
-    TapsGainFronts n a t u → TapsGainFronts n b t u
-fronts-same n a b t u same fronts j low high =
-    subst (GainsFront (t j) (u j)) (same j low high) (fronts j low high)
 
 -- ---- servers that give to their taps
 

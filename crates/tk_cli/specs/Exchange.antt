@@ -1,5 +1,5 @@
 -- What each server sees of a run, and what it replies.
-use Rattle.std.specs.Prelude.{ℕ, ◌-◌, List, [], ◌∷◌, ◌++◌, map, flat_map, slice_index_or}
+use Rattle.std.specs.Prelude.{ℕ, List, [], ◌∷◌, ◌++◌, map, flat_map}
 use Rattle.std.specs.List.{range_with_len}
 use Rattle.tk_shape.specs.declared.shape.Shape.{Shape}
 use Rattle.tk_shape.specs.Lengths.{turn_count, vector_len, width}
@@ -15,7 +15,7 @@ use Rattle.tk_frames.specs.declared.reply_frame.ReplyFrame.{ReplyFrame}
 use Rattle.tk_frames.specs.Spelling.{placed_frame, read_frame, reply_frame}
 use Rattle.tk_frames.specs.Order.{Record}
 use Rattle.tk_table.specs.Table.{layout, blocks_of}
-use Rattle.tk_client.specs.Asked.{pair_for}
+use Rattle.tk_client.specs.Asked.{pair_for, frame_with}
 use Rattle.tk_cli.specs.Entries.{write_at, entries_at}
 use Rattle.tk_cli.specs.Report.{target_at, read_over}
 
@@ -24,23 +24,14 @@ use Rattle.tk_cli.specs.Report.{target_at, read_over}
 unfoldable pub read_pair : Script → BookWords → History → ℕ → ℕ → ℕ × ℕ
 read_pair S w H g c = pair_for w g c (target_at S w H g c)
 
--- the vector of server j among the shares of a bucket
-abbrev pub share_at : Shape → ℕ → ℕ → List (List ℕ) → List ℕ
-share_at shape j bucket drawn =
-    slice_index_or (shares (vector_len shape) bucket drawn) (j - 1) []
-
 -- the read frame that a client sends to server j in a turn
 unfoldable pub read_at : Script → WordBook → History → ℕ → ℕ → ℕ → ReadFrame
 read_at S b H g c j =
+    let size = vector_len S.shape in
     let pair = read_pair S (words_of S.shape b) H g c in
     let drawn = fresh_vectors S.shape b g c in
-    record {
-      client = c;
-      turn = g;
-      epoch = epoch_at H g c;
-      first = share_at S.shape j pair.0 drawn.first;
-      second = share_at S.shape j pair.1 drawn.second;
-    }
+    frame_with g c (epoch_at H g c) (shares size pair.0 drawn.first) (shares size pair.1 drawn.second)
+    j
 
 -- the reply to a read over these writes
 abbrev pub reply_to : Shape → List Record → ReadFrame → ReplyFrame

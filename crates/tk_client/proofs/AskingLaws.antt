@@ -14,9 +14,8 @@ use Rattle.std.proofs.lemmas.List.Concat.{concat_is}
 use Rattle.std.proofs.lemmas.List.FromFn.{map-range_with_len_more}
 use Rattle.std.proofs.lemmas.Nat.{div-add-mod', ones_cat, zero_from_ones, le-div, mod-mul-add}
 use Rattle.tk_shape.specs.declared.shape.Shape.{Shape}
-use Rattle.tk_shape.specs.Lengths.{turn_count, vector_len, read_cell_len}
+use Rattle.tk_shape.specs.Lengths.{turn_count, vector_len}
 use Rattle.tk_handle.specs.Handle.{key_bytes}
-use Rattle.tk_handle.proofs.KeyBytes.{length-key_bytes}
 use Rattle.tk_kernel.specs.Pieces.{pieces, all_pieces, AllSized}
 use Rattle.tk_kernel.specs.Xor.{xor_all}
 use Rattle.tk_kernel.proofs.Sums.{length-xor_bytes, length-xor_all}
@@ -25,9 +24,8 @@ use Rattle.tk_kernel.proofs.Cuts.{concat-all_pieces, length-pieces, AllSized-pie
 use Rattle.tk_kernel.proofs.Cuts.{AllSized-all_pieces}
 use Rattle.tk_bits.specs.Shares.{unit_vector, last_share, shares}
 use Rattle.tk_bits.proofs.Vectors.{length-unit_vector}
-use Rattle.tk_words.specs.Words.{WordBook, keyed, drawn, IsBook, words_of, DrawnVectors, vectors_of}
-use Rattle.tk_words.specs.Words.{fresh_vectors, seed_at, read_part, read_cell}
-use Rattle.tk_words.specs.CellLaws.{place_within, length-read_part, length-piece}
+use Rattle.tk_words.specs.Words.{WordBook, keyed, drawn, words_of, DrawnVectors, vectors_of}
+use Rattle.tk_words.specs.Words.{fresh_vectors, seed_at, read_cell}
 use Rattle.tk_frames.specs.declared.read_frame.ReadFrame.{ReadFrame}
 use Rattle.tk_frames.specs.Ranges.{IsRead}
 use Rattle.tk_client.specs.Client.{Target}
@@ -139,27 +137,6 @@ vectors_of-whole shape bytes long =
       first_sized = sized.0;
       second_sized = sized.1;
     }
-
--- those of a client's turn
-pub fresh_whole : (shape : Shape) (b : WordBook) (g c : ℕ) → IsBook shape b → g < turn_count shape →
-    c < shape.clients →
-    AreWhole shape (fresh_vectors shape b g c)
-unfolding fresh_vectors
-fresh_whole shape (keyed handles seeds) g c is turn_in client_in =
-    let long = 2 * (shape.servers - 1) * vector_len shape in
-    let is_long = length-key_bytes (seed_at seeds c) (2 * g + 1) 16 long in
-    vectors_of-whole shape (key_bytes (seed_at seeds c) (2 * g + 1) 16 long)
-    (omega (arith, is_long))
-fresh_whole shape (drawn tape) g c is turn_in client_in =
-    let cell = read_cell shape tape g c in
-    let part = read_part shape tape in
-    let size = read_cell_len shape in
-    let place = place_within g c (turn_count shape) shape.clients size turn_in client_in in
-    let within : (g * shape.clients + c + 1) * size ≤ length part =
-    rw (length-read_part shape tape is) place
-    in
-    let long = length-piece size (g * shape.clients + c) part within in
-    vectors_of-whole shape (drop 8 cell) (omega (arith, long, length-drop 8 cell))
 
 -- how long joined pieces are, where there may be too few bytes for them
 length-joined_pieces : (size count : ℕ) (bytes : List ℕ) →

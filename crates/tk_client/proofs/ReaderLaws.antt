@@ -13,7 +13,8 @@ use Rattle.tk_table.specs.Lists.{first_some}
 use Rattle.tk_client.specs.Client.{Follow, untried, follow_after, Reader, at_epoch}
 use Rattle.tk_client.specs.Client.{Target, target, after_read}
 use Rattle.tk_client.specs.declared.got.Got.{Got}
-use Rattle.tk_client.specs.Readers.{follow_in, follow_anew, follows_anew, target_in}
+use Rattle.tk_client.specs.Client.{follow_in, target_in}
+use Rattle.tk_client.specs.Readers.{follows_anew}
 use Rattle.tk_client.specs.Readers.{first_got, got_in}
 
 -- ---- the first that is given
@@ -78,11 +79,6 @@ renewed-all (f ∷ fs) zero all = absurd (omega (arith, all))
 renewed-all (f ∷ fs) (suc n) all =
     ap (λ gs. untried f ∷ gs) (renewed-all fs n (omega (arith, all)))
 
-pub length-renewed : (n : ℕ) (fs : List Follow) → length (renewed n fs) ≡ length fs
-length-renewed zero fs = refl
-length-renewed (suc n) [] = refl
-length-renewed (suc n) (f ∷ fs) = ap suc (length-renewed n fs)
-
 -- what the one that is found gave; nothing where none is
 abbrev pub got_by : Option Follow → List Got
 got_by found = option_map_or (λ f. f.got) found []
@@ -101,11 +97,6 @@ get-untried : (fs : List Follow) (i : ℕ) → follow_in (map untried fs) i ≡ 
 get-untried [] i = refl
 get-untried (f ∷ fs) zero = refl
 get-untried (f ∷ fs) (suc i) = get-untried fs i
-
-pub follow_in-anew : (anew : Bool) (fs : List Follow) (i : ℕ) →
-    follow_in (follows_anew anew fs) i ≡ follow_anew anew (follow_in fs i)
-follow_in-anew true fs i = get-untried fs i
-follow_in-anew false fs i = refl
 
 pub length-anew : (anew : Bool) (fs : List Follow) → length (follows_anew anew fs) ≡ length fs
 length-anew true fs = length-map fs untried

@@ -75,14 +75,6 @@ refused-name shape c g e replies frames x frames_are none named =
     (ap (λ o. option_or o (first_other c g e 1 (frames_in shape replies))) none
     ∙ ap (first_other c g e 1) (sym frames_are) ∙ sym named)
 
-pub nothing-refused : (shape : Shape) (c g e : ℕ) (replies : List (List ℕ))
-    (frames : List ReplyFrame) → frames ≡ frames_in shape replies →
-    first_unread shape 1 replies ≡ None → None ≡ first_other c g e 1 frames →
-    refusal shape c g e replies ≡ None
-nothing-refused shape c g e replies frames frames_are none named =
-    ap (λ o. option_or o (first_other c g e 1 (frames_in shape replies))) none
-    ∙ ap (first_other c g e 1) (sym frames_are) ∙ sym named
-
 -- a fault of a frame that isn't want of memory is what a reply can't be read for
 pub unread-for : (shape : Shape) (server : ℕ) (reply : List ℕ) (e : FrameError) →
     (e ≡ frame_fault.Memory → ⊥) → IsRefusal (first_fault (reply_checks shape reply)) e →

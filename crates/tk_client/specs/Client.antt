@@ -59,8 +59,22 @@ wanted shape shown f =
     (find (λ j. nat_lt (next_of f + j) (turn_count shape) && shown f.log (next_of f + j))
     (range_with_len f.tried (shape.ahead - f.tried)))
 
+-- the log at a place of these
+abbrev pub follow_in : List Follow → ℕ → Follow
+follow_in follows i = slice_index_or follows i (new_follow 0)
+
 abbrev pub follow_at : Reader → ℕ → Follow
-follow_at r i = slice_index_or r.follows i (new_follow 0)
+follow_at r i = follow_in r.follows i
+
+-- the number of a log that is so far ahead of the next one
+abbrev pub number_ahead : ℕ → Follow → ℕ → Target
+number_ahead place f j =
+    record { place = place; log = f.log; number = next_of f + j; ahead = j }
+
+-- the number that is wanted of the log at a place of these, if one is
+abbrev pub target_in : Shape → (ℕ → ℕ → Bool) → List Follow → ℕ → Option Target
+target_in shape shown follows i =
+    option_map (number_ahead i (follow_in follows i)) (wanted shape shown (follow_in follows i))
 
 -- the places from the cursor on, and then those before it
 abbrev pub places_from_cursor : Reader → List ℕ
@@ -71,15 +85,7 @@ places_from_cursor r =
 -- The reader is the one at the read's epoch, and shown says which numbers of which logs its filter
 -- shows.
 unfoldable pub target : Shape → (ℕ → ℕ → Bool) → Reader → Option Target
-target shape shown r =
-    first_some
-    (λ i. option_map (λ j. record {
-      place = i;
-      log = (follow_at r i).log;
-      number = next_of (follow_at r i) + j;
-      ahead = j;
-    }) (wanted shape shown (follow_at r i)))
-    (places_from_cursor r)
+target shape shown r = first_some (target_in shape shown r.follows) (places_from_cursor r)
 
 -- a log after a read of the number that is j ahead: found, it and those before it are settled
 abbrev pub follow_after : Shape → ℕ → Option (List ℕ) → Follow → Follow

@@ -1,11 +1,11 @@
 -- A client as a reader: which of its logs a read is for, and what is kept of it.
-use Rattle.std.specs.Prelude.{◌+◌, ◌<◌, ◌≤◌, ℕ, ◌==◌, nat_lt, Bool, ◌&&◌, cond, All}
-use Rattle.std.specs.Prelude.{List, [], ◌∷◌, map, filter, slice_index_or}
-use Rattle.std.specs.Prelude.{Option, Some, None, option_map}
+use Rattle.std.specs.Prelude.{◌<◌, ◌≤◌, ℕ, ◌==◌, nat_lt, Bool, ◌&&◌, cond, All}
+use Rattle.std.specs.Prelude.{List, [], ◌∷◌, map, filter}
+use Rattle.std.specs.Prelude.{Option, Some, None}
 use Rattle.tk_shape.specs.declared.shape.Shape.{Shape}
 use Rattle.tk_shape.specs.Lengths.{turn_count}
 use Rattle.tk_client.specs.declared.got.Got.{Got}
-use Rattle.tk_client.specs.Client.{Follow, Target, next_of, new_follow, untried, wanted}
+use Rattle.tk_client.specs.Client.{Follow, Target, untried}
 use Rattle.tk_client.specs.declared.target.Target.{Target as KeptTarget}
 
 -- what a read is for
@@ -15,20 +15,6 @@ target_of t = record { place = t.place; log = t.log; number = t.number; ahead = 
 -- the logs that a reader follows are below this one
 abbrev pub AreBelow : ℕ → List Follow → Type 0
 AreBelow logs follows = All (λ f. f.log < logs) follows
-
--- the log at a place of these
-abbrev pub follow_in : List Follow → ℕ → Follow
-follow_in follows i = slice_index_or follows i (new_follow 0)
-
--- the number of a log that is so far ahead of the next one
-abbrev pub number_ahead : ℕ → Follow → ℕ → Target
-number_ahead place f j =
-    record { place = place; log = f.log; number = next_of f + j; ahead = j }
-
--- the number that is wanted of the log at a place, if one is
-abbrev pub target_in : Shape → (ℕ → ℕ → Bool) → List Follow → ℕ → Option Target
-target_in shape shown follows i =
-    option_map (number_ahead i (follow_in follows i)) (wanted shape shown (follow_in follows i))
 
 -- whether a number is one that a log may have, and is shown
 abbrev pub is_wanted : Shape → (ℕ → ℕ → Bool) → ℕ → ℕ → Bool

@@ -3,7 +3,8 @@ ghost use Rattle.std.specs.Prelude.{◌≡◌, ◌+◌, ◌<◌, ◌≤◌, ◌^
 ghost use Rattle.std.specs.Prelude.{OnOk, OnErr};
 ghost use Rattle.tk_shape.specs.declared.shape.Shape.{Shape};
 ghost use Rattle.tk_client.specs.Client.{untried, follow_after};
-ghost use Rattle.tk_client.specs.Readers.{follow_in, follows_anew};
+ghost use Rattle.tk_client.specs.Client.{follow_in};
+ghost use Rattle.tk_client.specs.Readers.{follows_anew};
 
 use crate::follow::Follow;
 use crate::target::Target;

@@ -5,7 +5,8 @@ ghost use Rattle.std.specs.List.{range_with_len};
 ghost use Rattle.tk_table.specs.Lists.{first_some};
 ghost use Rattle.tk_words.specs.Words.{words_of};
 ghost use Rattle.tk_client.specs.Asked.{shown_by};
-ghost use Rattle.tk_client.specs.Readers.{target_of, target_in, follows_anew};
+ghost use Rattle.tk_client.specs.Client.{target_in};
+ghost use Rattle.tk_client.specs.Readers.{target_of, follows_anew};
 ghost use Rattle.tk_client.specs.Readers.{AreBelow, IsTargetOrNone};
 
 use crate::follow::Follow;

@@ -3,7 +3,8 @@ use Rattle.std.proofs.Common.{◌≡◌, ◌∙◌, sym, ap, Some, None}
 use Rattle.std.specs.Option.{option_map}
 use Rattle.tk_words.specs.Words.{words_of}
 use Rattle.tk_client.specs.Asked.{shown_by}
-use Rattle.tk_client.specs.Readers.{target_of, target_in, follows_anew}
+use Rattle.tk_client.specs.Client.{target_in}
+use Rattle.tk_client.specs.Readers.{target_of, follows_anew}
 use Rattle.tk_client.proofs.ReaderLaws.{first_some-here, first_some-later, first_some-past}
 use Rattle.tk_client.proofs.searching.first_target.Goals as goal
 

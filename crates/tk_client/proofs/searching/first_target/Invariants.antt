@@ -4,7 +4,8 @@ use Rattle.std.specs.List.{range_with_len}
 use Rattle.tk_table.specs.Lists.{first_some}
 use Rattle.tk_words.specs.Words.{words_of}
 use Rattle.tk_client.specs.Asked.{shown_by}
-use Rattle.tk_client.specs.Readers.{target_in, follows_anew}
+use Rattle.tk_client.specs.Client.{target_in}
+use Rattle.tk_client.specs.Readers.{follows_anew}
 use Rattle.tk_client.proofs.searching.first_target.Given as goal
 
 abbrev pub invariant-loop-place : goal.invariant-loop-place

@@ -2,7 +2,8 @@
 use Rattle.std.proofs.Common.{◌≡◌, ◌∙◌, ap, ◌+◌, ◌%◌, arith, rules, List, length}
 use Rattle.std.specs.Prelude.{◌==◌, not, slice_set}
 use Rattle.tk_client.specs.Client.{Follow, Reader, follow_after}
-use Rattle.tk_client.specs.Readers.{target_of, follow_in, follows_anew}
+use Rattle.tk_client.specs.Client.{follow_in}
+use Rattle.tk_client.specs.Readers.{target_of, follows_anew}
 use Rattle.tk_client.proofs.AskingLaws.{written_back}
 use Rattle.tk_client.proofs.ReaderLaws.{after-nothing, after-target}
 use Rattle.tk_client.proofs.reader.Reader.take.Goals as goal

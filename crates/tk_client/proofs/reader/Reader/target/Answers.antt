@@ -7,7 +7,8 @@ use Rattle.tk_table.specs.Lists.{first_some}
 use Rattle.tk_words.specs.Words.{words_of}
 use Rattle.tk_client.specs.Client.{Follow, Reader}
 use Rattle.tk_client.specs.Asked.{shown_by}
-use Rattle.tk_client.specs.Readers.{target_of, target_in, follows_anew}
+use Rattle.tk_client.specs.Client.{target_in}
+use Rattle.tk_client.specs.Readers.{target_of, follows_anew}
 use Rattle.tk_client.proofs.ReaderLaws.{target-anew}
 use Rattle.tk_client.proofs.reader.Reader.target.Goals as goal
 
