@@ -19,7 +19,7 @@ use Rattle.tk_words.specs.Words.{BookWords, words_of}
 use Rattle.tk_words.specs.Opening.{IsNumber, OpensSealed}
 use Rattle.tk_words.specs.OpeningLaws.{opens_sealed}
 use Rattle.tk_frames.specs.Order.{before}
-use Rattle.tk_table.specs.Lists.{first_some}
+use Rattle.tk_frames.specs.Lists.{first_some}
 use Rattle.tk_client.specs.declared.got.Got.{Got}
 use Rattle.tk_client.specs.declared.got.Got.TheVariants.{Absent, Text}
 use Rattle.tk_cli.specs.Bloom.{is_shown}

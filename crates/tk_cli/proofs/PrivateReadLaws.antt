@@ -26,7 +26,7 @@ use Rattle.tk_frames.specs.Order.{Record}
 use Rattle.tk_table.specs.Ordered.{AreOrdered}
 use Rattle.tk_table.specs.Table.{layout, blocks_of}
 use Rattle.tk_table.specs.Laws.{IsStorable, block_at}
-use Rattle.tk_table.specs.Slots.{slots_in, text_among}
+use Rattle.tk_frames.specs.Slots.{slots_in, text_among}
 use Rattle.tk_table.proofs.Each.{each-push}
 use Rattle.tk_table.proofs.LaidOut.{layout-laid_out}
 use Rattle.tk_table.proofs.BucketBytes.{layout-read_back, layout-as_read}

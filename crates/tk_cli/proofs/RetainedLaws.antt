@@ -20,7 +20,7 @@ use Rattle.tk_words.specs.Opening.{IsNumber, OpensSealed}
 use Rattle.tk_frames.specs.declared.write_frame.WriteFrame.{WriteFrame}
 use Rattle.tk_frames.specs.declared.entry.Placed.{Placed}
 use Rattle.tk_frames.specs.Order.{Record, is_mark_entry, is_mark_of, records, up_to_mark, before}
-use Rattle.tk_table.specs.Lists.{first_some}
+use Rattle.tk_frames.specs.Lists.{first_some}
 use Rattle.tk_table.specs.Ordered.{AscendFrom}
 use Rattle.tk_table.specs.Table.{window, has_position, retained}
 use Rattle.tk_table.proofs.Ascending.{ascend-above}
@@ -35,7 +35,7 @@ use Rattle.tk_cli.specs.Entries.{write_at, placed_from, placed_after, entries_be
 use Rattle.tk_cli.specs.Entries.{entries}
 use Rattle.tk_cli.specs.Orders.{ArePlacedFrom}
 use Rattle.tk_cli.specs.PassingOver.{IsRecordOf, IsNotRetained, RecordsAreShown}
-use Rattle.tk_table.specs.Slots.{text_in}
+use Rattle.tk_frames.specs.Slots.{text_in}
 use Rattle.tk_cli.specs.Report.{lookup}
 use Rattle.tk_cli.proofs.PlacedLaws.{ascend-entry}
 use Rattle.tk_cli.proofs.SentTextLaws.{sent-sealable}

@@ -9,12 +9,12 @@ use Rattle.tk_script.specs.declared.script.Script.{Script}
 use Rattle.tk_script.specs.declared.role.Role.{Role}
 use Rattle.tk_client.specs.declared.got.Got.{Got}
 use Rattle.tk_client.specs.declared.got.Got.TheVariants.{Absent, Text}
-use Rattle.tk_table.specs.Lists.{first_some}
+use Rattle.tk_frames.specs.Lists.{first_some}
 use Rattle.tk_shape.specs.Lengths.{turn_count}
 use Rattle.tk_schedule.specs.Schedule.{phase_of, tick_of, is_closing, order_at, epoch_at}
 use Rattle.tk_words.specs.Words.{WordBook, BookWords, words_of, opened}
 use Rattle.tk_frames.specs.Order.{Record, before}
-use Rattle.tk_table.specs.Slots.{text_in}
+use Rattle.tk_frames.specs.Slots.{text_in}
 use Rattle.tk_table.specs.Table.{retained}
 use Rattle.tk_cli.specs.Bloom.{is_shown}
 use Rattle.tk_client.specs.Readers.{got_in}

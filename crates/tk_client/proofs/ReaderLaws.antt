@@ -9,7 +9,7 @@ use Rattle.std.specs.Option.{option_or, option_map_or}
 use Rattle.std.proofs.lemmas.Bool.{eqb-true}
 use Rattle.std.proofs.lemmas.List.{map-set, length-map}
 use Rattle.tk_shape.specs.declared.shape.Shape.{Shape}
-use Rattle.tk_table.specs.Lists.{first_some}
+use Rattle.tk_frames.specs.Lists.{first_some}
 use Rattle.tk_client.specs.Client.{Follow, untried, follow_after, Reader, at_epoch}
 use Rattle.tk_client.specs.Client.{Target, target, after_read}
 use Rattle.tk_client.specs.declared.got.Got.{Got}

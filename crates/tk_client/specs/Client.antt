@@ -6,7 +6,7 @@ use Rattle.std.specs.List.{range_with_len}
 use Rattle.tk_shape.specs.declared.shape.Shape.{Shape}
 use Rattle.tk_client.specs.declared.got.Got.{Got}
 use Rattle.tk_client.specs.declared.got.Got.TheVariants.{Absent, Text}
-use Rattle.tk_table.specs.Lists.{first_some}
+use Rattle.tk_frames.specs.Lists.{first_some}
 use Rattle.tk_shape.specs.Lengths.{turn_count}
 
 -- a log that is followed: what its numbers gave so far, one for each number below the next, and how

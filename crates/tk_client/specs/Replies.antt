@@ -10,7 +10,7 @@ use Rattle.tk_frames.specs.declared.reply_frame.ReplyFrame.{ReplyFrame}
 use Rattle.tk_frames.specs.declared.fault.FrameError.TheVariants as frame_fault
 use Rattle.tk_frames.specs.Fields.{reply_in}
 use Rattle.tk_frames.specs.Faults.{first_fault, reply_checks}
-use Rattle.tk_table.specs.Slots.{text_from}
+use Rattle.tk_frames.specs.Slots.{text_from}
 use Rattle.tk_client.specs.declared.take_error.TakeError.{TakeError}
 use Rattle.tk_client.specs.declared.take_error.TakeError.TheVariants as fault
 use Rattle.tk_client.specs.Client.{Target}

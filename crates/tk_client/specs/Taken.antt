@@ -1,6 +1,6 @@
 -- A text that a slot gave, as the run keeps it.
 use Rattle.std.specs.Prelude.{Option, Some, None}
-use Rattle.tk_table.specs.Slots.{Accepted, earlier_of}
+use Rattle.tk_frames.specs.Slots.{Accepted, earlier_of}
 use Rattle.tk_client.specs.declared.taking.Accepted.{Accepted as KeptAccepted}
 
 abbrev pub accepted_of : KeptAccepted → Accepted

@@ -2,7 +2,7 @@
 ghost use Rattle.std.specs.Prelude.{◌≡◌, ◌-◌, ◌<◌, ◌≤◌, length};
 ghost use Rattle.std.specs.Option.{option_map};
 ghost use Rattle.std.specs.List.{range_with_len};
-ghost use Rattle.tk_table.specs.Lists.{first_some};
+ghost use Rattle.tk_frames.specs.Lists.{first_some};
 ghost use Rattle.tk_words.specs.Words.{words_of};
 ghost use Rattle.tk_client.specs.Asked.{shown_by};
 ghost use Rattle.tk_client.specs.Client.{target_in};

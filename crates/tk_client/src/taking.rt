@@ -3,7 +3,7 @@ ghost use Rattle.std.specs.Option.{option_map};
 ghost use Rattle.tk_shape.specs.Lengths.{turn_count, slot_len, width};
 ghost use Rattle.tk_words.specs.Words.{words_of, opened};
 ghost use Rattle.tk_frames.specs.Fields.{number_at, long_at};
-ghost use Rattle.tk_table.specs.Slots.{slot_from, slots_in, accepted, earliest, text_among};
+ghost use Rattle.tk_frames.specs.Slots.{slot_from, slots_in, accepted, earliest, text_among};
 ghost use Rattle.tk_client.specs.Taken.{accepted_of, earlier_of_both};
 
 use std::alloc::Global;

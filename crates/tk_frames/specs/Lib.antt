@@ -4,3 +4,5 @@ pub mod Order
 pub mod Fields
 pub mod Faults
 pub mod Laws
+pub mod Lists
+pub mod Slots

@@ -12,8 +12,8 @@ use Rattle.tk_frames.specs.Order.{Record}
 use Rattle.tk_table.specs.Table.{Slot, SlotTable, bucket_at, is_empty, retained, layout, slot_of}
 use Rattle.tk_table.specs.Ordered.{AscendFrom}
 use Rattle.tk_table.specs.Laws.{entries_in, IsSlotOf, IsLaidOut, AsWritten}
-use Rattle.tk_table.specs.Lists.{first_some}
-use Rattle.tk_table.specs.Slots.{Accepted, accepted, earliest, text_among, text_in}
+use Rattle.tk_frames.specs.Lists.{first_some}
+use Rattle.tk_frames.specs.Slots.{Accepted, accepted, earliest, text_among, text_in}
 use Rattle.tk_table.proofs.Members.{IsIn, in_from_contains, contains_from_in, all_in, in-append}
 use Rattle.tk_table.proofs.Members.{in_front, in_back, in_map, IsFrom, from_map, in_filter}
 use Rattle.tk_table.proofs.Members.{from_filter, in_filter_map, from_filter_map, in_flat_map}

@@ -13,7 +13,7 @@ use Rattle.tk_table.specs.Table.{slot_of, slot_bytes}
 use Rattle.tk_table.specs.Ordered.{HasBuckets}
 use Rattle.tk_table.specs.Laws.{IsSlotOf, IsLaidOut, IsSpellable, IsStorable, block_at}
 use Rattle.tk_table.specs.Laws.{IsSpelling, BucketsReadBack, AsRead}
-use Rattle.tk_table.specs.Slots.{text_among, slots_in}
+use Rattle.tk_frames.specs.Slots.{text_among, slots_in}
 use Rattle.tk_table.proofs.Each.{each-both}
 use Rattle.tk_table.proofs.Members.{IsIn, in_from_contains, each-in}
 use Rattle.tk_table.proofs.RetainedEach.{retained-each}

@@ -8,8 +8,8 @@ use Rattle.std.proofs.lemmas.Nat.{from_be_bytes-to_be_bytes_4, from_be_bytes-to_
 use Rattle.tk_shape.specs.declared.shape.Shape.{Shape}
 use Rattle.tk_shape.specs.Lengths.{slot_len}
 use Rattle.tk_table.specs.Table.{Slot, slot_bytes}
-use Rattle.tk_table.specs.Lists.{pieces}
-use Rattle.tk_table.specs.Slots.{slot_from}
+use Rattle.tk_kernel.specs.Pieces.{pieces}
+use Rattle.tk_frames.specs.Slots.{slot_from}
 use Rattle.tk_table.specs.Laws.{IsSpellable, SlotsReadBack}
 
 slot-again : (shape : Shape) (s : Slot) → IsSpellable shape s → slot_from (slot_bytes s) ≡ s

@@ -6,13 +6,13 @@ use Rattle.std.specs.List.Sorted.{IsPermutation}
 use Rattle.tk_shape.specs.declared.shape.Shape.{Shape}
 use Rattle.tk_shape.specs.Lengths.{width}
 use Rattle.tk_frames.specs.Order.{Record}
-use Rattle.tk_table.specs.Lists.{first_some}
+use Rattle.tk_frames.specs.Lists.{first_some}
 use Rattle.tk_table.specs.Ordered.{AscendFrom, AreOrdered}
 use Rattle.tk_place.specs.Place.{search_end}
 use Rattle.tk_table.specs.Table.{pair_in, window, has_position, retained, is_displaced, Slot}
 use Rattle.tk_table.specs.Table.{slot_of, empty_slot, is_empty, SlotTable, bucket_at, others_from}
 use Rattle.tk_table.specs.Table.{without_expired, layout, slot_bytes, blocks_of}
-use Rattle.tk_table.specs.Slots.{slots_in, text_among, text_from, text_in}
+use Rattle.tk_frames.specs.Slots.{slots_in, text_among, text_from, text_in}
 
 -- ---- where the retained records lie
 

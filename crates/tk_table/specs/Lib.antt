@@ -1,7 +1,5 @@
-pub mod Lists
 pub mod Table
 pub mod Ordered
-pub mod Slots
 pub mod Laws
 pub mod Stands
 pub mod Steps

@@ -5,8 +5,7 @@ use Rattle.std.specs.Prelude.{slice_set, Option, Some, None}
 use Rattle.std.specs.List.{list_any}
 use Rattle.tk_shape.specs.declared.shape.Shape.{Shape}
 use Rattle.tk_frames.specs.Order.{Record}
-use Rattle.tk_frames.specs.Spelling.{be32, be64}
-pub use Rattle.tk_bucket.specs.Table.{Slot}
+pub use Rattle.tk_frames.specs.Slots.{Slot, slot_bytes}
 use Rattle.tk_place.specs.Place.{fit, Others, Spot, Reached, lowest_empty, search_end}
 
 -- the last retained writes, or all where there are fewer
@@ -127,9 +126,6 @@ abbrev pub layout : Shape → List Record → SlotTable
 layout shape R = layout_on shape [] (empty_table shape) R
 
 -- ---- the bytes
-
-abbrev pub slot_bytes : Slot → List ℕ
-slot_bytes s = be64 s.position ++ be32 s.first ++ be32 s.second ++ s.block
 
 -- each bucket's bytes
 abbrev pub blocks_of : SlotTable → List (List ℕ)

@@ -1,7 +1,7 @@
 -- The places so far give nothing.
 use Rattle.std.proofs.Common.{◌≡◌, ◌-◌}
 use Rattle.std.specs.List.{range_with_len}
-use Rattle.tk_table.specs.Lists.{first_some}
+use Rattle.tk_frames.specs.Lists.{first_some}
 use Rattle.tk_words.specs.Words.{words_of}
 use Rattle.tk_client.specs.Asked.{shown_by}
 use Rattle.tk_client.specs.Client.{target_in}

@@ -3,7 +3,7 @@ use Rattle.std.proofs.Common.{◌∙◌, ap, sym, ℕ, Some}
 use Rattle.std.specs.Prelude.{Option}
 use Rattle.std.proofs.lemmas.List.{take_rest}
 use Rattle.tk_words.specs.Words.{words_of, opened}
-use Rattle.tk_table.specs.Slots.{Accepted, slot_from}
+use Rattle.tk_frames.specs.Slots.{Accepted, slot_from}
 use Rattle.tk_client.proofs.TakingLaws.{accepted_text, accepted_nothing}
 use Rattle.tk_client.proofs.taking.accepted_in.Goals as goal
 

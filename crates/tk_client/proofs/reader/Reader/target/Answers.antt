@@ -3,7 +3,7 @@ use Rattle.std.proofs.Common.{◌≡◌, ◌∙◌, sym, ap, ◌-◌, List, leng
 use Rattle.std.specs.Prelude.{◌==◌, not}
 use Rattle.std.specs.List.{range_with_len}
 use Rattle.std.specs.Option.{option_map, option_or}
-use Rattle.tk_table.specs.Lists.{first_some}
+use Rattle.tk_frames.specs.Lists.{first_some}
 use Rattle.tk_words.specs.Words.{words_of}
 use Rattle.tk_client.specs.Client.{Follow, Reader}
 use Rattle.tk_client.specs.Asked.{shown_by}

@@ -1,12 +1,23 @@
--- The slots that a bucket's bytes spell, and what the slots of two buckets give for a number.
+-- Slots: each one's one spelling, those that a bucket's bytes spell, and what the slots of two
+-- buckets give for a number.
 use Rattle.std.specs.Prelude.{ℕ, ◌==◌, nat_le, not, ◌&&◌, cond, List, [], ◌∷◌, ◌++◌, map, drop}
 use Rattle.std.specs.Prelude.{Option, Some, None, option_map, filter_map}
+use Rattle.tk_kernel.specs.Pieces.{pieces}
 use Rattle.tk_shape.specs.declared.shape.Shape.{Shape}
 use Rattle.tk_shape.specs.Lengths.{slot_len}
 use Rattle.tk_frames.specs.Fields.{number_at, long_at}
 use Rattle.tk_frames.specs.Order.{Record}
-use Rattle.tk_table.specs.Lists.{pieces}
-use Rattle.tk_table.specs.Table.{Slot}
+use Rattle.tk_frames.specs.Spelling.{be32, be64}
+
+-- a slot: a record's position, buckets and block, or all zeros
+pub record Slot : Type 0 where
+  pub position : ℕ
+  pub first : ℕ
+  pub second : ℕ
+  pub block : List ℕ
+
+abbrev pub slot_bytes : Slot → List ℕ
+slot_bytes s = be64 s.position ++ be32 s.first ++ be32 s.second ++ s.block
 
 -- the slot that these bytes spell
 abbrev pub slot_from : List ℕ → Slot
