@@ -6,9 +6,9 @@ use Rattle.std.proofs.lemmas.List.{length-drop, length-take-le, take-append-drop
 use Rattle.tk_kernel.specs.Xor.{xor_bytes, xor_all}
 use Rattle.tk_kernel.specs.Pieces.{all_pieces, AllSized}
 use Rattle.tk_kernel.specs.Chosen.{chosen_from, chosen_sum}
-use Rattle.tk_kernel.proofs.Sums.{xor_bytes_assoc, xor_bytes-zeros, zeros-xor_bytes, length-xor_all, xor_all-append}
-use Rattle.tk_kernel.proofs.Cuts.{all_pieces-concat, concat-pieces, length-pieces, drop-pieces, take-pieces}
-use Rattle.tk_kernel.proofs.Chosen.{AllSized-chosen_from, chosen_from-append}
+use Rattle.tk_kernel.proofs.Offers.{xor_bytes_assoc, xor_bytes-zeros, zeros-xor_bytes, length-xor_all, xor_all-append}
+use Rattle.tk_kernel.proofs.Offers.{all_pieces-concat, concat-pieces, length-pieces, drop-pieces, take-pieces}
+use Rattle.tk_kernel.proofs.Offers.{AllSized-chosen_from, chosen_from-append}
 use Rattle.tk_answer.specs.Runs.{IsRun}
 
 length-concat : (width : ℕ) (vs : List (List ℕ)) → AllSized width vs → length (concat vs) ≡ length vs * width

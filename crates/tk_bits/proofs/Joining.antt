@@ -2,8 +2,8 @@
 use Rattle.std.proofs.Common.{◌≡◌, ℕ, ◌<◌, List, ◌++◌, length, replicate, ap, sym, ◌∙◌}
 use Rattle.tk_kernel.specs.Xor.{xor_bytes, xor_all}
 use Rattle.tk_kernel.specs.Pieces.{all_pieces}
-use Rattle.tk_kernel.proofs.Sums.{xor_bytes_assoc, xor_bytes-zeros, zeros-xor_bytes, length-xor_all}
-use Rattle.tk_kernel.proofs.Cuts.{all_pieces-append, all_pieces_short, AllSized-all_pieces}
+use Rattle.tk_kernel.proofs.Offers.{xor_bytes_assoc, xor_bytes-zeros, zeros-xor_bytes, length-xor_all}
+use Rattle.tk_kernel.proofs.Offers.{all_pieces-append, all_pieces_short, AllSized-all_pieces}
 
 -- out with all parts of rest added
 abbrev pub rest_added : ℕ → List ℕ → List ℕ → List ℕ

@@ -2,3 +2,4 @@ pub mod Vectors
 pub mod Sums
 pub mod Wanted
 pub mod Joining
+pub mod Offers

@@ -4,8 +4,8 @@ use Rattle.std.proofs.Math.Bool.{xor}
 use Rattle.tk_kernel.specs.Xor.{xor_bytes, xor_all}
 use Rattle.tk_kernel.specs.Pieces.{AllSized}
 use Rattle.tk_kernel.specs.Chosen.{has_bit, chosen_from, chosen_sum}
-use Rattle.tk_kernel.proofs.Sums.{xor_bytes_assoc, xor_bytes_comm, xor_bytes_twice, zeros-xor_bytes, length-zeros, length-xor_all}
-use Rattle.tk_kernel.proofs.Chosen.{AllSized-chosen_from}
+use Rattle.tk_kernel.proofs.Offers.{xor_bytes_assoc, xor_bytes_comm, xor_bytes_twice, zeros-xor_bytes, length-zeros, length-xor_all}
+use Rattle.tk_kernel.proofs.Offers.{AllSized-chosen_from}
 use Rattle.tk_bits.proofs.Vectors.{has_bit-xor_bytes, has_bit-zeros}
 
 pub length-chosen : (width i : ℕ) (blocks : List (List ℕ)) (v : List ℕ) → AllSized width blocks → length (xor_all width (chosen_from i blocks v)) ≡ width

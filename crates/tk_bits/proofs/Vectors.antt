@@ -9,7 +9,7 @@ use Rattle.std.proofs.lemmas.Grind.{get_or-set_at}
 use Rattle.std.proofs.lemmas.List.{get_or-set_other, get_or-set_same, length-set}
 use Rattle.tk_kernel.specs.Xor.{xor_bytes}
 use Rattle.tk_kernel.specs.Chosen.{has_bit}
-use Rattle.tk_kernel.proofs.Sums.{length-zeros, zeros-xor_bytes}
+use Rattle.tk_kernel.proofs.Offers.{length-zeros, zeros-xor_bytes}
 use Rattle.tk_bits.specs.Shares.{unit_vector}
 
 get_or-xor_bytes : (xs ys : List ℕ) (k : ℕ) → length xs ≡ length ys → get_or (xor_bytes xs ys) k 0 ≡ bit_xor (get_or xs k 0) (get_or ys k 0)

@@ -4,7 +4,7 @@ use Rattle.std.specs.List.{slice_get}
 use Rattle.tk_kernel.specs.Xor.{xor_bytes, xor_all}
 use Rattle.tk_kernel.specs.Pieces.{AllSized}
 use Rattle.tk_kernel.specs.Chosen.{has_bit, chosen_from, chosen_sum}
-use Rattle.tk_kernel.proofs.Sums.{xor_bytes_comm, xor_bytes_twice, xor_bytes-zeros, length-xor_bytes, length-xor_all, xor_all-append}
+use Rattle.tk_kernel.proofs.Offers.{xor_bytes_comm, xor_bytes_twice, xor_bytes-zeros, length-xor_bytes, length-xor_all, xor_all-append}
 use Rattle.tk_bits.specs.Shares.{unit_vector, last_share, shares}
 use Rattle.tk_bits.proofs.Vectors.{length-unit_vector, has_bit-unit_same, has_bit-unit_other}
 use Rattle.tk_bits.proofs.Sums.{sums_add}

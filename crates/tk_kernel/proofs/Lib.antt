@@ -3,3 +3,4 @@ pub mod Fronts
 pub mod Cuts
 pub mod Choices
 pub mod Chosen
+pub mod Offers

@@ -7,7 +7,7 @@ use Rattle.std.proofs.Math.Seq.{take-append_seam, drop-append_seam}
 use Rattle.tk_kernel.specs.Xor.{xor_bytes}
 use Rattle.tk_seal.specs.Texts.{is_allowed}
 use Rattle.tk_seal.specs.Seal.{plain, plain_text, sealed_with, opened_with, IsPlainForm}
-use Rattle.tk_kernel.proofs.Sums.{xor_bytes_twice, length-xor_bytes}
+use Rattle.tk_kernel.proofs.Offers.{xor_bytes_twice, length-xor_bytes}
 use Rattle.tk_seal.proofs.XorLaws.{xor_bytes-front}
 use Rattle.tk_seal.proofs.PlainForms.{plain_text-plain, length-plain}
 

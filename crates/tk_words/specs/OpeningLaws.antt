@@ -3,8 +3,8 @@ use Rattle.std.proofs.Common.{◌≡◌, ℕ, ◌+◌, ◌-◌, ◌*◌, ◌≤�
 use Rattle.std.proofs.lemmas.List.{length-take-le}
 use Rattle.tk_shape.specs.declared.shape.Shape.{Shape}
 use Rattle.tk_shape.specs.Lengths.{cell_len}
-use Rattle.tk_seal.proofs.SealLaws.{opened_with-sealed, opened_with-is}
-use Rattle.tk_handle.proofs.KeyBytes.{length-key_bytes}
+use Rattle.tk_seal.proofs.Offers.{opened_with-sealed, opened_with-is}
+use Rattle.tk_handle.proofs.Offers.{length-key_bytes}
 use Rattle.tk_words.specs.Words.{WordBook, keyed, drawn, IsBook, words_of, pad_of, tag_of, sealed, opened, keyed_cell, cell_block}
 use Rattle.tk_words.specs.Opening.{IsNumber, OpensWhatSeals, OpensSealed, OneTextSeals}
 use Rattle.tk_words.specs.CellLaws.{length-keyed_cell}

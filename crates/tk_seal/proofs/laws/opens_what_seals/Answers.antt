@@ -1,5 +1,5 @@
 use Rattle.std.proofs.Common.{◌≡◌, ◌+◌, ◌-◌, ◌≤◌, length, arith}
-use Rattle.tk_handle.proofs.KeyBytes.{length-key_bytes}
+use Rattle.tk_handle.proofs.Offers.{length-key_bytes}
 use Rattle.tk_seal.specs.Seal.{keyed_pad, keyed_tag}
 use Rattle.tk_seal.proofs.SealLaws.{opened_with-sealed, opened_with-is}
 use Rattle.tk_seal.proofs.laws.opens_what_seals.Goals as goal

@@ -1,7 +1,7 @@
 use Rattle.std.proofs.Common.{ap, ◌∙◌, List, ℕ, length}
 use Rattle.tk_kernel.specs.Xor.{xor_bytes}
 use Rattle.tk_seal.specs.Seal.{plain}
-use Rattle.tk_kernel.proofs.Sums.{xor_bytes_comm}
+use Rattle.tk_kernel.proofs.Offers.{xor_bytes_comm}
 use Rattle.tk_seal.proofs.masking.mask.Goals as goal
 
 pub returns : goal.returns

@@ -1,7 +1,7 @@
 use Rattle.std.proofs.Common.{◌≡◌, ◌∙◌, ◌+◌, ◌-◌, ◌<◌, ◌≤◌, ◌^◌, replicate, ap, ap₂, sym, List, ℕ, length, arith}
 use Rattle.std.proofs.lemmas.List.{length-take-le}
 use Rattle.std.proofs.lemmas.Option.{IfSome_then}
-use Rattle.tk_handle.proofs.KeyBytes.{length-key_bytes}
+use Rattle.tk_handle.proofs.Offers.{length-key_bytes}
 use Rattle.tk_seal.specs.Seal.{opened_with, keyed_pad, keyed_tag}
 use Rattle.tk_seal.proofs.SealLaws.{closed_by_mark, opened_by_reading, closed_by_reading, IfNone_then, marks_differ, marks_agree}
 use Rattle.tk_seal.proofs.sealing.open.Goals as goal

@@ -4,7 +4,7 @@ use Rattle.std.proofs.lemmas.List.{take_all}
 use Rattle.std.proofs.lemmas.List.FromFn.{map-range_with_len_more}
 use Rattle.std.proofs.lemmas.Grind.{take-set_at}
 use Rattle.tk_handle.specs.Handle.{word}
-use Rattle.tk_choice.proofs.Remainders.{remainders_below}
+use Rattle.tk_choice.proofs.Offers.{remainders_below}
 use Rattle.tk_words.proofs.keyed.write_hits.Goals as goal
 
 pub hits-preserved : goal.hits-preserved

@@ -1,6 +1,6 @@
 use Rattle.std.proofs.Common.{◌≡◌, ◌-◌, ◌*◌, ◌/◌, ◌<◌, ◌≤◌, length, arith, rules, ◌∙◌}
 use Rattle.tk_kernel.specs.Pieces.{all_pieces}
-use Rattle.tk_kernel.proofs.Cuts.{length-pieces}
+use Rattle.tk_kernel.proofs.Offers.{length-pieces}
 use Rattle.tk_answer.proofs.Runs.{run_of_slice}
 use Rattle.tk_answer.specs.Runs.{IsRun}
 use Rattle.std.proofs.Common.{take, drop}

@@ -1,4 +1,4 @@
-use Rattle.tk_kernel.proofs.Cuts.{AllSized-all_pieces}
+use Rattle.tk_kernel.proofs.Offers.{AllSized-all_pieces}
 use Rattle.tk_answer.proofs.tests.PagedBlocks.width.Goals as goal
 
 pub returns-clause-each : goal.returns-clause-each

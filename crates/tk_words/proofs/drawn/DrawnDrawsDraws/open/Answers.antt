@@ -1,6 +1,6 @@
 use Rattle.std.proofs.Common.{◌<◌, ◌^◌, ◌∙◌, length, arith}
 use Rattle.std.proofs.lemmas.Option.{IfSome_then}
-use Rattle.tk_seal.proofs.SealLaws.{closed_by_mark, opened_by_reading, closed_by_reading, IfNone_then, marks_differ, marks_agree}
+use Rattle.tk_seal.proofs.Offers.{closed_by_mark, opened_by_reading, closed_by_reading, IfNone_then, marks_differ, marks_agree}
 use Rattle.tk_words.proofs.CellOpening.{opened-cell}
 use Rattle.tk_words.proofs.drawn.DrawnDrawsDraws.open.Goals as goal
 

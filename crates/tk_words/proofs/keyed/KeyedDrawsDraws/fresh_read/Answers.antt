@@ -1,7 +1,7 @@
 use Rattle.std.proofs.Common.{◌+◌, ◌-◌, ◌*◌, ◌%◌, ap, ap₂, ◌∙◌}
 use Rattle.tk_shape.specs.Lengths.{vector_len}
 use Rattle.tk_handle.specs.Handle.{word, key_bytes}
-use Rattle.tk_handle.proofs.KeyBytes.{length-key_bytes}
+use Rattle.tk_handle.proofs.Offers.{length-key_bytes}
 use Rattle.tk_words.specs.Words.{fresh_pair, fresh_vectors, seed_at}
 use Rattle.tk_words.proofs.Joined.{join-vectors}
 use Rattle.tk_words.proofs.keyed.KeyedDrawsDraws.fresh_read.Goals as goal

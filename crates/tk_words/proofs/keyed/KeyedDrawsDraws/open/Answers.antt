@@ -1,7 +1,7 @@
 use Rattle.std.proofs.Common.{ap₂, sym, ◌∙◌}
 use Rattle.std.proofs.lemmas.Option.{IfSome_then}
 use Rattle.tk_seal.specs.Seal.{opened_with, keyed_pad, keyed_tag}
-use Rattle.tk_seal.proofs.SealLaws.{IfNone_then}
+use Rattle.tk_seal.proofs.Offers.{IfNone_then}
 use Rattle.tk_words.specs.Words.{pad_of, tag_of, opened}
 use Rattle.tk_words.proofs.keyed.KeyedDrawsDraws.open.Goals as goal
 
