@@ -1,11 +1,13 @@
-//! One server's answer: the sum of the blocks that a vector chooses, however the blocks are stored.
+//! A server's answers: for a vector the sum of the blocks that it chooses, however the blocks are stored.
 #![tactic(auto)]
 
 mod blocks;
+mod each;
 mod laws;
 mod sum;
 
 pub use blocks::Blocks;
+pub use each::answer_each;
 pub use laws::parts_are_runs;
 pub use sum::answer;
 

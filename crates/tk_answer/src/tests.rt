@@ -1,7 +1,9 @@
 ghost use Rattle.std.specs.Prelude.{◌<◌, ◌≤◌};
 ghost use Rattle.tk_kernel.specs.Pieces.{all_pieces};
 
-use crate::{Blocks, answer, parts_are_runs};
+use crate::{Blocks, answer, answer_each, parts_are_runs};
+use std::test::Fail;
+use tk_shape::Bytes;
 
 /// Eight blocks of 41 bytes, of which those of a page are said to lie together.
 #[derive(Drop)]
@@ -48,4 +50,25 @@ fn runs_of_any_length(rt: HostRuntime) {
         }
     }
     parts_are_runs();
+}
+
+#[test]
+fn each_vector_answered(rt: HostRuntime) -> Result<(), Fail> {
+    let alloc = rt.alloc();
+    let mut bytes = [0; 328];
+    for (i, byte) in bytes.iter_mut().enumerate() {
+        *byte = (i / 41) as u8 + 1;
+    }
+    let blocks = Paged { bytes, page: 3 };
+    let mut vectors = Vec::new(alloc);
+    assert!(rt; answer_each(alloc, &blocks, vectors.as_slice())?.is_empty());
+    for vector in [0xa5, 0x00, 0x80] {
+        vectors.push(Bytes::from_slice(alloc, &[vector])?)?;
+    }
+    let sums = answer_each(alloc, &blocks, vectors.as_slice())?;
+    assert_eq!(rt; sums.len(), 3);
+    for (sum, want) in sums.iter().zip([0x0c, 0x00, 0x08]) {
+        assert_eq!(rt; sum.as_slice(), [want; 41].as_slice());
+    }
+    Ok(())
 }
