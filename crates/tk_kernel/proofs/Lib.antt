@@ -1,6 +1,9 @@
 pub mod Sums
-pub mod Fronts
 pub mod Cuts
-pub mod Choices
 pub mod Chosen
+pub mod Fronts
+pub mod Passes
+pub mod Fours
+pub mod Passed
+pub mod Whole
 pub mod Offers

@@ -1,12 +1,17 @@
 //! Sums of bytes without carries, over whole slices: one slice added to another, and of many blocks those that a bit
-//! vector chooses.
+//! vector chooses, or each of many vectors.
 #![tactic(auto)]
 
 mod choose;
+mod each;
 mod into;
 mod laws;
+mod nibbles;
+mod pass;
+mod stripes;
 
 pub use choose::xor_choose;
+pub use each::xor_choose_each;
 pub use into::xor_into;
 pub use laws::pieces_and_bytes;
 

@@ -1,28 +1,22 @@
-use Rattle.std.proofs.Common.{◌≡◌, ◌∙◌, ◌+◌, ◌<◌, length, true, false, sym, arith}
-use Rattle.std.specs.Iterator.Adapters.{enumerate_source, enumerate_count}
-use Rattle.std.specs.Slice.Iter.{chunks_exact_rest}
-use Rattle.tk_kernel.specs.Chosen.{has_bit}
-use Rattle.tk_kernel.proofs.Choices.{block_added, block_passed, all_added}
+use Rattle.std.proofs.Common.{◌≡◌, ◌∙◌, ◌+◌, ◌-◌, ◌*◌, ◌/◌, ◌≤◌, length, arith, ap}
+use Rattle.tk_kernel.proofs.Passes.{AllIn-chosen_places, within, pass_done, passes_done}
 use Rattle.tk_kernel.proofs.choose.xor_choose.Goals as goal
 
-pub loop-i-preserved-then-is_chosen : goal.loop-i-preserved-then-is_chosen
-loop-i-preserved-then-is_chosen c =
-    let (source, at, count, _) = c.in-Some.ensures.steps in
-    let size_is = c.loop-i.invariant.0 in
-    let adding = rw source.1.0 at c.loop-i.invariant.1 in
-    let chosen : has_bit c.args.vector.now (c.args.from + enumerate_count c.loop-i.i-iterator) ≡ true = rw (← at) (sym c.if-is_chosen.ensures) in
-    (source.0 ∙ size_is, rw (count, c.xor_into.ensures) (block_added _ _ _ _ _ c.requires.some _ _ _ _ (source.1.1 ∙ size_is) chosen adding))
+pub add_listed-requires : goal.add_listed-requires
+add_listed-requires c =
+    let size = length c.args.dst.now in
+    let done = c.loop-done.done in
+    let end = c.min-end.result in
+    let upto : done + (end - done) ≤ length c.args.blocks.now / size = omega (arith, c.min-end.ensures, c.loop-done-test.true) in
+    rw (c.loop-done.auto.dst, c.list_chosen-found.ensures.listed)
+    (AllIn-chosen_places size c.args.from done (end - done) c.args.blocks.now c.args.vector.now (within size (done + (end - done)) c.args.blocks.now c.requires.some upto))
 
-pub loop-i-preserved : goal.loop-i-preserved
-loop-i-preserved c =
-    let (source, at, count, _) = c.in-Some.ensures.steps in
-    let size_is = c.loop-i.invariant.0 in
-    let adding = rw source.1.0 at c.loop-i.invariant.1 in
-    let passed : has_bit c.args.vector.now (c.args.from + enumerate_count c.loop-i.i-iterator) ≡ false = rw (← at) (sym c.if-is_chosen.ensures) in
-    (source.0 ∙ size_is, rw count (block_passed _ _ _ _ _ c.requires.some _ _ _ _ (source.1.1 ∙ size_is) passed adding))
+pub loop-done-preserved : goal.loop-done-preserved
+loop-done-preserved c =
+    let last : c.min-end.result ≤ length c.args.blocks.now / length c.args.dst.now = omega (arith, c.min-end.ensures) in
+    let sum = rw (c.loop-done.auto.dst, c.list_chosen-found.ensures.listed) at c.add_listed.ensures in
+    (last, pass_done _ _ _ _ _ _ _ _ c.requires.some (omega (arith, c.min-end.ensures, c.loop-done-test.true)) last sum ∙ c.loop-done.invariant.1)
 
 pub returns : goal.returns
 returns c =
-    let (source, _) = c.in-None.ensures.steps in
-    let short : length (chunks_exact_rest (enumerate_source c.loop-i.i-iterator)) < length c.args.dst.now = omega (arith, source.1.0, c.loop-i.invariant.0) in
-    all_added _ _ _ _ _ c.requires.some _ _ _ c.loop-i.auto.dst short c.loop-i.invariant.1
+    passes_done _ _ _ _ _ _ _ (omega (arith, c.loop-done-test.false)) c.loop-done.auto.dst c.loop-done.invariant.1
