@@ -1,10 +1,16 @@
 pub mod BigEndian
 pub mod Bounds
 pub mod Checking
+pub mod EpochLaws
 pub mod Frames
 pub mod Heads
+pub mod InOrderLaws
+pub mod MarkCounts
 pub mod Marks
+pub mod NextLaws
 pub mod NumberList
+pub mod Offers
 pub mod PlacedFrames
+pub mod Records
 pub mod Spellings
 pub mod WriteFields

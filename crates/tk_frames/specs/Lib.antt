@@ -1,6 +1,7 @@
 pub mod Spelling
 pub mod Ranges
 pub mod Order
+pub mod InOrder
 pub mod Fields
 pub mod Faults
 pub mod Laws

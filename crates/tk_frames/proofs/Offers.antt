@@ -1,0 +1,20 @@
+-- What the proofs of other crates may cite.
+
+-- A reply is read from its spelling.
+pub use Rattle.tk_frames.proofs.Frames.{reply-again}
+-- What stands before a mark.
+pub use Rattle.tk_frames.proofs.Marks.{before-none, before-settled, before-marked, before-unmarked}
+-- The writes of entries, with one more or with others behind them.
+pub use Rattle.tk_frames.proofs.Records.{record_of, records-append, records-write, records-mark}
+-- How many marks stand among entries, and how many writes.
+pub use Rattle.tk_frames.proofs.MarkCounts.{marks-cons, marks-append, marks-push, marks-write, marks-mark}
+pub use Rattle.tk_frames.proofs.MarkCounts.{length-writes_and_marks, due-next}
+-- Entries in order: none, one more, a front, others behind, each one, and each write.
+pub use Rattle.tk_frames.proofs.InOrderLaws.{order-none, order-push, order-front, order-take}
+pub use Rattle.tk_frames.proofs.InOrderLaws.{order-append, order-rest, order-entry, order-records}
+pub use Rattle.tk_frames.proofs.InOrderLaws.{from-push, from-front, from-entry}
+-- How many marks an order has, and the write or mark that may stand next in it.
+pub use Rattle.tk_frames.proofs.NextLaws.{marks-most, next-write, next-mark}
+-- Which marks stand in an order, where, and what stands before them, when more entries come.
+pub use Rattle.tk_frames.proofs.EpochLaws.{has-mark, has-no_mark, before-more, before-mark, before-later}
+pub use Rattle.tk_frames.proofs.EpochLaws.{mark_position-more, mark_position-mark, mark_position-none}
