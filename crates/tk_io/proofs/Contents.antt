@@ -11,13 +11,13 @@ pub before_taking-nil : (rest : Option (List ℕ)) → before_taking [] rest ≡
 before_taking-nil None = refl
 before_taking-nil (Some rest) = refl
 
-pub gained-append : (held : Option (List ℕ)) (a b : List ℕ) → gained (gained held a) b ≡ gained held (a ++ b)
-gained-append None a b = refl
-gained-append (Some held) a b = ap Some (append_assoc held a b)
+pub gained-twice : (held : Option (List ℕ)) (a b : List ℕ) → gained (gained held a) b ≡ gained held (a ++ b)
+gained-twice None a b = refl
+gained-twice (Some held) a b = ap Some (append_assoc held a b)
 
-pub gained-nil : (held : Option (List ℕ)) → gained held [] ≡ held
-gained-nil None = refl
-gained-nil (Some held) = ap Some (append-nil held)
+pub gained-nothing : (held : Option (List ℕ)) → gained held [] ≡ held
+gained-nothing None = refl
+gained-nothing (Some held) = ap Some (append-nil held)
 
 -- two takings in a row
 pub taken_more : (old middle new : Option (List ℕ)) (first second : List ℕ) → old ≡ before_taking first middle →
@@ -29,4 +29,4 @@ pub gained_more : (old middle new : Option (List ℕ)) (bytes : List ℕ) (done 
     new ≡ gained middle (take n (take (length bytes - done) (drop done bytes))) → new ≡ gained old (take (done + n) bytes)
 gained_more old middle new bytes done n e f =
     f ∙ ap (λ xs. gained middle (take n xs)) (take_rest bytes done) ∙ ap (λ o. gained o (take n (drop done bytes))) e
-    ∙ gained-append old (take done bytes) (take n (drop done bytes)) ∙ ap (gained old) (sym (take-add done n bytes))
+    ∙ gained-twice old (take done bytes) (take n (drop done bytes)) ∙ ap (gained old) (sym (take-add done n bytes))

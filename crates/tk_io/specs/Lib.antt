@@ -1,2 +1,3 @@
 pub mod Content
 pub mod InMemory
+pub mod Tapped

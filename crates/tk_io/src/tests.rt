@@ -1,6 +1,6 @@
 use crate::{
-    Gate, MemSink, MemSource, MemTaps, NoTaps, OpenGate, ReadError, Sink, Source, Taps, put_all,
-    read_all,
+    Gate, MemSink, MemSource, MemTaps, NoTaps, OpenGate, ReadError, Sink, Source, StdSink,
+    StdSource, Taps, put_all, read_all,
 };
 use std::test::Fail;
 
@@ -71,4 +71,17 @@ fn taps_keep_apart(rt: HostRuntime) -> Result<(), Fail> {
     assert!(rt; NoTaps.put(8, b"g").is_ok());
     OpenGate.at(&rt, 0, 1);
     Ok(())
+}
+
+#[test]
+fn standard_input_gives_nothing_into_no_room(rt: HostRuntime) {
+    let mut source = StdSource::new(rt.stdin());
+    assert_eq!(rt; source.take(&mut []).ok(), Some(0));
+}
+
+#[test]
+fn standard_output_takes_a_piece(rt: HostRuntime) {
+    let mut sink = StdSink::new(rt.stdout());
+    assert_eq!(rt; sink.put(b"\n").ok(), Some(1));
+    assert_eq!(rt; sink.put(b"").ok(), Some(0));
 }
