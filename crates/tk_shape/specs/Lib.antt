@@ -2,3 +2,5 @@ pub mod Ranges
 pub mod Limits
 pub mod Numbers
 pub mod Lengths
+pub mod Differences
+pub mod Names

@@ -1,3 +1,6 @@
+ghost use Rattle.std.specs.Prelude.{◌≡◌};
+ghost use Rattle.tk_shape.specs.Names.{field_name};
+
 /// What limits a run: one of a shape's twelve numbers, or a product of them.
 #[derive(Clone, Copy, Debug, PartialEq, Eq)]
 pub enum Field {
@@ -21,4 +24,30 @@ pub enum Field {
     Work,
     /// Bytes of a tape of drawn words.
     Tape,
+}
+
+impl Field {
+    /// The word that fault lines print.
+    pub fn name(self) -> &'static [u8]
+        ensures { result.now ≡ field_name self }
+    {
+        match self {
+            Field::Servers => b"servers",
+            Field::Buckets => b"buckets",
+            Field::Depth => b"depth",
+            Field::Retained => b"retained",
+            Field::Block => b"block",
+            Field::Filter => b"filter",
+            Field::Hits => b"hits",
+            Field::Ahead => b"ahead",
+            Field::Clients => b"clients",
+            Field::Phases => b"phases",
+            Field::Ticks => b"ticks",
+            Field::Logs => b"logs",
+            Field::Schedule => b"schedule",
+            Field::Table => b"table",
+            Field::Work => b"work",
+            Field::Tape => b"tape",
+        }
+    }
 }

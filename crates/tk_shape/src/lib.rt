@@ -3,6 +3,7 @@
 #![tactic(auto)]
 
 mod bytes;
+mod differs;
 mod field;
 mod lengths;
 mod memory;
@@ -10,6 +11,7 @@ mod shape;
 mod words;
 
 pub use bytes::Bytes;
+pub use differs::Differs;
 pub use field::Field;
 pub use memory::Memory;
 pub use shape::{Shape, ShapeError};

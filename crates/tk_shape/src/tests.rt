@@ -1,4 +1,4 @@
-use crate::{Bytes, Field, Shape, ShapeError, Words};
+use crate::{Bytes, Differs, Field, Shape, ShapeError, Words};
 use std::test::Fail;
 
 const SMALL: [u32; 12] = [2, 8, 4, 4, 24, 64, 1, 0, 2, 2, 1, 1];
@@ -49,13 +49,27 @@ fn lists_go_in_and_out(rt: HostRuntime) -> Result<(), Fail> {
         .ok()
         .ok_or("memory")?;
     assert_eq!(rt; bytes.as_slice(), b"talek".as_slice());
+    assert_eq!(rt; bytes.clone()?.as_slice(), b"talek".as_slice());
     let bytes = Bytes::from_vec(bytes.into_vec());
     assert_eq!(rt; bytes.into_vec().len(), 5);
     let words = Words::from_slice(rt.alloc(), &[1, 4294967295])
         .ok()
         .ok_or("memory")?;
     assert_eq!(rt; words.as_slice(), [1, 4294967295].as_slice());
+    assert_eq!(rt; words.clone()?.as_slice(), words.as_slice());
     let words = Words::from_vec(words.into_vec());
     assert_eq!(rt; words.into_vec().len(), 2);
+    Ok(())
+}
+
+#[test]
+fn shapes_differ(rt: HostRuntime) -> Result<(), Fail> {
+    let small = Shape::new(SMALL).ok().ok_or("in range")?;
+    assert_eq!(rt; small.differs(&small), None);
+    let other = [2, 8, 4, 5, 24, 64, 1, 0, 2, 2, 1, 7];
+    let other = Shape::new(other).ok().ok_or("in range")?;
+    let (field, a, b) = (Field::Retained, 4, 5);
+    assert_eq!(rt; small.differs(&other), Some(Differs { field, a, b }));
+    assert_eq!(rt; field.name(), b"retained".as_slice());
     Ok(())
 }

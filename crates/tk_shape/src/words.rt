@@ -1,7 +1,7 @@
 ghost use Rattle.std.specs.Prelude.{◌≡◌, List, ℕ, IfOk};
 
 use crate::Memory;
-use std::alloc::Global;
+use std::alloc::{AllocError, Global};
 use std::marker::Model;
 
 /// Words of 32 bits, seen as their list.
@@ -42,5 +42,14 @@ impl Words {
         ensures { result.items ≡ self }
     {
         self.items
+    }
+}
+
+impl Clone for Words {
+    ghost is_clone = { λ x y. y ≡ x };
+
+    fn clone(&self) -> Result<Words, AllocError> {
+        let items = Vec::from_slice(*self.items.allocator(), &self.items)?;
+        Ok(Words { items })
     }
 }
