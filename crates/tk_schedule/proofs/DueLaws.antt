@@ -2,6 +2,7 @@
 use Rattle.std.proofs.Common.{◌≡◌, ℕ, zero, suc, ◌+◌, List, [], ◌∷◌, ◌++◌, Bool, true, false, refl, sym, ap, ◌∙◌, append_assoc, Option, Some, None, flat_map, map, eqb-true, eq-eqb}
 use Rattle.std.specs.Prelude.{◌&&◌, cond, not, ◌==◌}
 use Rattle.std.specs.List.{list_all}
+use Rattle.std.proofs.lemmas.Bool.{and_parts, and_from}
 use Rattle.tk_shape.specs.declared.shape.Shape.{Shape}
 use Rattle.tk_schedule.specs.declared.item.Item.{Item}
 use Rattle.tk_schedule.specs.declared.raw.RawLine.{RawLine}
@@ -10,7 +11,6 @@ use Rattle.tk_schedule.specs.declared.raw.RawKind.TheVariants.{Order, Reads, End
 use Rattle.tk_schedule.specs.Raw.{is_end, is_none_left, ends_once, kinds}
 use Rattle.tk_schedule.specs.Schedule.{phase_of, tick_of}
 use Rattle.tk_schedule.specs.Due.{Due, order_of, epochs_of, the_end, is_turn_of, is_order, are_epochs, is_due, first_bad}
-use Rattle.tk_schedule.proofs.TurnLaws.{both, both_true}
 
 -- ---- one line
 
@@ -27,8 +27,8 @@ pub record IsReadsLine (shape : Shape) (g : ℕ) (kind : RawKind) : Type 0 where
 pub order_line : (shape : Shape) (g : ℕ) (kind : RawKind) → is_due shape (order_of g) kind ≡ true →
     IsOrderLine shape g kind
 order_line shape g (Order phase tick items) e =
-    let two = both (is_turn_of shape g phase tick) (is_order shape g items) e in
-    let when = both (phase == phase_of shape g) (tick == tick_of shape g) two.0 in
+    let two = and_parts (is_turn_of shape g phase tick) (is_order shape g items) e in
+    let when = and_parts (phase == phase_of shape g) (tick == tick_of shape g) two.0 in
     let p : phase ≡ phase_of shape g = eqb-true phase (phase_of shape g) when.0 in
     let t : tick ≡ tick_of shape g = eqb-true tick (tick_of shape g) when.1 in
     record { items = items; kind_is = cc (p, t); ordered = two.1 }
@@ -39,8 +39,8 @@ pub reads_line : (shape : Shape) (g : ℕ) (kind : RawKind) → is_due shape (ep
     IsReadsLine shape g kind
 reads_line shape g (Order phase tick items) e = absurd (cc)
 reads_line shape g (Reads phase tick epochs) e =
-    let two = both (is_turn_of shape g phase tick) (are_epochs shape g epochs) e in
-    let when = both (phase == phase_of shape g) (tick == tick_of shape g) two.0 in
+    let two = and_parts (is_turn_of shape g phase tick) (are_epochs shape g epochs) e in
+    let when = and_parts (phase == phase_of shape g) (tick == tick_of shape g) two.0 in
     let p : phase ≡ phase_of shape g = eqb-true phase (phase_of shape g) when.0 in
     let t : tick ≡ tick_of shape g = eqb-true tick (tick_of shape g) when.1 in
     record { epochs = epochs; kind_is = cc (p, t); read = two.1 }
@@ -53,20 +53,20 @@ end_line shape End e = refl
 
 turn_is : (shape : Shape) (g : ℕ) → is_turn_of shape g (phase_of shape g) (tick_of shape g) ≡ true
 turn_is shape g =
-    both_true (phase_of shape g == phase_of shape g) (tick_of shape g == tick_of shape g)
+    and_from (phase_of shape g == phase_of shape g) (tick_of shape g == tick_of shape g)
     (eq-eqb (phase_of shape g) (phase_of shape g) refl)
     (eq-eqb (tick_of shape g) (tick_of shape g) refl)
 
 pub order_is_due : (shape : Shape) (g : ℕ) (items : List Item) → is_order shape g items ≡ true
     → is_due shape (order_of g) (Order (phase_of shape g) (tick_of shape g) items) ≡ true
 order_is_due shape g items e =
-    both_true (is_turn_of shape g (phase_of shape g) (tick_of shape g)) (is_order shape g items)
+    and_from (is_turn_of shape g (phase_of shape g) (tick_of shape g)) (is_order shape g items)
     (turn_is shape g) e
 
 pub epochs_are_due : (shape : Shape) (g : ℕ) (epochs : List ℕ) → are_epochs shape g epochs ≡ true
     → is_due shape (epochs_of g) (Reads (phase_of shape g) (tick_of shape g) epochs) ≡ true
 epochs_are_due shape g epochs e =
-    both_true (is_turn_of shape g (phase_of shape g) (tick_of shape g)) (are_epochs shape g epochs)
+    and_from (is_turn_of shape g (phase_of shape g) (tick_of shape g)) (are_epochs shape g epochs)
     (turn_is shape g) e
 
 -- ---- several
@@ -83,8 +83,8 @@ pub due_front : (shape : Shape) (ds : List Due) (ks rest : List RawKind) →
 due_front shape ds [] rest e = refl
 due_front shape [] (k ∷ ks) rest e = absurd (cc)
 due_front shape (d ∷ ds) (k ∷ ks) rest e =
-    let two = both (is_due shape d k) (are_due shape ds (ks ++ rest)) e in
-    both_true (is_due shape d k) (are_due shape ds ks) two.0 (due_front shape ds ks rest two.1)
+    let two = and_parts (is_due shape d k) (are_due shape ds (ks ++ rest)) e in
+    and_from (is_due shape d k) (are_due shape ds ks) two.0 (due_front shape ds ks rest two.1)
 
 -- then none is bad
 pub due_none : (shape : Shape) (ds : List Due) (ls : List RawLine) →
@@ -92,7 +92,7 @@ pub due_none : (shape : Shape) (ds : List Due) (ls : List RawLine) →
 due_none shape [] ls e = refl
 due_none shape (d ∷ ds) [] e = refl
 due_none shape (d ∷ ds) (l ∷ ls) e =
-    let two = both (is_due shape d l.kind) (are_due shape ds (kinds ls)) e in
+    let two = and_parts (is_due shape d l.kind) (are_due shape ds (kinds ls)) e in
     ap (λ (b : Bool). cond b (first_bad shape ds ls) (Some l.line)) two.0
     ∙ due_none shape ds ls two.1
 
@@ -122,7 +122,7 @@ pub end_behind_told : (raw : List RawLine) (line : ℕ) →
     → ends_once (raw ++ record { line = line; kind = End } ∷ []) ≡ true
 end_behind_told [] line e = refl
 end_behind_told (l ∷ ls) line e =
-    let two = both (not (is_end l.kind)) (list_all (λ m. not (is_end m.kind)) ls) e in
+    let two = and_parts (not (is_end l.kind)) (list_all (λ m. not (is_end m.kind)) ls) e in
     let behind : List RawLine = ls ++ record { line = line; kind = End } ∷ [] in
     ap (λ (b : Bool). cond b (is_none_left behind) (ends_once behind))
     (not_end (is_end l.kind) two.0)
@@ -156,16 +156,16 @@ none_due shape [] [] ends e = refl
 none_due shape [] (l ∷ ls) ends e =
     let p = not_undue shape the_end [] l ls e in
     let last = none_behind l.kind l.line ls (end_line shape l.kind p) ends in
-    both_true (is_due shape the_end l.kind) (are_due shape [] (kinds ls)) p
+    and_from (is_due shape the_end l.kind) (are_due shape [] (kinds ls)) p
     (ap (λ (xs : List RawLine). are_due shape [] (kinds xs)) last)
 none_due shape (d ∷ ds) [] ends e = refl
 none_due shape (d ∷ ds) (l ∷ []) ends e =
     let p = not_undue shape d (ds ++ the_end ∷ []) l [] e in
-    both_true (is_due shape d l.kind) true p refl
+    and_from (is_due shape d l.kind) true p refl
 none_due shape (d ∷ ds) (l ∷ m ∷ ls) ends e =
     let p = not_undue shape d (ds ++ the_end ∷ []) l (m ∷ ls) e in
     let left = sym (due_bad shape d (ds ++ the_end ∷ []) l (m ∷ ls) p) ∙ e in
-    both_true (is_due shape d l.kind) (are_due shape (ds ++ the_end ∷ []) (kinds (m ∷ ls))) p
+    and_from (is_due shape d l.kind) (are_due shape (ds ++ the_end ∷ []) (kinds (m ∷ ls))) p
     (none_due shape ds (m ∷ ls) (ends_behind l.kind l.line m ls ends) left)
 
 -- ---- the first bad line
@@ -190,7 +190,7 @@ stops_more shape d ds l ls at p s = record {
   behind = s.behind;
   whole = ap (λ (xs : List RawLine). l ∷ xs) s.whole;
   number = s.number;
-  due = both_true (is_due shape d l.kind) (are_due shape ds (kinds s.before)) p s.due;
+  due = and_from (is_due shape d l.kind) (are_due shape ds (kinds s.before)) p s.due;
   undue = ap (λ (b : Bool). b && are_due shape ds (kinds (s.before ++ s.bad ∷ []))) p ∙ s.undue;
 }
 
@@ -250,10 +250,11 @@ stops_bad shape [] [] bad behind ends due undue =
 stops_bad shape (d ∷ ds) [] bad behind ends due undue =
     undue_bad shape d (ds ++ the_end ∷ []) bad behind (undue_alone (is_due shape d bad.kind) undue)
 stops_bad shape [] (l ∷ ls) bad behind ends due undue =
-    let two = both (is_due shape the_end l.kind) (are_due shape [] (kinds ls)) due in
+    let two = and_parts (is_due shape the_end l.kind) (are_due shape [] (kinds ls)) due in
     absurd (not_behind l.kind l.line ls behind bad (end_line shape l.kind two.0) ends)
 stops_bad shape (d ∷ ds) (l ∷ ls) bad behind ends due undue =
-    let two = both (is_due shape d l.kind) (are_due shape (ds ++ the_end ∷ []) (kinds ls)) due in
+    let rest = are_due shape (ds ++ the_end ∷ []) (kinds ls) in
+    let two = and_parts (is_due shape d l.kind) rest due in
     due_bad shape d (ds ++ the_end ∷ []) l (ls ++ bad ∷ behind) two.0
     ∙ stops_bad shape ds ls bad behind (ends_rest l.kind l.line ls behind bad ends) two.1
     (sym (ap (λ (b : Bool). b && are_due shape (ds ++ the_end ∷ []) (kinds (ls ++ bad ∷ []))) two.0)

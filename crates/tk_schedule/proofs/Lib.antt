@@ -4,3 +4,4 @@ pub mod LineLaws
 pub mod DueLaws
 pub mod ToldLaws
 pub mod BadLineLaws
+pub mod Offers

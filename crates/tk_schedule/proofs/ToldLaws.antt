@@ -3,6 +3,7 @@
 use Rattle.std.proofs.Common.{◌≡◌, ℕ, zero, suc, ◌+◌, ◌<◌, List, [], ◌∷◌, ◌++◌, length, replicate, Bool, true, false, cond, refl, sym, ap, subst, ◌∙◌, arith, append_assoc, append-nil, add-zero, zero-add, get_or, Option, Some, None, flat_map}
 use Rattle.std.specs.Prelude.{◌&&◌}
 use Rattle.std.specs.List.{range_with_len}
+use Rattle.std.proofs.lemmas.Bool.{and_parts}
 use Rattle.tk_shape.specs.declared.shape.Shape.{Shape}
 use Rattle.tk_shape.specs.Lengths.{turn_count}
 use Rattle.tk_schedule.specs.declared.item.Item.{Item}
@@ -15,7 +16,7 @@ use Rattle.tk_schedule.specs.Schedule.{phase_of, tick_of, phases_over, is_closin
 use Rattle.tk_schedule.specs.Due.{Due, order_of, epochs_of, the_end, turn_due, is_order, are_epochs, is_due}
 use Rattle.tk_schedule.specs.Told.{turn_lines, lines_from, lines_due}
 use Rattle.tk_schedule.proofs.ScheduleLaws.{serial_turn-IsTurn}
-use Rattle.tk_schedule.proofs.TurnLaws.{both, legal_turn, legal_order, legal_epochs, newest_are_epochs, epochs_of_open}
+use Rattle.tk_schedule.proofs.TurnLaws.{legal_turn, legal_order, legal_epochs, newest_are_epochs, epochs_of_open}
 use Rattle.tk_schedule.proofs.LineLaws.{due_from, due_from-suc}
 use Rattle.tk_schedule.proofs.DueLaws.{order_line, reads_line, end_line, order_is_due, epochs_are_due, are_due}
 
@@ -184,7 +185,8 @@ extend_behind shape g n items ordered true e others [] due =
     (turn_lines-at shape g turn true e))
     (extend_turn shape g n turn [] legal (others [] refl)))
 extend_behind shape g n items ordered true e others (k ∷ ks) due =
-    let two = both (is_due shape (epochs_of g) k) (are_due shape (dues shape (g + 1) n) ks) due in
+    let rest = are_due shape (dues shape (g + 1) n) ks in
+    let two = and_parts (is_due shape (epochs_of g) k) rest due in
     let reads = reads_line shape g k two.0 in
     let turn : TurnOrder = record { order = items; epochs = reads.epochs } in
     let legal = legal_turn shape g turn ordered reads.read in
@@ -198,7 +200,7 @@ pub extend : (shape : Shape) (g n : ℕ) (ks : List RawKind) →
     are_due shape (dues shape g n) ks ≡ true → Extends shape g n ks
 extend shape g zero [] due = extend_none shape g zero
 extend shape g zero (k ∷ []) due =
-    let two = both (is_due shape the_end k) true due in
+    let two = and_parts (is_due shape the_end k) true due in
     record {
       turns = [];
       counted = refl;
@@ -207,12 +209,12 @@ extend shape g zero (k ∷ []) due =
       lines = ap (λ (x : RawKind). x ∷ []) (end_line shape k two.0);
     }
 extend shape g zero (k ∷ m ∷ ks) due =
-    let two = both (is_due shape the_end k) false due in
+    let two = and_parts (is_due shape the_end k) false due in
     let never = two.1 in
     absurd (cc (never))
 extend shape g (suc n) [] due = extend_none shape g (suc n)
 extend shape g (suc n) (k ∷ ks) due =
-    let two = both (is_due shape (order_of g) k)
+    let two = and_parts (is_due shape (order_of g) k)
     (are_due shape (cond (is_closing shape g) (epochs_of g ∷ []) [] ++ dues shape (g + 1) n) ks)
     due in
     let line = order_line shape g k two.0 in
@@ -229,7 +231,8 @@ same_first : (b : Bool) (p t : ℕ) (a c : List Item) (d e : List ℕ) (x y : Li
 same_first true p t a c d e x y h = (cc, cc, λ _. cc)
 same_first false p t a c d e x y h = (cc, cc, λ f. absurd (cc (f)))
 
-same_epochs : (shape : Shape) (g : ℕ) (a b : TurnOrder) → IsTurn shape g a → IsTurn shape g b
+-- the lines of a legal turn tell its epochs: of an open one there are none to tell
+pub same_epochs : (shape : Shape) (g : ℕ) (a b : TurnOrder) → IsTurn shape g a → IsTurn shape g b
     → (is_closing shape g ≡ true → a.epochs ≡ b.epochs) → a.epochs ≡ b.epochs
 same_epochs shape g a b la lb same =
     elim (is_closing shape g) as (λ c. is_closing shape g ≡ c → a.epochs ≡ b.epochs) [
@@ -237,7 +240,7 @@ same_epochs shape g a b la lb same =
       | false ↦ λ e. epochs_of_open shape g a e la ∙ sym (epochs_of_open shape g b e lb)
     ] refl
 
-same_turn : (a b : TurnOrder) → a.order ≡ b.order → a.epochs ≡ b.epochs → a ≡ b
+pub same_turn : (a b : TurnOrder) → a.order ≡ b.order → a.epochs ≡ b.epochs → a ≡ b
 same_turn a b p q = λ i. record { order = p i; epochs = q i }
 
 pub one_told : (shape : Shape) (g : ℕ) (es fs : List TurnOrder) → AllLegal shape g es →

@@ -3,7 +3,7 @@
 use Rattle.std.proofs.Common.{◌≡◌, ℕ, ◌+◌, ◌*◌, ◌/◌, ◌%◌, ◌<◌, ◌≤◌, List, [], ◌∷◌, length, replicate, Bool, true, false, refl, sym, ap, subst, ◌∙◌, arith, zero-add, count_by, get_or, eqb-true, eq-eqb, tests}
 use Rattle.std.specs.Prelude.{◌==◌, nat_le, ◌&&◌}
 use Rattle.std.specs.List.{list_all, range_with_len}
-use Rattle.std.proofs.lemmas.Bool.{eqb-false}
+use Rattle.std.proofs.lemmas.Bool.{and_parts, and_from, eqb-false}
 use Rattle.std.proofs.lemmas.Nat.{le-div, div-add-mod'}
 use Rattle.std.proofs.lemmas.List.{ext_get_or, length-replicate, get_or-replicate}
 use Rattle.std.proofs.lemmas.List.Elements.{All-get_or, All-from_get_or}
@@ -15,13 +15,6 @@ use Rattle.tk_schedule.specs.declared.history.TurnOrder.{TurnOrder}
 use Rattle.tk_schedule.specs.Schedule.{is_of, is_mark, is_closing, marks_due, phases_over, IsTurn, serial_turn}
 use Rattle.tk_schedule.specs.Due.{is_order, are_epochs}
 use Rattle.tk_schedule.proofs.ScheduleLaws.{serial_turn-IsTurn}
-
-pub both : (a b : Bool) → (a && b) ≡ true → (a ≡ true) × (b ≡ true)
-both true b e = (refl, e)
-both false b e = absurd (cc)
-
-pub both_true : (a b : Bool) → a ≡ true → b ≡ true → (a && b) ≡ true
-both_true a b p q = rw (p, q) refl
 
 at_each : (p : ℕ → Bool) (xs : List ℕ) → list_all p xs ≡ true → (i : ℕ) → i < length xs →
     p (get_or xs i 0) ≡ true
@@ -52,11 +45,11 @@ le_is a b h = grind (arith, tests)
 pub legal_turn : (shape : Shape) (g : ℕ) (turn : TurnOrder) → is_order shape g turn.order ≡ true
     → are_epochs shape g turn.epochs ≡ true → IsTurn shape g turn
 legal_turn shape g turn ordered read =
-    let three = both _ _ ordered in
-    let two = both _ _ three.0 in
-    let readers = both _ _ read in
+    let three = and_parts _ _ ordered in
+    let two = and_parts _ _ three.0 in
+    let readers = and_parts _ _ read in
     let counted : length turn.epochs ≡ shape.clients = eqb-true _ _ readers.0 in
-    let within = λ (c : ℕ) (l : c < shape.clients). both _ _
+    let within = λ (c : ℕ) (l : c < shape.clients). and_parts _ _
     (at_each _ turn.epochs readers.1 c (omega arith)) in
     record {
       counted = eqb-true _ _ two.0;
@@ -71,7 +64,7 @@ legal_turn shape g turn ordered read =
 pub legal_order : (shape : Shape) (g : ℕ) (turn : TurnOrder) → IsTurn shape g turn →
     is_order shape g turn.order ≡ true
 legal_order shape g turn legal =
-    both_true _ _ (both_true _ _ (eq-eqb _ _ legal.counted)
+    and_from _ _ (and_from _ _ (eq-eqb _ _ legal.counted)
     (from_below (λ d. count_by (is_of d) turn.order == 1) shape.clients
     (λ c l. eq-eqb _ _ (legal.each_once c l))))
     (eq-eqb _ _ legal.marks)
@@ -79,11 +72,11 @@ legal_order shape g turn legal =
 pub legal_epochs : (shape : Shape) (g : ℕ) (turn : TurnOrder) → IsTurn shape g turn →
     are_epochs shape g turn.epochs ≡ true
 legal_epochs shape g turn legal =
-    both_true _ _ (eq-eqb _ _ legal.readers)
+    and_from _ _ (eq-eqb _ _ legal.readers)
     (from_each (λ e. nat_le (phases_over shape g) e && nat_le e (phases_over shape (g + 1)))
     turn.epochs (λ i l.
     let low : i < shape.clients = omega (arith, legal.readers) in
-    both_true _ _ (le_is _ _ (legal.newest_before i low)) (le_is _ _ (legal.none_ahead i low))))
+    and_from _ _ (le_is _ _ (legal.newest_before i low)) (le_is _ _ (legal.none_ahead i low))))
 
 pub newest_are_epochs : (shape : Shape) (g : ℕ) →
     are_epochs shape g (replicate shape.clients (phases_over shape g)) ≡ true

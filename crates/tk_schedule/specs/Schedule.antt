@@ -57,22 +57,24 @@ is_within n Publish = true
 abbrev pub marks_due : Shape → ℕ → ℕ
 marks_due shape g = if is_closing shape g then 1 else 0
 
--- Each client writes once, the publisher marks the end of a phase and nothing else, and a read is of
--- the newest epoch before the turn, or in a closing turn of the one that the turn itself makes.
+-- Each client writes once, the publisher marks the end of a phase and nothing else, and a read is
+-- of the newest epoch before the turn, or in a closing turn of the one that the turn itself makes.
 pub record IsTurn (shape : Shape) (g : ℕ) (turn : TurnOrder) : Type 0 where
   pub counted : length turn.order ≡ shape.clients + marks_due shape g
   pub each_once : (c : ℕ) → c < shape.clients → count_by (is_of c) turn.order ≡ 1
   pub marks : count_by is_mark turn.order ≡ marks_due shape g
   pub readers : length turn.epochs ≡ shape.clients
   pub newest_before : (c : ℕ) → c < shape.clients → phases_over shape g ≤ slice_index turn.epochs c
-  pub none_ahead : (c : ℕ) → c < shape.clients → slice_index turn.epochs c ≤ phases_over shape (g + 1)
+  pub none_ahead : (c : ℕ) → c < shape.clients →
+      slice_index turn.epochs c ≤ phases_over shape (g + 1)
 
 -- the history is one that a run of this shape may have
 pub record IsLegal (shape : Shape) (H : History) : Type 0 where
   pub turns_counted : length H ≡ turn_count shape
   pub each_turn : (g : ℕ) → g < turn_count shape → IsTurn shape g (slice_index_or H g blank_turn)
 
--- a turn of the serial history: the clients by number, then the mark, and no epoch of the turn itself
+-- a turn of the serial history: the clients by number, then the mark, and no epoch of the turn
+-- itself
 abbrev pub serial_turn : Shape → ℕ → TurnOrder
 serial_turn shape g =
     record {

@@ -29,7 +29,8 @@ pub(crate) fn is_order(shape: &Shape, turn: u32, items: &[Item]) -> bool
 
 /// Whether each client below a number is there once.
 fn has_each(clients: u32, items: &[Item]) -> bool
-    ensures { result ≡ list_all (λ c. count_by (is_of c) items.now == 1) (range_with_len 0 clients) }
+    ensures { result
+        ≡ list_all (λ c. count_by (is_of c) items.now == 1) (range_with_len 0 clients) }
 {
     (0..clients).all(|client| times(client, items) == 1)
 }

@@ -55,7 +55,8 @@ impl History {
     /// The history that lines tell. An error names the first line that isn't the one due.
     pub fn from_raw(alloc: Global, shape: &Shape, raw: &RawHistory) -> Result<History, HistoryError>
         ensures told { IfOk result (λ h. Tells shape.now raw.now h) }
-        ensures only { (h : List TurnOrder) → Tells shape.now raw.now h → Gives result (λ g. g ≡ h) }
+        ensures only { (h : List TurnOrder) → Tells shape.now raw.now h →
+            Gives result (λ g. g ≡ h) }
         ensures bad { Names (λ h. None) result (bad_line shape.now raw.now) }
     {
         Ok(History {
@@ -67,7 +68,8 @@ impl History {
     pub fn order(&self, turn: u32) -> &[Item]
         requires { turn < length self.now }
         ensures order { result.now ≡ order_at self.now turn }
-        ensures clients_in { (shape : Shape) → turn < turn_count shape → IsLegal shape self.now → IsTrue (list_all (is_within shape.clients) result.now) }
+        ensures clients_in { (shape : Shape) → turn < turn_count shape → IsLegal shape self.now →
+            IsTrue (list_all (is_within shape.clients) result.now) }
     {
         self.turns[turn as usize].order.as_slice()
     }

@@ -46,7 +46,8 @@ fn turn_in<'a>(
     requires turn { turn < turn_count shape.now }
     requires ends { IsTrue (ends_once lines.now) }
     ensures legal { IfOk result (λ x. IsTurn shape.now turn x.0) }
-    ensures told { IfOk result (λ x. kinds lines.now ≡ turn_lines shape.now turn x.0 ++ kinds x.1.now) }
+    ensures told { IfOk result (λ x.
+        kinds lines.now ≡ turn_lines shape.now turn x.0 ++ kinds x.1.now) }
     ensures ends { IfOk result (λ x. IsTrue (ends_once x.1.now)) }
     ensures bad { (ds : List Due) → Names (λ x. first_bad shape.now ds x.1.now) result
         (first_bad shape.now (turn_due shape.now turn ++ ds) lines.now) }

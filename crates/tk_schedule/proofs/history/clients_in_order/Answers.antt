@@ -7,5 +7,7 @@ use Rattle.tk_schedule.proofs.history.clients_in_order.Goals as goal
 
 pub loop-client-preserved : goal.loop-client-preserved
 loop-client-preserved c =
-    let more = map-range_with_len_more {X = Item} (λ x. Client x) 0 c.loop-client.client c.loop-client.client (zero-add c.loop-client.client) in
+    let more = map-range_with_len_more {X = Item} (λ x. Client x) 0 c.loop-client.client
+    c.loop-client.client (zero-add c.loop-client.client)
+    in
     cc (c.in_ok-push.ensures.items)

@@ -25,8 +25,8 @@ returns-in_err-told-clause-bad c =
     ∙ ap (λ (ds : List Due). first_bad c.args.shape.now ds c.turns.lines.now)
     (due_from-step c.args.shape.now c.turns.turn (turn_count c.args.shape.now) (omega arith)) in
     let p = err_from_is_err_and c.from_residual.result c.from_residual.ensures.1 in
-    rw (p.1, p.2) (names_err {X = ℕ} {Y = ℕ} (λ x. None) (λ x. None) c.in_err-told.field-0.0 _ _ left
-    (c.in_err-told.ensures.bad behind))
+    rw (p.1, p.2) (names_err {X = ℕ} {Y = ℕ} (λ x. None) (λ x. None) c.in_err-told.field-0.0 _ _
+    left (c.in_err-told.ensures.bad behind))
 
 pub turns-preserved : goal.turns-preserved
 turns-preserved c =

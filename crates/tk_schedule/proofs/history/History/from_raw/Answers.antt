@@ -14,8 +14,8 @@ returns-in_err-turns_in-clause-only c h told =
     let none = ap (bad_line c.args.shape.now) c.as_slice.ensures.lines
     ∙ tells_none c.args.shape.now c.args.raw.now h told in
     let p = err_from_is_err_and c.from_residual.result c.from_residual.ensures.1 in
-    rw (p.1, p.2) (only_memory {X = ℕ} {Y = List TurnOrder} (λ x. None) c.in_err-turns_in.field-0.0 _ (λ g. g ≡ h) none
-    c.in_err-turns_in.ensures.bad)
+    rw (p.1, p.2) (only_memory {X = ℕ} {Y = List TurnOrder} (λ x. None)
+    c.in_err-turns_in.field-0.0 _ (λ g. g ≡ h) none c.in_err-turns_in.ensures.bad)
 
 pub returns-clause-only : goal.returns-clause-only
 returns-clause-only c h told =

@@ -8,5 +8,8 @@ use Rattle.tk_schedule.proofs.history.History.order.Goals as goal
 
 pub returns-clause-clients_in : goal.returns-clause-clients_in
 returns-clause-clients_in c shape turn_in legal =
-    let order : c.as_slice.result.now ≡ order_at c.args.self.now c.args.turn = grind (arith, common_steps) in
-    ap (list_all (is_within shape.clients)) order ∙ turn_within shape c.args.turn _ (legal.each_turn c.args.turn turn_in)
+    let order : c.as_slice.result.now ≡ order_at c.args.self.now c.args.turn =
+    grind (arith, common_steps)
+    in
+    ap (list_all (is_within shape.clients)) order
+    ∙ turn_within shape c.args.turn _ (legal.each_turn c.args.turn turn_in)
