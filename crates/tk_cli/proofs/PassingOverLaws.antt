@@ -14,7 +14,7 @@ use Rattle.tk_shape.specs.Lengths.{turn_count}
 use Rattle.tk_schedule.specs.declared.history.History.{History}
 use Rattle.tk_schedule.specs.Schedule.{epoch_at, serial_history}
 use Rattle.tk_script.specs.declared.script.Script.{Script}
-use Rattle.tk_script.proofs.SoundLaws.{parts}
+use Rattle.std.proofs.lemmas.Bool.{and_parts as parts}
 use Rattle.tk_words.specs.Words.{BookWords, words_of}
 use Rattle.tk_words.specs.Opening.{IsNumber, OpensSealed}
 use Rattle.tk_words.specs.OpeningLaws.{opens_sealed}

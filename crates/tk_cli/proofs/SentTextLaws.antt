@@ -10,7 +10,7 @@ use Rattle.tk_script.specs.declared.say.Say.{Say}
 use Rattle.tk_script.specs.declared.script.Script.{Script}
 use Rattle.tk_script.specs.SoundScript.{is_say}
 use Rattle.tk_script.specs.Sent.{Sending, sendings_from, sendings, in_run, writer_of, sent}
-use Rattle.tk_script.proofs.SoundLaws.{parts}
+use Rattle.std.proofs.lemmas.Bool.{and_parts as parts}
 use Rattle.tk_table.proofs.Each.{each-filter}
 
 -- the text is allowed, and has room in a block

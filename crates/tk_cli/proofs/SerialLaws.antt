@@ -7,7 +7,7 @@ use Rattle.tk_shape.specs.declared.shape.Shape.{Shape}
 use Rattle.tk_shape.specs.Lengths.{tape_len}
 use Rattle.tk_script.specs.Grammar.{Line, Spells, TapeFor, kept_of}
 use Rattle.tk_script.specs.SoundScript.{has_keys}
-use Rattle.tk_script.proofs.SoundLaws.{parts}
+use Rattle.std.proofs.lemmas.Bool.{and_parts as parts}
 use Rattle.tk_script.specs.declared.keys.Keys.{Keys}
 use Rattle.tk_script.specs.declared.input.RawTape.{RawTape}
 use Rattle.tk_script.specs.declared.input.Input.{Input}

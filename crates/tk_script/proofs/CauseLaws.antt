@@ -5,6 +5,7 @@ use Rattle.std.specs.List.{list_all}
 use Rattle.std.specs.Str.{bytes_eq}
 use Rattle.std.proofs.lemmas.Slice.Eq.{bytes_eq-Decides}
 use Rattle.std.proofs.lemmas.Bool.Decides.{nat_tests}
+use Rattle.std.proofs.lemmas.Bool.{and_parts, and_from}
 use Rattle.tk_shape.specs.declared.field.Field.{Field}
 use Rattle.tk_shape.specs.declared.shape.Shape.{Shape}
 use Rattle.tk_shape.specs.Limits.{Numbers, limit, broken, numbers_in}
@@ -16,7 +17,6 @@ use Rattle.tk_script.specs.declared.role.Role.{Role}
 use Rattle.tk_script.specs.Fields.{LacksSpace}
 use Rattle.tk_script.specs.SoundScript.{is_ascending, is_role}
 use Rattle.tk_script.specs.Reading.{named, unbroken, read_numbers, drawn_if, read_kind, first_from, in_order, read_clients}
-use Rattle.tk_script.proofs.SoundLaws.{both, parts}
 
 -- ---- words
 
@@ -27,9 +27,9 @@ no_space x t e = absurd (cc (t, ap not (eq-eqb x 0x20 e)))
 pub lacks_by_test : (xs : List ℕ) → list_all (λ b. not (b == 0x20)) xs ≡ true → LacksSpace xs
 lacks_by_test [] t k within e = omega (arith, within)
 lacks_by_test (x ∷ xs) t zero within e =
-    no_space x (parts (not (x == 0x20)) (list_all (λ b. not (b == 0x20)) xs) t).0 e
+    no_space x (and_parts (not (x == 0x20)) (list_all (λ b. not (b == 0x20)) xs) t).0 e
 lacks_by_test (x ∷ xs) t (suc k) within e =
-    lacks_by_test xs (parts (not (x == 0x20)) (list_all (λ b. not (b == 0x20)) xs) t).1 k
+    lacks_by_test xs (and_parts (not (x == 0x20)) (list_all (λ b. not (b == 0x20)) xs) t).1 k
     (omega (arith, within)) e
 
 -- ---- the shape line
@@ -130,14 +130,14 @@ pub all_below-none : (n : ℕ) (ns : List ℕ) → first_from n ns ≡ None →
 all_below-none n [] e = refl
 all_below-none n (k ∷ ns) e =
     let test = none_test (nat_le n k) k (first_from n ns) e in
-    both (nat_lt k n) (list_all (λ m. nat_lt m n) ns) (below n k test.0)
+    and_from (nat_lt k n) (list_all (λ m. nat_lt m n) ns) (below n k test.0)
     (all_below-none n ns test.1)
 
 pub none_from : (n : ℕ) (ns : List ℕ) → IsTrue (list_all (λ k. nat_lt k n) ns) →
     first_from n ns ≡ None
 none_from n [] all = refl
 none_from n (k ∷ ns) all =
-    let split = parts (nat_lt k n) (list_all (λ m. nat_lt m n) ns) all in
+    let split = and_parts (nat_lt k n) (list_all (λ m. nat_lt m n) ns) all in
     rw (not_from n k split.0) (none_from n ns split.1)
 
 -- a writer and followers in range that ascend are a role
@@ -145,7 +145,7 @@ pub role_sound : (shape : Shape) (w : ℕ) (fs : List ℕ) →
     first_from shape.clients (w ∷ fs) ≡ None → is_ascending fs ≡ true →
     IsTrue (is_role shape (record { writer = w; followers = fs }))
 role_sound shape w fs none ascends =
-    both (nat_lt w shape.clients && list_all (λ k. nat_lt k shape.clients) fs) (is_ascending fs)
+    and_from (nat_lt w shape.clients && list_all (λ k. nat_lt k shape.clients) fs) (is_ascending fs)
     (all_below-none shape.clients (w ∷ fs) none) ascends
 
 -- a role's clients are in range, and its followers ascend
@@ -153,7 +153,7 @@ pub role_parts : (shape : Shape) (role : Role) (ns : List ℕ) → ns ≡ role.w
     IsTrue (is_role shape role) →
     (first_from shape.clients ns ≡ None) × (is_ascending role.followers ≡ true)
 role_parts shape role ns e sound =
-    let split = parts
+    let split = and_parts
     (nat_lt role.writer shape.clients && list_all (λ k. nat_lt k shape.clients) role.followers)
     (is_ascending role.followers) sound in (
       ap (first_from shape.clients) e

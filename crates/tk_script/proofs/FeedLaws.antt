@@ -4,6 +4,7 @@ use Rattle.std.specs.Prelude.{◌==◌, not, nat_le}
 use Rattle.std.specs.List.{AllByRecursion, list_all}
 use Rattle.std.specs.Str.{is_utf8}
 use Rattle.std.proofs.lemmas.Bool.Decides.{nat_tests}
+use Rattle.std.proofs.lemmas.Bool.{and_parts}
 use Rattle.hex.specs.Hex.{IsBytes, encode_lower, is_hex_digit}
 use Rattle.hex.proofs.HexLemmas.{decode_of-ok, decode_of-encode_lower}
 use Rattle.tk_shape.specs.declared.shape.Shape.{Shape}
@@ -16,7 +17,6 @@ use Rattle.tk_script.specs.Grammar.{Line, lines_of, onto_first, fields, shape_li
 use Rattle.tk_script.specs.SoundScript.{is_role, is_say}
 use Rattle.tk_script.specs.Printing.{text_of, bytes_line}
 use Rattle.tk_script.proofs.LineLaws.{lines_of-feed, lines_of-other}
-use Rattle.tk_script.proofs.SoundLaws.{parts}
 use Rattle.tk_script.proofs.NumberLaws.{all_digits}
 use Rattle.tk_script.proofs.FieldLaws.{IsWord}
 use Rattle.tk_script.proofs.ShapeLaws.{numbers_are_words}
@@ -57,10 +57,10 @@ no_feed x t e = absurd (cc (t, ap not (eq-eqb x 0x0A e)))
 pub feed_by_test : (xs : List ℕ) → list_all (λ b. not (b == 0x0A)) xs ≡ true → LacksFeed xs
 feed_by_test [] t = tt
 feed_by_test (x ∷ xs) t =
-    let both = parts (not (x == 0x0A)) (list_all (λ b. not (b == 0x0A)) xs) t in
+    let both = and_parts (not (x == 0x0A)) (list_all (λ b. not (b == 0x0A)) xs) t in
     (no_feed x both.0, feed_by_test xs both.1)
 
-feed_by_index : (xs : List ℕ) → ((k : ℕ) → k < length xs → get_or xs k 0 ≡ 0x0A → ⊥) →
+pub feed_by_index : (xs : List ℕ) → ((k : ℕ) → k < length xs → get_or xs k 0 ≡ 0x0A → ⊥) →
     LacksFeed xs
 feed_by_index [] none = tt
 feed_by_index (x ∷ xs) none =
@@ -83,7 +83,7 @@ digits_lack bytes are = feed_by_index (encode_lower bytes) (λ k within e.
     let digits = (decode_of-ok (encode_lower bytes) bytes (decode_of-encode_lower bytes are)).1 in
     no_digit (get_or (encode_lower bytes) k 0) (digits k 0 within) e)
 
-fields_lack : (fs : List (List ℕ)) → AllByRecursion LacksFeed fs → LacksFeed (fields fs)
+pub fields_lack : (fs : List (List ℕ)) → AllByRecursion LacksFeed fs → LacksFeed (fields fs)
 fields_lack [] lacks = tt
 fields_lack (f ∷ []) lacks = lacks.0
 fields_lack (f ∷ g ∷ fs) lacks =
@@ -102,13 +102,13 @@ printable b h = grind (arith, nat_tests)
 printables_lack : (text : List ℕ) → list_all is_printable text ≡ true → LacksFeed text
 printables_lack [] all = tt
 printables_lack (b ∷ text) all =
-    let both = parts (is_printable b) (list_all is_printable text) all in
-    let low = printable b (parts (nat_le 0x20 b) (not (b == 0x7F)) both.0).0 in
+    let both = and_parts (is_printable b) (list_all is_printable text) all in
+    let low = printable b (and_parts (nat_le 0x20 b) (not (b == 0x7F)) both.0).0 in
     (λ e. omega (arith, low, e), printables_lack text both.1)
 
 text_lacks : (text : List ℕ) → is_allowed text ≡ true → LacksFeed text
 text_lacks text allowed =
-    printables_lack text (parts (is_utf8 text) (list_all is_printable text) allowed).1
+    printables_lack text (and_parts (is_utf8 text) (list_all is_printable text) allowed).1
 
 -- ---- lines of a script
 
@@ -133,7 +133,7 @@ pub say_line_lacks : (shape : Shape) (say : Say) → IsTrue (is_say shape say) �
     LacksFeed (say_line say)
 say_line_lacks shape say sound =
     let words = say_words shape say sound in
-    let text = text_lacks say.text (parts _ (is_allowed say.text) sound).1 in
+    let text = text_lacks say.text (and_parts _ (is_allowed say.text) sound).1 in
     fields_lack
     (codes "say" ∷ decimal say.phase ∷ decimal say.tick ∷ decimal say.log ∷ say.text ∷ []) (
       feed_by_test (codes "say") refl,
@@ -150,7 +150,7 @@ pub passing_lack : {X : Type 0} (f : X → Line) (p : X → Bool) →
     AllByRecursion LacksFeed (map f xs)
 passing_lack f p lacks [] all = tt
 passing_lack f p lacks (x ∷ xs) all =
-    let both = parts (p x) (list_all p xs) all in
+    let both = and_parts (p x) (list_all p xs) all in
     (lacks x both.0, passing_lack f p lacks xs both.1)
 
 pub all_lack : {X : Type 0} (f : X → Line) (P : X → Type 0) →

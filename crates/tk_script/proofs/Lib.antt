@@ -26,3 +26,6 @@ pub mod TextOfLaws
 pub mod FeedLaws
 pub mod PiecesLaws
 pub mod PrintedLaws
+pub mod SendingLaws
+pub mod SentLaws
+pub mod Offers

@@ -7,12 +7,12 @@ use Rattle.std.specs.Str.Parse.{digits_value}
 use Rattle.std.proofs.lemmas.Bool.Decides.{nat_tests}
 use Rattle.std.proofs.lemmas.List.Splits.{join_with_byte-slice_split}
 use Rattle.std.proofs.lemmas.Slice.Eq.{bytes_eq-Decides}
+use Rattle.std.proofs.lemmas.Bool.{and_parts}
 use Rattle.tk_script.specs.Fields.{LacksSpace}
 use Rattle.tk_script.specs.Grammar.{fields}
 use Rattle.tk_script.specs.Reading.{parts_of, number_if, number_spelled, number_before, numbers_spelled, word_then, numbers_after}
 use Rattle.tk_script.proofs.FieldLaws.{IsWord, LacksSpace-decimal}
 use Rattle.tk_script.proofs.NumberLaws.{digits_value-spelled}
-use Rattle.tk_script.proofs.SoundLaws.{parts}
 
 -- ---- parts
 
@@ -63,7 +63,7 @@ number_if-is : (k n : ℕ) (text : List ℕ) → number_if k text ≡ Some n →
     (n < 2 ^ 32) × (text ≡ decimal n)
 number_if-is k n text e =
     let test = by_test (nat_lt k 4294967296 && bytes_eq (decimal k) text) k n e in
-    let both = parts (nat_lt k 4294967296) (bytes_eq (decimal k) text) test.0 in (
+    let both = and_parts (nat_lt k 4294967296) (bytes_eq (decimal k) text) test.0 in (
       subst (λ m. m < 2 ^ 32) test.1 (below_word k both.0),
       sym ((bytes_eq-Decides (decimal k) text).0 both.1) ∙ ap decimal test.1,
     )

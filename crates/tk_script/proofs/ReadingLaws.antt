@@ -2,8 +2,8 @@
 -- R says which line an item has, and E which items may end in front of which lines.
 use Rattle.std.proofs.Common.{◌≡◌, List, [], ◌∷◌, ◌++◌, map, Bool, IsTrue, refl, ap, sym, ◌∙◌, subst, append_assoc, append-nil}
 use Rattle.std.specs.List.{AllZip, list_all}
+use Rattle.std.proofs.lemmas.Bool.{and_parts, and_from}
 use Rattle.tk_script.specs.Grammar.{Line}
-use Rattle.tk_script.proofs.SoundLaws.{both, parts}
 
 -- of all that the lines could be, what is left to be read
 pub record Remaining {X : Type 0} (R : Line → X → Type 0) (xs : List X) (rest : List Line)
@@ -143,7 +143,7 @@ pub zip-lines : {X : Type 0} (f : X → Line) (p : X → Bool) (xs : List X) →
     AllZip (IsLineOf f p) (map f xs) xs
 zip-lines f p [] pass = tt
 zip-lines f p (x ∷ xs) pass =
-    let split = parts (p x) (list_all p xs) pass in
+    let split = and_parts (p x) (list_all p xs) pass in
     ((refl, split.0), zip-lines f p xs split.1)
 
 cons_both : {A : Type 0} (x y : A) (xs ys : List A) → x ≡ y → xs ≡ ys → x ∷ xs ≡ y ∷ ys
@@ -157,7 +157,7 @@ lines-zip f p [] (x ∷ xs) each = absurd each
 lines-zip f p (l ∷ lines) [] each = absurd each
 lines-zip f p (l ∷ lines) (x ∷ xs) each =
     let rest = lines-zip f p lines xs each.1 in
-    (cons_both l (f x) lines (map f xs) each.0.0 rest.0, both (p x) (list_all p xs) each.0.1 rest.1)
+    (cons_both l (f x) lines (map f xs) each.0.0 rest.0, and_from (p x) (list_all p xs) each.0.1 rest.1)
 
 -- what is read stands at the front
 pub Reads-front : {X : Type 0} (f : X → Line) (p : X → Bool) (E : List X → List Line →

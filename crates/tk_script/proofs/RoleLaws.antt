@@ -9,8 +9,8 @@ use Rattle.tk_script.specs.SoundScript.{is_role}
 use Rattle.std.specs.Prelude.{nat_lt, ◌&&◌}
 use Rattle.std.specs.List.{AllByRecursion}
 use Rattle.std.proofs.lemmas.Bool.Decides.{nat_tests}
+use Rattle.std.proofs.lemmas.Bool.{and_parts}
 use Rattle.tk_script.specs.SoundScript.{is_ascending}
-use Rattle.tk_script.proofs.SoundLaws.{parts}
 use Rattle.tk_script.proofs.FieldLaws.{IsWord}
 use Rattle.tk_script.proofs.ReadingLaws.{Reads, Reads-more, Reads-done, Reads-stuck, Reads-front, IsLineOf, GoesOn, zip-lines}
 
@@ -71,7 +71,7 @@ clients_are_words : (clients : ℕ) (ns : List ℕ) → clients ≤ 64 →
     IsTrue (list_all (λ n. nat_lt n clients) ns) → AllByRecursion IsWord ns
 clients_are_words clients [] few all = tt
 clients_are_words clients (n ∷ ns) few all =
-    let split = parts (nat_lt n clients) (list_all (λ k. nat_lt k clients) ns) all in
+    let split = and_parts (nat_lt n clients) (list_all (λ k. nat_lt k clients) ns) all in
     (client_is_word clients n few split.0, clients_are_words clients ns few split.1)
 
 -- a role's numbers are words
@@ -79,9 +79,9 @@ pub role_words : (shape : Shape) (role : Role) → IsTrue (is_role shape role) �
     AllByRecursion IsWord (role.writer ∷ role.followers)
 role_words shape role sound =
     let few = shape.in_range.clients_high in
-    let first = parts (nat_lt role.writer shape.clients && list_all (λ c. nat_lt c shape.clients)
+    let first = and_parts (nat_lt role.writer shape.clients && list_all (λ c. nat_lt c shape.clients)
     role.followers) (is_ascending role.followers) sound in
-    let second = parts (nat_lt role.writer shape.clients)
+    let second = and_parts (nat_lt role.writer shape.clients)
     (list_all (λ c. nat_lt c shape.clients) role.followers) first.0 in (
       client_is_word shape.clients role.writer few second.0,
       clients_are_words shape.clients

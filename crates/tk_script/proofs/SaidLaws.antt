@@ -6,6 +6,7 @@ use Rattle.std.specs.Str.{bytes_eq}
 use Rattle.std.proofs.lemmas.Bool.Decides.{nat_tests}
 use Rattle.std.proofs.lemmas.List.Splits.{join_with_byte-slice_split}
 use Rattle.std.proofs.lemmas.Slice.Eq.{bytes_eq-Decides}
+use Rattle.std.proofs.lemmas.Bool.{and_parts, and_from, le-leb, lt-ltb}
 use Rattle.tk_shape.specs.declared.shape.Shape.{Shape}
 use Rattle.tk_shape.specs.Limits.{Numbers, is_between}
 use Rattle.tk_seal.specs.Texts.{is_allowed, allowed_front}
@@ -16,8 +17,8 @@ use Rattle.tk_script.specs.SoundScript.{is_say, is_said_by, are_in_order}
 use Rattle.tk_script.specs.Reading.{Reads, parts_of, number_spelled, number_before, numbers_spelled, named, When, is_by, last_when, out_of_range, in_room, said_behind, said, say_numbers, say_parts, read_say}
 use Rattle.tk_script.proofs.CauseLaws.{lacks_by_test, bool_false}
 use Rattle.tk_script.proofs.FieldLaws.{LacksSpace-decimal}
+use Rattle.tk_script.proofs.SoundLaws.{is_say-IsSaid}
 use Rattle.tk_script.proofs.PartLaws.{split_field, number_spelled-decimal, numbers_spelled-are}
-use Rattle.tk_script.proofs.SoundLaws.{both, parts}
 
 -- ---- the order
 
@@ -34,7 +35,7 @@ pub in_order_push : (says : List Say) (y : Say) → IsTrue (are_in_order says) �
 in_order_push [] y ordered = zero_by y.phase y.tick
 in_order_push (a ∷ []) y ordered = sym (and_true (is_said_by a y))
 in_order_push (a ∷ b ∷ says) y ordered =
-    let split = parts (is_said_by a b) (are_in_order (b ∷ says)) ordered in
+    let split = and_parts (is_said_by a b) (are_in_order (b ∷ says)) ordered in
     in_order_push (b ∷ says) y split.1
     ∙ ap (λ t. t && are_in_order (b ∷ (says ++ y ∷ []))) (sym split.0)
 
@@ -235,14 +236,14 @@ pub is_say-by : (shape : Shape) (say : Say) →
 is_say-by shape say none short good =
     let range = range_test (is_between 1 shape.phases say.phase) (is_between 1 shape.ticks say.tick)
     (nat_lt say.log shape.logs) say.phase say.tick say.log none in
-    let phase = parts (nat_le 1 say.phase) (nat_le say.phase shape.phases) range.0 in
-    let tick = parts (nat_le 1 say.tick) (nat_le say.tick shape.ticks) range.1 in
+    let phase = and_parts (nat_le 1 say.phase) (nat_le say.phase shape.phases) range.0 in
+    let tick = and_parts (nat_le 1 say.tick) (nat_le say.tick shape.ticks) range.1 in
     let room = say_room (length say.text) shape.block shape.in_range.block_low short in
-    both _ (is_allowed say.text)
-    (both _ (nat_le (length say.text + 18) shape.block)
-    (both _ (nat_lt say.log shape.logs)
-    (both _ (nat_le say.tick shape.ticks)
-    (both (nat_le 1 say.phase && nat_le say.phase shape.phases) (nat_le 1 say.tick) range.0 tick.0)
+    and_from _ (is_allowed say.text)
+    (and_from _ (nat_le (length say.text + 18) shape.block)
+    (and_from _ (nat_lt say.log shape.logs)
+    (and_from _ (nat_le say.tick shape.ticks)
+    (and_from (nat_le 1 say.phase && nat_le say.phase shape.phases) (nat_le 1 say.tick) range.0 tick.0)
     tick.1) range.2) room) good
 
 -- what holds of a text that may be said
@@ -255,19 +256,21 @@ in_range : (a b c : Bool) (p t g : ℕ) → a ≡ true → b ≡ true → c ≡ 
     cond a (cond b (cond c None (Some g)) (Some t)) (Some p) ≡ None
 in_range a b c p t g x y z = rw (x, y, z) refl
 
+between : (a b n : ℕ) → a ≤ n → n ≤ b → is_between a b n ≡ true
+between a b n low high =
+    and_from (nat_le a n) (nat_le n b) (le-leb a n low) (le-leb n b high)
+
 pub may_say : (shape : Shape) (say : Say) → IsTrue (is_say shape say) → MaySay shape say
 may_say shape say sound =
-    let g = parts _ (is_allowed say.text) sound in
-    let f = parts _ (nat_le (length say.text + 18) shape.block) g.0 in
-    let e = parts _ (nat_lt say.log shape.logs) f.0 in
-    let d = parts _ (nat_le say.tick shape.ticks) e.0 in
-    let c = parts (nat_le 1 say.phase && nat_le say.phase shape.phases) (nat_le 1 say.tick) d.0 in
+    let said = is_say-IsSaid shape say sound in
     record {
       range = in_range (is_between 1 shape.phases say.phase) (is_between 1 shape.ticks say.tick)
-          (nat_lt say.log shape.logs) say.phase say.tick say.log c.0
-          (both (nat_le 1 say.tick) (nat_le say.tick shape.ticks) c.1 d.1) e.1;
-      short = room_say (length say.text) shape.block f.1;
-      good = g.1;
+          (nat_lt say.log shape.logs) say.phase say.tick say.log
+          (between 1 shape.phases say.phase said.phase_low said.phase_high)
+          (between 1 shape.ticks say.tick said.tick_low said.tick_high)
+          (lt-ltb say.log shape.logs said.log_in);
+      short = omega (arith, said.fits);
+      good = said.allowed;
     }
 
 -- a text that may be said, and no earlier than the last, is said

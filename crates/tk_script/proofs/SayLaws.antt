@@ -5,13 +5,14 @@ use Rattle.tk_shape.specs.declared.shape.Shape.{Shape}
 use Rattle.tk_script.specs.declared.say.Say.{Say}
 use Rattle.tk_script.specs.Grammar.{Line, say_line}
 use Rattle.tk_script.specs.SoundScript.{is_say, are_in_order}
-use Rattle.tk_script.proofs.SoundLaws.{are_in_order-front, parts}
+use Rattle.tk_script.proofs.SoundLaws.{are_in_order-front, is_say-IsSaid}
 use Rattle.tk_script.specs.Reading.{When, is_by, last_when}
 use Rattle.tk_script.proofs.FieldLaws.{one_number}
 use Rattle.tk_script.proofs.SaidLaws.{in_order_push}
 use Rattle.std.specs.Prelude.{nat_le, nat_lt, length}
 use Rattle.std.proofs.lemmas.Bool.Decides.{nat_tests}
 use Rattle.std.proofs.lemmas.List.{append_cancel_left}
+use Rattle.std.proofs.lemmas.Bool.{and_parts}
 use Rattle.tk_seal.specs.Texts.{is_allowed}
 use Rattle.tk_script.proofs.ReadingLaws.{Reads, Reads-more, Reads-done, Reads-stuck, Reads-front, IsLineOf, GoesOn, zip-lines}
 
@@ -38,23 +39,13 @@ pub record AreSayWords (say : Say) : Type 0 where
 
 pub say_words : (shape : Shape) (say : Say) → IsTrue (is_say shape say) → AreSayWords say
 say_words shape say sound =
-    let g = parts _ (is_allowed say.text) sound in
-    let f = parts _ (nat_le (length say.text + 18) shape.block) g.0 in
-    let e = parts _ (nat_lt say.log shape.logs) f.0 in
-    let d = parts _ (nat_le say.tick shape.ticks) e.0 in
-    let c = parts _ (nat_le 1 say.tick) d.0 in
-    let b = parts (nat_le 1 say.phase) (nat_le say.phase shape.phases) c.0 in
+    let said = is_say-IsSaid shape say sound in
+    let range = shape.in_range in
     record {
-      phase = below say.phase shape.phases 256 b.1 shape.in_range.phases_high (omega arith);
-      tick = below say.tick shape.ticks 64 d.1 shape.in_range.ticks_high (omega arith);
-      log = strictly say.log shape.logs 256 e.1 shape.in_range.logs_high (omega arith);
+      phase = omega (arith, said.phase_high, range.phases_high);
+      tick = omega (arith, said.tick_high, range.ticks_high);
+      log = omega (arith, said.log_in, range.logs_high);
     }
-  where
-    below : (n m k : ℕ) → IsTrue (nat_le n m) → m ≤ k → k < 2 ^ 32 → n < 2 ^ 32
-    below n m k low high small = grind (arith, nat_tests)
-
-    strictly : (n m k : ℕ) → IsTrue (nat_lt n m) → m ≤ k → k < 2 ^ 32 → n < 2 ^ 32
-    strictly n m k low high small = grind (arith, nat_tests)
 
 pub same_say : (x y : Say) → x.phase ≡ y.phase → x.tick ≡ y.tick → x.log ≡ y.log → x.text ≡ y.text →
     x ≡ y

@@ -7,12 +7,12 @@ use Rattle.std.proofs.Math.Bool.{Bool-set}
 use Rattle.std.proofs.Math.Bridge.{le_prop}
 use Rattle.std.specs.List.{AllByRecursion}
 use Rattle.std.specs.Int.{is_power_of_two}
+use Rattle.std.proofs.lemmas.Bool.{and_from}
 use mathlib.Core.HLevel.{is_prop→PathP}
 use Rattle.tk_shape.specs.declared.shape.Shape.{Shape}
 use Rattle.tk_shape.specs.Numbers.{numbers_of}
 use Rattle.tk_shape.specs.Ranges.{IsShape}
 use Rattle.tk_shape.specs.Limits.{Limit, is_between, broken, numbers_in, limits}
-use Rattle.tk_script.proofs.SoundLaws.{both}
 use Rattle.tk_script.proofs.FieldLaws.{IsWord}
 
 -- a shape's numbers make it
@@ -90,7 +90,7 @@ le_true : (a b : ℕ) → a ≤ b → nat_le a b ≡ true
 le_true a b h = grind (arith, nat_tests)
 
 between : (a b n : ℕ) → a ≤ n → n ≤ b → is_between a b n ≡ true
-between a b n low high = both (nat_le a n) (nat_le n b) (le_true a n low) (le_true n b high)
+between a b n low high = and_from (nat_le a n) (nat_le n b) (le_true a n low) (le_true n b high)
 
 -- where each limit is kept, none is broken
 all_kept : (ls : List Limit) → AllByRecursion (λ (l : Limit). l.kept ≡ true) ls →
@@ -105,7 +105,7 @@ limits_kept s =
     let r = s.in_range in (
       between 2 8 s.servers r.servers_low r.servers_high,
       (
-        both (is_power_of_two s.buckets) (is_between 8 4096 s.buckets) r.buckets_power
+        and_from (is_power_of_two s.buckets) (is_between 8 4096 s.buckets) r.buckets_power
             (between 8 4096 s.buckets r.buckets_low r.buckets_high),
         (
           between 1 8 s.depth r.depth_low r.depth_high,
@@ -114,7 +114,7 @@ limits_kept s =
             (
               between 24 1024 s.block r.block_low r.block_high,
               (
-                both (is_power_of_two s.filter_bits) (is_between 64 65536 s.filter_bits)
+                and_from (is_power_of_two s.filter_bits) (is_between 64 65536 s.filter_bits)
                     r.filter_power (between 64 65536 s.filter_bits r.filter_low r.filter_high),
                 (
                   between 1 4 s.hits r.hits_low r.hits_high,

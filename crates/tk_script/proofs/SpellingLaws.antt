@@ -7,8 +7,8 @@ use Rattle.std.proofs.lemmas.List.{append_cancel_left, length-map}
 use Rattle.std.proofs.lemmas.Fmt.{decimal_injective}
 use Rattle.std.proofs.lemmas.Bool.Decides.{nat_tests}
 use Rattle.std.proofs.lemmas.Nat.{from_be_bytes-to_be_bytes_8}
+use Rattle.std.proofs.lemmas.Bool.{and_parts}
 use Rattle.hex.specs.declared.error.FromHexError.{FromHexError}
-use Rattle.tk_script.proofs.SoundLaws.{parts}
 use Rattle.hex.specs.Hex.{decode_of}
 use Rattle.tk_shape.specs.declared.shape.Shape.{Shape}
 use Rattle.tk_shape.specs.Numbers.{numbers_of}
@@ -219,7 +219,7 @@ counted a b e = grind (arith, nat_tests)
 pub keys_counted : (shape : Shape) (k : Keys) → IsTrue (has_keys shape (Some k)) →
     (length k.handles ≡ shape.logs) × (length k.seeds ≡ shape.clients)
 keys_counted shape k e =
-    let both = parts (length k.handles == shape.logs) (length k.seeds == shape.clients) e in
+    let both = and_parts (length k.handles == shape.logs) (length k.seeds == shape.clients) e in
     (counted (length k.handles) shape.logs both.0, counted (length k.seeds) shape.clients both.1)
 
 one_keys : (shape : Shape) (k l : Option Keys) (ks ls a b : List Line) → IsTrue (has_keys shape k) →

@@ -1,5 +1,6 @@
 pub mod SoundScript
 pub mod Sent
+pub mod SentLaws
 pub mod Grammar
 pub mod Fields
 pub mod Pieces

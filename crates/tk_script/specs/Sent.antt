@@ -1,5 +1,5 @@
 -- What each client sends in each turn: it depends on the script alone.
-use Rattle.std.specs.Prelude.{ℕ, ◌+◌, ◌==◌, nat_le, nat_lt, Bool, max, List, [], ◌∷◌, filter, find, count_by, slice_index_or, Option}
+use Rattle.std.specs.Prelude.{ℕ, ◌+◌, ◌==◌, ◌&&◌, nat_le, nat_lt, Bool, max, List, [], ◌∷◌, filter, find, count_by, slice_index_or, Option}
 use Rattle.tk_shape.specs.declared.shape.Shape.{Shape}
 use Rattle.tk_script.specs.declared.script.Script.{Script}
 use Rattle.tk_script.specs.declared.role.Role.{Role}
@@ -45,3 +45,12 @@ sent S g c = find (λ y. y.turn == g) (filter (in_run S.shape) (sendings S c))
 -- how many texts are left over
 abbrev pub unsent_count : Script → ℕ → ℕ
 unsent_count S c = count_by (λ y. nat_le (turn_count S.shape) y.turn) (sendings S c)
+
+-- whether it is this number of this log
+abbrev pub is_numbered : ℕ → ℕ → Sending → Bool
+is_numbered log s y = y.log == log && y.number == s
+
+-- what is sent as a number of a log, in whichever turn, if it is sent
+unfoldable pub sent_as : Script → ℕ → ℕ → Option Sending
+sent_as S log s =
+    find (is_numbered log s) (filter (in_run S.shape) (sendings S (writer_of S log)))

@@ -1,6 +1,15 @@
 ghost use Rattle.tk_script.specs.Laws.{SpellsOne};
+ghost use Rattle.tk_script.specs.SentLaws.{SendsInRange, SendsOnce, FindsByNumber};
 
 /// A text spells one input at most: drawn or keyed, and of any shape.
 pub fn one_input()
     ensures only { SpellsOne }
+{}
+
+/// No number of a log is sent twice. What a client sends in a turn is a number of a log that it writes, below the count
+/// of turns, and its text may be sealed. It is found by its log and number as it is by its turn.
+pub fn numbers_sent_once()
+    ensures once { SendsOnce }
+    ensures in_range { SendsInRange }
+    ensures found { FindsByNumber }
 {}

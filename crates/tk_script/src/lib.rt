@@ -35,7 +35,7 @@ pub use cause::Cause;
 pub use error::ScriptError;
 pub use input::{Input, RawTape};
 pub use keys::{ClientSeeds, Handles, Keys};
-pub use laws::one_input;
+pub use laws::{numbers_sent_once, one_input};
 pub use numbers::plain_number;
 pub use parsing::parse;
 pub use print_laws::printed_reads;

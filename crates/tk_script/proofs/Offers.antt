@@ -1,0 +1,14 @@
+-- What the proofs of other crates may cite.
+
+-- a text that is said is in range, and may be sealed
+pub use Rattle.tk_script.proofs.SoundLaws.{IsSaid, is_say-IsSaid, says-AreSaid}
+-- plain decimal is digits alone
+pub use Rattle.tk_script.proofs.NumberLaws.{AreDigits, all_digits}
+-- what has no space is one part of a line
+pub use Rattle.tk_script.proofs.PartLaws.{split_field, one_field}
+-- what has no line feed
+pub use Rattle.tk_script.proofs.FeedLaws.{LacksFeed, feed_by_test, feed_by_index, fields_lack}
+-- the texts of a client when more are said
+pub use Rattle.tk_script.proofs.SendingLaws.{free_after, free_after-append, of_log, of_log-cons, of_log-append, sending_behind, sendings_from-append, behind, sendings-append, sent-late, number-le-turn}
+-- what is sent is in range, may be sealed, and is found by its number
+pub use Rattle.tk_script.proofs.SentLaws.{sent-is, sent-sealable, sent-once, sent-found, sent_as-is}
