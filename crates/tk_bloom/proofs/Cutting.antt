@@ -1,7 +1,8 @@
 -- Positions cut into pushes.
 use Rattle.std.proofs.Common.{◌≡◌, ℕ, zero, suc, ◌+◌, ◌-◌, ◌*◌, ◌<◌, ◌≤◌, List, [], ◌∷◌, ◌++◌, length, take, drop, refl, sym, ap, ◌∙◌, arith, length-append, length-drop}
 use Rattle.std.proofs.lemmas.List.{drop-drop, drop-append-le, take-append-le, take_all, nil_from_length, take-append-drop}
-use Rattle.tk_bloom.specs.Windows.{window, pieces}
+use Rattle.tk_kernel.specs.Pieces.{pieces}
+use Rattle.tk_bloom.specs.Windows.{window}
 use Rattle.tk_bloom.specs.Filters.{positions_of}
 
 -- one item fewer in front leaves the same last ones

@@ -2,3 +2,4 @@ pub mod Counting
 pub mod Cutting
 pub mod Showing
 pub mod Windowing
+pub mod Offers

@@ -4,7 +4,8 @@ use Rattle.std.proofs.Math.Nat.{mul-sub, mul-le-mul_right}
 use Rattle.std.proofs.lemmas.Nat.{div-add-mod', div-mul-add, mod-mul-add}
 use Rattle.std.proofs.lemmas.List.{drop-append-le}
 use Rattle.std.proofs.lemmas.Grind.{common_steps}
-use Rattle.tk_bloom.specs.Windows.{window, pieces, pushes_in, HoldsPushes}
+use Rattle.tk_kernel.specs.Pieces.{pieces}
+use Rattle.tk_bloom.specs.Windows.{window, pushes_in, HoldsPushes}
 use Rattle.tk_bloom.specs.Counts.{Counted}
 use Rattle.tk_bloom.specs.Filters.{positions_of}
 use Rattle.tk_bloom.proofs.Cutting.{length-pieces, drop-pieces, pieces-append, positions_of-pieces}

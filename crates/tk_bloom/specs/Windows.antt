@@ -1,5 +1,6 @@
 -- What a window keeps of the pushes.
-use Rattle.std.specs.Prelude.{◌≡◌, ℕ, zero, suc, ◌-◌, ◌*◌, ◌/◌, ◌%◌, ◌<◌, ◌≤◌, List, [], ◌∷◌, length, take, drop, All}
+use Rattle.std.specs.Prelude.{◌≡◌, ℕ, ◌-◌, ◌*◌, ◌%◌, ◌<◌, ◌≤◌, List, length, drop, All}
+use Rattle.tk_kernel.specs.Pieces.{all_pieces}
 use Rattle.tk_bloom.specs.Counts.{Counted}
 
 -- the last n of a list, or all where there are fewer
@@ -13,14 +14,9 @@ pub record Kept : Type 0 where
   pub retained : ℕ
   pub pushes : List (List ℕ)
 
--- the first count pieces of a list, each of so many positions
-abbrev pub pieces : ℕ → ℕ → List ℕ → List (List ℕ)
-pieces hits zero positions = []
-pieces hits (suc count) positions = take hits positions ∷ pieces hits count (drop hits positions)
-
 -- the pushes that lie one behind the other in a list of positions
 abbrev pub pushes_in : ℕ → List ℕ → List (List ℕ)
-pushes_in hits positions = pieces hits (length positions / hits) positions
+pushes_in hits positions = all_pieces hits positions
 
 -- the positions are those of whole pushes, of as many as are retained at most
 pub record HoldsPushes (hits retained : ℕ) (tally : Counted) : Type 0 where

@@ -4,13 +4,12 @@
 
 mod filter;
 mod laws;
-mod memory;
 mod tally;
 mod window;
 
 pub use filter::Filter;
 pub use laws::{pushes_are_shown, windows_go_on};
-pub use memory::Memory;
+pub use tk_shape::Memory;
 pub use window::Window;
 
 #[cfg(test)]
