@@ -63,7 +63,7 @@ fn spelled_again(
 ) -> Result<Vec<u8>, FrameError> {
     let mut out = Vec::new(alloc);
     match frame {
-        Frame::Placed => encode_placed(&decode_placed(alloc, shape, bytes)?, &mut out)?,
+        Frame::Placed => encode_placed(&decode_placed(alloc, shape, bytes)?.clone()?, &mut out)?,
         Frame::Write => encode_write(&decode_write(alloc, shape, bytes)?, &mut out)?,
         Frame::Read => encode_read(&decode_read(alloc, shape, bytes)?, &mut out)?,
         Frame::Reply => encode_reply(&decode_reply(alloc, shape, bytes)?, &mut out)?,
