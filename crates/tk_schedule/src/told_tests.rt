@@ -117,7 +117,7 @@ fn lines_tell_their_history(rt: HostRuntime) -> Result<(), Fail> {
 }
 
 #[test]
-fn bad_line_among_good_ones(rt: HostRuntime) -> Result<(), Fail> {
+fn first_bad_line_named(rt: HostRuntime) -> Result<(), Fail> {
     let alloc = rt.alloc();
     for (index, bad) in [
         // a client twice, missing, and out of range
@@ -148,17 +148,13 @@ fn bad_line_among_good_ones(rt: HostRuntime) -> Result<(), Fail> {
         let number = [10, 12, 14, 16, 18, 20].get(index).copied();
         assert_eq!(rt; answer(alloc, &said)?, number.map(HistoryError::Line));
     }
-    Ok(())
-}
-
-#[test]
-fn lines_too_few_and_too_many(rt: HostRuntime) -> Result<(), Fail> {
-    let alloc = rt.alloc();
     let said = good();
-    assert_eq!(rt; answer(alloc, &said)?, None);
-    assert_eq!(rt; answer(alloc, &said[..0])?, Some(HistoryError::Line(10)));
-    assert_eq!(rt; answer(alloc, &said[..2])?, Some(HistoryError::Line(14)));
-    assert_eq!(rt; answer(alloc, &said[..5])?, Some(HistoryError::Line(20)));
+    for (count, number) in [(0, Some(10)), (2, Some(14)), (5, Some(20)), (6, None)] {
+        assert_eq!(rt;
+            answer(alloc, said.get(..count).ok_or("few")?)?,
+            number.map(HistoryError::Line)
+        );
+    }
     let [a, b, c, d, e, f] = said;
     let more = [a, b, c, d, e, f, Said::Order(3, 1, &[FIRST, SECOND])];
     assert_eq!(rt; answer(alloc, &more)?, Some(HistoryError::Line(22)));
