@@ -12,7 +12,7 @@ use Rattle.tk_client.specs.declared.written.Written.{Written}
 use Rattle.tk_client.specs.Writing.{Writing, unwritten, count_of, one_more_of, with_text}
 use Rattle.tk_client.specs.Saying.{is_written}
 use Rattle.tk_client.proofs.LogPlaces.{is_written-more}
-use Rattle.tk_cli.proofs.SendingLaws.{of_log, of_log-append}
+use Rattle.tk_script.proofs.Offers.{of_log, of_log-append}
 
 -- the logs that a client writes are there, and each counts its texts among those that were said
 pub record IsCounted (S : Script) (c : ℕ) (done : List Say) (w : Writing) : Type 0 where

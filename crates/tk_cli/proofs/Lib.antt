@@ -6,7 +6,6 @@ pub mod WritingLaws
 pub mod SerialLaws
 pub mod EndingLaws
 pub mod SayOrder
-pub mod SendingLaws
 pub mod CountLaws
 pub mod QueueLaws
 pub mod SayingLaws
@@ -20,7 +19,6 @@ pub mod ServersLaws
 pub mod NoticesLaws
 pub mod TapLaws
 pub mod PlacedLaws
-pub mod SentTextLaws
 pub mod RetainedLaws
 pub mod PassingOverLaws
 pub mod PrivateReadLaws

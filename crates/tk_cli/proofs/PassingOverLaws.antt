@@ -33,7 +33,7 @@ use Rattle.tk_client.specs.Readers.{first_got, got_in}
 use Rattle.tk_cli.specs.Report.{reader_step, reader_before, target_at}
 use Rattle.tk_cli.specs.PassingOver.{IsNotRetained, IsRightlyPassed}
 use Rattle.tk_cli.specs.PassingOver.{HonestPassingOver, SerialRunsPassOverHonestly}
-use Rattle.tk_cli.specs.Serial.{book_of}
+use Rattle.tk_script.specs.Book.{book_of}
 use Rattle.tk_cli.proofs.SerialLaws.{run-book}
 use Rattle.tk_cli.proofs.RetainedLaws.{not_shown-not_retained, not_found-not_retained}
 

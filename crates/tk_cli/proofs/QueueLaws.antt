@@ -21,8 +21,8 @@ use Rattle.tk_cli.proofs.EachLaws.{find-none, find-past, find-filter, count-none
 use Rattle.tk_cli.proofs.CountLaws.{IsCounted, counted-said, written-range, count_of-unwritten}
 use Rattle.tk_cli.proofs.SayOrder.{IsSaid, all-said, turn-in, Rising, rising-from_order, rising-filter}
 use Rattle.tk_cli.proofs.SayOrder.{now-and-later}
-use Rattle.tk_cli.proofs.SendingLaws.{behind, sendings-append, sent-late, number-le-turn}
-use Rattle.tk_cli.proofs.SendingLaws.{free_after, free_after-append, of_log, sending_behind, sendings_from-append}
+use Rattle.tk_script.proofs.Offers.{behind, sendings-append, sent-late, number-le-turn}
+use Rattle.tk_script.proofs.Offers.{free_after, free_after-append, of_log, sending_behind, sendings_from-append}
 
 -- the turn in which a text is said
 abbrev own : Shape → Say → ℕ

@@ -32,13 +32,6 @@ fields_more field word (next ∷ fields) xs =
     ap (λ rest. word ++ 0x20 ∷ rest) (fields_more field next fields xs)
     ∙ sym (append_assoc word (0x20 ∷ join_with_byte 0x20 (next ∷ fields)) (spaced field xs))
 
--- a word and fields, behind what was there
-pub word_fields : {X : Type 0} (field : X → List ℕ) (old word : List ℕ) (xs : List X) →
-    (old ++ word) ++ spaced field xs ≡ old ++ join_with_byte 0x20 (word ∷ map field xs)
-word_fields field old word xs =
-    append_assoc old word (spaced field xs)
-    ∙ ap (λ bytes. old ++ bytes) (sym (fields_more field word [] xs))
-
 -- a line, behind what was there: a word and some fields, more fields, and the end
 pub line_of_more : {X : Type 0} (field : X → List ℕ) (word : List ℕ) (fields : List (List ℕ))
     (xs : List X) (old : List ℕ) {some more new : List ℕ} →

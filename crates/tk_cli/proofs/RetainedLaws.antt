@@ -38,7 +38,7 @@ use Rattle.tk_cli.specs.PassingOver.{IsRecordOf, IsNotRetained, RecordsAreShown}
 use Rattle.tk_frames.specs.Slots.{text_in}
 use Rattle.tk_cli.specs.Report.{lookup}
 use Rattle.tk_cli.proofs.PlacedLaws.{ascend-entry}
-use Rattle.tk_cli.proofs.SentTextLaws.{sent-sealable}
+use Rattle.tk_script.proofs.Offers.{sent-sealable}
 
 -- ---- the records before a mark are in order
 

@@ -16,7 +16,8 @@ use Rattle.tk_words.specs.Words.{WordBook, keyed, drawn, IsBook}
 use Rattle.tk_cli.specs.Report.{report}
 use Rattle.tk_cli.specs.Exchange.{exchange, bytes_of}
 use Rattle.tk_cli.specs.Tapped.{TapsGain, TapsGainFronts, TapsKeepBut}
-use Rattle.tk_cli.specs.Serial.{book_from, book_of, IsWholeTape, IsRunOf, RunsTo, RunsInto}
+use Rattle.tk_script.specs.Book.{book_from, book_of, IsWholeTape}
+use Rattle.tk_cli.specs.Serial.{IsRunOf, RunsTo, RunsInto}
 
 -- ---- the words of an input
 

@@ -15,7 +15,8 @@ use Rattle.tk_client.specs.Client.{Target}
 use Rattle.tk_cli.specs.Bloom.{is_shown}
 use Rattle.tk_cli.specs.Entries.{write_at}
 use Rattle.tk_cli.specs.Report.{lookup, read_over, target_at, got_of}
-use Rattle.tk_cli.specs.Serial.{IsRunOf, book_of}
+use Rattle.tk_script.specs.Book.{book_of}
+use Rattle.tk_cli.specs.Serial.{IsRunOf}
 
 -- the record is that of number s of a log: the write of a client in a turn in which it sent it
 pub record IsRecordOf (S : Script) (w : BookWords) (log s : ℕ) (r : Record) : Type 0 where

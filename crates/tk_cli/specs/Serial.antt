@@ -1,27 +1,15 @@
 -- What a serial run reads and writes.
-use Rattle.std.specs.Prelude.{◌≡◌, ◌≢◌, ℕ, List, [], length, take, Option, Some, None}
+use Rattle.std.specs.Prelude.{◌≡◌, ◌≢◌, ℕ, List, take, Option, Some}
 use Rattle.tk_io.specs.Content.{before_taking, emptied, gained}
-use Rattle.tk_shape.specs.declared.shape.Shape.{Shape}
 use Rattle.tk_shape.specs.Lengths.{tape_len}
 use Rattle.tk_schedule.specs.Schedule.{serial_history}
-use Rattle.tk_script.specs.declared.keys.Keys.{Keys}
 use Rattle.tk_script.specs.declared.input.RawTape.{RawTape}
 use Rattle.tk_script.specs.declared.input.Input.{Input}
 use Rattle.tk_script.specs.Grammar.{Spells}
-use Rattle.tk_words.specs.Words.{WordBook, keyed, drawn}
+use Rattle.tk_script.specs.Book.{book_of, IsWholeTape}
 use Rattle.tk_cli.specs.Report.{report}
 use Rattle.tk_cli.specs.Exchange.{exchange, bytes_of}
 use Rattle.tk_cli.specs.Tapped.{TapsGain, TapsGainFronts, TapsKeepBut}
-
--- where words come from: keys, or a tape
-abbrev pub book_from : Option Keys → Option RawTape → WordBook
-book_from (Some keys) tape = keyed keys.handles keys.seeds
-book_from None (Some tape) = drawn tape.bytes
-book_from None None = drawn []
-
--- where an input's words come from
-abbrev pub book_of : Input → WordBook
-book_of input = book_from input.first.keys input.tape
 
 -- the report of an input's serial run, and what server j sees of it
 abbrev pub report_in : Input → List ℕ
@@ -30,12 +18,6 @@ report_in input = report input.first (book_of input) (serial_history input.first
 abbrev pub seen_in : Input → ℕ → List ℕ
 seen_in input j =
     bytes_of (exchange input.first (book_of input) (serial_history input.first.shape) j)
-
--- of a tape, no byte is missing and none was too many; a keyed input has none
-abbrev pub IsWholeTape : Shape → Option RawTape → Type 0
-IsWholeTape shape None = Unit {0}
-IsWholeTape shape (Some tape) =
-    (length tape.bytes ≡ tape_len shape) × (tape.got ≡ tape_len shape)
 
 -- the bytes spell this input, with a tape of the wanted length where it is drawn
 pub record IsRunOf (bytes : List ℕ) (input : Input) : Type 0 where

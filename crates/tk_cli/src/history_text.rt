@@ -4,9 +4,9 @@ ghost use Rattle.tk_shape.specs.Lengths.{turn_count};
 ghost use Rattle.tk_schedule.specs.Schedule.{IsLegal, blank_turn, phase_of, tick_of, order_at, epoch_at};
 ghost use Rattle.tk_cli.specs.Report.{line, item_field, turn_lines, history_lines};
 
-use crate::printing::{push_field, push_numbers};
 use std::alloc::Global;
 use tk_schedule::{History, Item, closes, place};
+use tk_script::{push_field, push_numbers};
 use tk_shape::{Memory, Shape};
 
 /// Appends the turns of a history.
@@ -99,7 +99,7 @@ fn push_head(
         (word.now ∷ decimal (phase_of shape.now turn) ∷ decimal (tick_of shape.now turn) ∷ [])) }
 {
     let (phase, tick) = place(shape, turn);
-    push_numbers(alloc, out, word, &[u64::from(phase), u64::from(tick)])
+    push_numbers(alloc, word, &[u64::from(phase), u64::from(tick)], out)
 }
 
 /// Appends items, each with a space in front.
@@ -118,7 +118,7 @@ fn push_item(alloc: Global, item: Item, out: &mut Vec<u8>) -> Result<(), Memory>
     ensures ok { OnOk result (out.new.items ≡ out.old.items ++ 0x20 ∷ item_field item) }
 {
     match item {
-        Item::Client(client) => push_field(alloc, out, u64::from(client)),
+        Item::Client(client) => push_field(alloc, u64::from(client), out),
         Item::Publish => {
             out.extend_from_slice(b" mark")?;
             Ok(())
@@ -141,7 +141,7 @@ fn push_epochs(
         (range_with_len 0 clients)) }
 {
     for client in 0..clients {
-        push_field(alloc, out, u64::from(history.epoch(turn, client)))?;
+        push_field(alloc, u64::from(history.epoch(turn, client)), out)?;
     }
     Ok(())
 }

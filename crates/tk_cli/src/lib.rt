@@ -1,7 +1,6 @@
 //! The top call: what the words ask for, done from a source to a sink, and the status that it ends with.
 #![tactic(auto)]
 
-mod cause_text;
 mod clients;
 mod draws;
 mod entries;
@@ -12,7 +11,6 @@ mod log_text;
 mod notices;
 mod order;
 mod ordering;
-mod printing;
 mod private_read;
 mod reading;
 mod report;

@@ -5,10 +5,9 @@ ghost use Rattle.tk_words.specs.Words.{BookWords};
 ghost use Rattle.tk_cli.specs.Report.{line, got_line, got_lines, got_of, log_lines, role_at};
 ghost use Rattle.tk_cli.specs.Clients.{AreClientsAtEnd};
 
-use crate::printing::{push_line, push_numbers};
 use std::alloc::Global;
 use tk_client::{Client, Got};
-use tk_script::Script;
+use tk_script::{Script, push_numbers, push_numbers_line};
 use tk_shape::Memory;
 
 /// Appends what each log gave to each of its followers.
@@ -63,11 +62,11 @@ fn push_log(
 ) -> Result<(), Memory>
     ensures ok { OnOk result (out.new.items ≡ out.old.items ++ log_lines log client got.now) }
 {
-    push_line(
+    push_numbers_line(
         alloc,
-        out,
         b"log",
         &[u64::from(log), u64::from(client), got.len() as u64],
+        out,
     )?;
     push_all_got(alloc, got, out)
 }
@@ -87,7 +86,7 @@ fn push_got(alloc: Global, number: u64, got: &Got, out: &mut Vec<u8>) -> Result<
     ensures ok { OnOk result (out.new.items ≡ out.old.items ++ got_line number got.now) }
 {
     match got {
-        Got::Absent => push_line(alloc, out, b"absent", &[number]),
+        Got::Absent => push_numbers_line(alloc, b"absent", &[number], out),
         Got::Text(text) => push_text(alloc, number, text.as_slice(), out),
     }
 }
@@ -97,7 +96,7 @@ fn push_text(alloc: Global, number: u64, text: &[u8], out: &mut Vec<u8>) -> Resu
     ensures ok { OnOk result (out.new.items
         ≡ out.old.items ++ line (codes "text" ∷ decimal number ∷ text.now ∷ [])) }
 {
-    push_numbers(alloc, out, b"text", &[number])?;
+    push_numbers(alloc, b"text", &[number], out)?;
     out.push(b' ')?;
     out.extend_from_slice(text)?;
     out.push(b'\n')?;

@@ -8,11 +8,10 @@ ghost use Rattle.tk_cli.specs.Report.{report_of, unsent_line};
 
 use crate::history_text::push_history;
 use crate::log_text::push_logs;
-use crate::printing::push_line;
 use std::alloc::Global;
 use tk_client::Client;
 use tk_schedule::History;
-use tk_script::Script;
+use tk_script::{Script, push_numbers_line};
 use tk_shape::Memory;
 
 /// Appends the report of a run: its history, what each log gave to each follower, and how many texts each client has
@@ -53,5 +52,5 @@ fn push_all_unsent(alloc: Global, clients: &[Client], out: &mut Vec<u8>) -> Resu
 fn push_unsent(alloc: Global, client: u64, count: u32, out: &mut Vec<u8>) -> Result<(), Memory>
     ensures ok { OnOk result (out.new.items ≡ out.old.items ++ unsent_line client count) }
 {
-    push_line(alloc, out, b"unsent", &[client, count as u64])
+    push_numbers_line(alloc, b"unsent", &[client, count as u64], out)
 }

@@ -1,10 +1,8 @@
 ghost use Rattle.std.specs.Prelude.{◌≡◌, ◌++◌, OnOk, OnErr};
 ghost use Rattle.tk_cli.specs.StatusLines.{code_of, status_text};
 
-use crate::cause_text::push_cause;
-use crate::printing::{push_field, push_number};
 use std::alloc::Global;
-use tk_script::Cause;
+use tk_script::{Cause, push_cause, push_field, push_number};
 use tk_shape::Memory;
 
 /// How the top call ended. In order: the words are asked first, then what is read, then what is written. What is read is
@@ -71,7 +69,7 @@ fn push_text(alloc: Global, status: &Status, out: &mut Vec<u8>) -> Result<(), Me
         Status::Usage => out.extend_from_slice(b"talek: usage")?,
         Status::Script { line, cause } => {
             out.extend_from_slice(b"talek: line ")?;
-            push_number(alloc, out, *line)?;
+            push_number(alloc, *line, out)?;
             out.extend_from_slice(b": ")?;
             push_cause(alloc, cause, out)?;
         }
@@ -80,12 +78,12 @@ fn push_text(alloc: Global, status: &Status, out: &mut Vec<u8>) -> Result<(), Me
         Status::TooLong => out.extend_from_slice(b"talek: input over 8388608 bytes")?,
         Status::Tape { want, got } => {
             out.extend_from_slice(b"talek: tape")?;
-            push_field(alloc, out, *want)?;
-            push_field(alloc, out, *got)?;
+            push_field(alloc, *want, out)?;
+            push_field(alloc, *got, out)?;
         }
         Status::Later { line } => {
             out.extend_from_slice(b"talek: later line ")?;
-            push_number(alloc, out, *line)?;
+            push_number(alloc, *line, out)?;
         }
     }
     Ok(())

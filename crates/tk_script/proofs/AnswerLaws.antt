@@ -3,7 +3,7 @@ use Rattle.std.proofs.Common.{◌≡◌, ℕ, Result, Ok, Err, ap, sym, ◌∙�
 use Rattle.tk_script.specs.declared.cause.Cause.{Cause}
 use Rattle.tk_script.specs.declared.error.ScriptError.{ScriptError}
 use Rattle.tk_script.specs.declared.error.ScriptError.TheVariants.{Line, Memory}
-use Rattle.tk_script.specs.Answer.{Gives, IsMemory, IsRefusal, Tells}
+use Rattle.tk_script.specs.Answer.{Gives, IsMemory, IsRefusal, Agrees}
 use Rattle.tk_script.specs.Reading.{Refusal, ◌>>=◌}
 
 -- a line that is refused first stays the first
@@ -29,8 +29,8 @@ pub gives_err : {X : Type 0} (r : Result X ScriptError) (e : ScriptError) (P : X
 gives_err r e P same h = subst (λ s. Gives s P) (sym same) h
 
 pub tells_err : {X Y : Type 0} (r : Result X ScriptError) (e : ScriptError) (f : X → Y)
-    (said : Result Y Refusal) → r ≡ Err e → IsRefusal e said → Tells f r said
-tells_err r e f said same h = subst (λ s. Tells f s said) (sym same) h
+    (said : Result Y Refusal) → r ≡ Err e → IsRefusal e said → Agrees f r said
+tells_err r e f said same h = subst (λ s. Agrees f s said) (sym same) h
 
 -- the error that names the line which is said to be refused
 pub refused_as : {Y : Type 0} (e : ScriptError) (line : ℕ) (c : Cause) (said : Result Y Refusal) →
@@ -39,13 +39,13 @@ refused_as e line c said same h = subst (λ s. IsRefusal s said) (sym same) h
 
 pub told_refused : {X Y : Type 0} (r : Result X ScriptError) (e : ScriptError) (f : X → Y)
     (said : Result Y Refusal) (line : ℕ) (c : Cause) → r ≡ Err e → e ≡ Line line c →
-    said ≡ Err (line, c) → Tells f r said
+    said ≡ Err (line, c) → Agrees f r said
 told_refused r e f said line c same this h =
     tells_err r e f said same (refused_as e line c said this h)
 
 pub told_same : {X Y : Type 0} (r : Result X ScriptError) (f : X → Y) (said other : Result Y
-    Refusal) → other ≡ said → Tells f r said → Tells f r other
-told_same r f said other same h = subst (λ s. Tells f r s) (sym same) h
+    Refusal) → other ≡ said → Agrees f r said → Agrees f r other
+told_same r f said other same h = subst (λ s. Agrees f r s) (sym same) h
 
 pub gives_weaker : {X : Type 0} (r : Result X ScriptError) (P Q : X → Type 0) →
     ((x : X) → P x → Q x) → Gives r P → Gives r Q

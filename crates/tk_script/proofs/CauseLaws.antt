@@ -34,21 +34,6 @@ lacks_by_test (x ∷ xs) t (suc k) within e =
 
 -- ---- the shape line
 
-pub read_numbers-kept : (ns : List ℕ) (z : Shape) → numbers_of z ≡ ns →
-    broken (numbers_in ns) ≡ None → read_numbers (Some ns) ≡ Ok (named z)
-read_numbers-kept ns z e kept =
-    subst (λ ms. broken (numbers_in ms) ≡ None → read_numbers (Some ms) ≡ Ok (named z)) e
-    (λ k. ap (unbroken (named z)) k) kept
-
-pub read_numbers-broken : (ns : List ℕ) (f : Field) (v : ℕ) → length ns ≡ 12 →
-    broken (numbers_in ns) ≡ Some (limit f v false) →
-    read_numbers (Some ns) ≡ Err (cause.Shape f v)
-read_numbers-broken ns f v twelve b =
-    rw (eq-eqb (length ns) 12 twelve) (ap (unbroken (numbers_in ns)) b)
-
-pub read_numbers-few : (ns : List ℕ) → length ns ≢ 12 → read_numbers (Some ns) ≡ Err cause.Form
-read_numbers-few ns other = rw (ne_eqb (length ns) 12 other) refl
-
 -- ---- the line of the kind
 
 pub bool_false : (b : Bool) → (IsTrue b → ⊥) → b ≡ false

@@ -1,7 +1,7 @@
 -- Printed lines have no line feed of their own, so a text is read as the lines that were printed.
 use Rattle.std.proofs.Common.{◌≡◌, ◌≢◌, ℕ, suc, ◌<◌, ◌≤◌, ◌^◌, List, [], ◌∷◌, ◌++◌, length, map, get_or, codes, decimal, Bool, true, IsTrue, Option, Some, None, refl, ap, sym, ◌∙◌, arith, append_assoc, eq-eqb}
 use Rattle.std.specs.Prelude.{◌==◌, not, nat_le}
-use Rattle.std.specs.List.{AllByRecursion, list_all}
+use Rattle.std.specs.List.{AllByRecursion, list_all, onto_first}
 use Rattle.std.specs.Str.{is_utf8}
 use Rattle.std.proofs.lemmas.Bool.Decides.{nat_tests}
 use Rattle.std.proofs.lemmas.Bool.{and_parts}
@@ -13,7 +13,7 @@ use Rattle.tk_seal.specs.Texts.{is_allowed, is_printable}
 use Rattle.tk_script.specs.declared.keys.Keys.{Keys}
 use Rattle.tk_script.specs.declared.role.Role.{Role}
 use Rattle.tk_script.specs.declared.say.Say.{Say}
-use Rattle.tk_script.specs.Grammar.{Line, lines_of, onto_first, fields, shape_line, kind_line, role_line, say_line}
+use Rattle.tk_script.specs.Grammar.{Line, lines_of, fields, shape_line, kind_line, role_line, say_line}
 use Rattle.tk_script.specs.SoundScript.{is_role, is_say}
 use Rattle.tk_script.specs.Printing.{text_of, bytes_line}
 use Rattle.tk_script.proofs.LineLaws.{lines_of-feed, lines_of-other}

@@ -113,13 +113,6 @@ pub record Read (text numbers rest : List ℕ) : Type 0 where
   pub front : text ≡ spaced numbers ++ rest
   pub only : (ns : List ℕ) → AllByRecursion IsWord ns → text ≡ spaced ns → Left numbers rest ns
 
-pub Read-none : (text : List ℕ) → Read text [] text
-Read-none text = record {
-  front = refl;
-  only =
-      λ ns words e. record { more = ns; words = words; both = refl; spelled = e };
-}
-
 -- the rest begins with this number alone
 abbrev pub IsNext : List ℕ → ℕ → List ℕ → Type 0
 IsNext rest n behind = (m : ℕ) (after : List ℕ) → m < 2 ^ 32 → IsFieldEnd after →

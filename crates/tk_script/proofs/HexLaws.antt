@@ -11,7 +11,7 @@ use Rattle.hex.proofs.HexLemmas.{decode_of-ok}
 use Rattle.tk_script.specs.declared.cause.Cause.TheVariants as cause
 use Rattle.tk_script.specs.Fields.{LacksSpace}
 use Rattle.tk_script.specs.Grammar.{fields}
-use Rattle.tk_script.specs.Reading.{Reads, IsTaken, parts_of, bytes_found, bytes_in, counted, read_hex, read_bytes}
+use Rattle.tk_script.specs.Reading.{Verdict, IsTaken, parts_of, bytes_found, bytes_in, counted, read_hex, read_bytes}
 use Rattle.tk_script.proofs.PartLaws.{split_field, one_field, same_bytes}
 
 no_digit : (b : ℕ) → is_hex_digit b ≡ true → b ≡ 0x20 → ⊥
@@ -49,10 +49,10 @@ pub record Taken (word line : List ℕ) (count : ℕ) : Type 0 where
   pub decoded : decode_of digits ≡ Ok bytes
   pub counted : length bytes ≡ count
 
-abbrev taken : Reads (Unit {0})
+abbrev taken : Verdict (Unit {0})
 taken = Ok tt
 
-abbrev form_unless : Bool → Reads (Unit {0})
+abbrev form_unless : Bool → Verdict (Unit {0})
 form_unless b = cond b (Ok tt) (Err cause.Form)
 
 passed : (b : Bool) → form_unless b ≡ taken → IsTrue b
@@ -71,7 +71,7 @@ found_is : (digits : List ℕ) (count : ℕ) (r : Result (List ℕ) FromHexError
 found_is digits count (Ok bytes) e = (bytes, refl, count_test (length bytes) count e)
 found_is digits count (Err x) e = absurd (cc e)
 
-word_test : (b : Bool) (r : Reads (Unit {0})) → cond b r (Err cause.Form) ≡ Ok tt →
+word_test : (b : Bool) (r : Verdict (Unit {0})) → cond b r (Err cause.Form) ≡ Ok tt →
     IsTrue b × (r ≡ Ok tt)
 word_test true r e = (refl, e)
 word_test false r e = absurd (cc e)
@@ -107,7 +107,7 @@ counted_form : (count : ℕ) (o : Option (List ℕ)) → (counted count o ≡ Ok
 counted_form count None never = refl
 counted_form count (Some bytes) never = cond_form (length bytes == count) never
 
-word_form : (b : Bool) (r : Reads (Unit {0})) → ((r ≡ Ok tt → ⊥) → r ≡ Err cause.Form) →
+word_form : (b : Bool) (r : Verdict (Unit {0})) → ((r ≡ Ok tt → ⊥) → r ≡ Err cause.Form) →
     (cond b r (Err cause.Form) ≡ Ok tt → ⊥) → cond b r (Err cause.Form) ≡ Err cause.Form
 word_form true r form never = form never
 word_form false r form never = refl
@@ -127,7 +127,7 @@ pub read_bytes-form : (word line : List ℕ) (count : ℕ) → (Taken word line 
 read_bytes-form word line count never =
     hex_form word count (parts_of line) (λ e. never (read_bytes-is word line count e))
 
-pub taken_some : {X : Type 0} (o : Option X) (said : Reads (Unit {0})) → IsSome o → said ≡ Ok tt →
+pub taken_some : {X : Type 0} (o : Option X) (said : Verdict (Unit {0})) → IsSome o → said ≡ Ok tt →
     IsTaken o said
 taken_some None said some e = absurd (cc some)
 taken_some (Some x) said some e = e
@@ -146,7 +146,7 @@ read_bytes-by word line digits count lacks e one None found long only =
 read_bytes-by word line digits count lacks e one (Some bytes) found long only =
     read_bytes-taken word line digits bytes count lacks e found long
 
-pub none_taken : {X : Type 0} (o : Option X) (said : Reads (Unit {0})) → IsNone o →
+pub none_taken : {X : Type 0} (o : Option X) (said : Verdict (Unit {0})) → IsNone o →
     said ≡ Err cause.Form → IsTaken o said
 none_taken None said none e = e
 none_taken (Some x) said none e = absurd (cc none)

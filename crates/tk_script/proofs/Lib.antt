@@ -28,4 +28,5 @@ pub mod PiecesLaws
 pub mod PrintedLaws
 pub mod SendingLaws
 pub mod SentLaws
+pub mod BookLaws
 pub mod Offers

@@ -1,6 +1,7 @@
 -- The first line of a text.
 use Rattle.std.proofs.Common.{◌≡◌, ◌≢◌, ℕ, zero, suc, ◌+◌, ◌<◌, List, [], ◌∷◌, length, take, drop, get_or, Bool, true, false, cond, refl, ap, ◌∙◌, arith, eqb, eq-eqb, ne_eqb}
-use Rattle.tk_script.specs.Grammar.{Line, lines_of, onto_first}
+use Rattle.std.specs.List.{onto_first}
+use Rattle.tk_script.specs.Grammar.{Line, lines_of}
 
 pub lines_of-feed : (b : ℕ) (bs : List ℕ) → b ≡ 0x0A → lines_of (b ∷ bs) ≡ [] ∷ lines_of bs
 unfolding lines_of

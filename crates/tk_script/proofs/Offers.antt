@@ -12,3 +12,5 @@ pub use Rattle.tk_script.proofs.FeedLaws.{LacksFeed, feed_by_test, feed_by_index
 pub use Rattle.tk_script.proofs.SendingLaws.{free_after, free_after-append, of_log, of_log-cons, of_log-append, sending_behind, sendings_from-append, behind, sendings-append, sent-late, number-le-turn}
 -- what is sent is in range, may be sealed, and is found by its number
 pub use Rattle.tk_script.proofs.SentLaws.{sent-is, sent-sealable, sent-once, sent-found, sent_as-is}
+-- the input of a text has the tape that its words want, and its words fit its shape
+pub use Rattle.tk_script.proofs.BookLaws.{spelled-HasTape, spelled-IsWholeTape, spelled-IsBook}

@@ -70,7 +70,8 @@ number_if-is k n text e =
 
 pub number_spelled-decimal : (n : ℕ) → n < 2 ^ 32 → number_spelled (decimal n) ≡ Some n
 number_spelled-decimal n small =
-    ap (λ k. number_if k (decimal n)) (digits_value-spelled (decimal n) n (omega (arith, small)) refl)
+    ap (λ k. number_if k (decimal n))
+    (digits_value-spelled (decimal n) n (omega (arith, small)) refl)
     ∙ number_if-own n small
 
 pub number_spelled-is : (text : List ℕ) (n : ℕ) → number_spelled text ≡ Some n →

@@ -10,7 +10,7 @@ use Rattle.hex.proofs.HexLemmas.{decode_of-ok}
 use Rattle.tk_script.specs.Grammar.{Line, SpellsPiece}
 use Rattle.tk_script.specs.Pieces.{BeginsWithPieces}
 use Rattle.tk_script.proofs.LineLaws.{lines_behind}
-use Rattle.tk_script.proofs.ReadingLaws.{Reads, Reads-none, Reads-more, Reads-done, Reads-stuck, GoesOn}
+use Rattle.tk_script.proofs.ReadingLaws.{Reads, Reads-more, Reads-done, Reads-stuck, GoesOn}
 
 -- ---- one piece
 
@@ -103,14 +103,6 @@ pub record ReadsPieces (want : ℕ) (text : List Line) (kept : List ℕ) (got : 
   pub reads : Reads SpellsPiece IsTapeEnd text parts rest
   pub kept_is : kept ≡ take want (joined parts)
   pub counted : got ≡ min (length (joined parts)) (2 ^ 64 - 1)
-
-pub pieces-none : (want : ℕ) (text : List Line) → ReadsPieces want text [] 0 text
-pieces-none want text = record {
-  parts = [];
-  reads = Reads-none SpellsPiece IsTapeEnd text;
-  kept_is = sym (take_all want [] (omega arith));
-  counted = refl;
-}
 
 keep_short : (want : ℕ) (all bytes : List ℕ) → length all ≤ want →
     take want all ++ take (want - length (take want all)) bytes ≡ take want (all ++ bytes)
@@ -218,20 +210,6 @@ module _ (want : ℕ) (text : List Line) (kept : List ℕ) (got : ℕ) (rest : L
         r.counted ∙ ap (λ t. min (length t) (2 ^ 64 - 1)) same,
         lines_behind rest (codes "end") (codes "end") after behind e done.1,
       )
-
-  pub pieces-begin : (after : List Line) → rest ≡ codes "end" ∷ after →
-      (bytes : List ℕ) × BeginsWithPieces text bytes
-      after × (kept ≡ take want bytes) × (got ≡ min (length bytes) (2 ^ 64 - 1))
-  pieces-begin after e = (joined r.parts, begins, r.kept_is, r.counted)
-    where
-      begins : BeginsWithPieces text (joined r.parts) after
-      begins = record {
-        piece_lines = r.reads.lines;
-        parts = r.parts;
-        each = r.reads.each;
-        joined = refl;
-        whole = r.reads.front ∙ ap (λ t. r.reads.lines ++ t) e;
-      }
 
 pub replicate-push : (n b : ℕ) → replicate n b ++ b ∷ [] ≡ replicate (n + 1) b
 replicate-push zero b = refl

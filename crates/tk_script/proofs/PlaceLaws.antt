@@ -3,7 +3,7 @@ use Rattle.std.proofs.Common.{◌≡◌, ℕ, suc, ◌+◌, ◌-◌, ◌<◌, �
 use Rattle.tk_script.specs.declared.cause.Cause.{Cause}
 use Rattle.tk_script.specs.declared.cause.Cause.TheVariants as cause
 use Rattle.tk_script.specs.Grammar.{Line}
-use Rattle.tk_script.specs.Reading.{Reads, IsRead, Place, Refusal, ◌>>=◌, taken, line_at, next_line, next_lines, to_end, read_words, no_line}
+use Rattle.tk_script.specs.Reading.{Verdict, IsRead, Place, Refusal, ◌>>=◌, taken, line_at, next_line, next_lines, to_end, read_words, no_line}
 use Rattle.tk_script.proofs.CauseLaws.{differ}
 use Rattle.tk_script.proofs.PartLaws.{same_bytes}
 
@@ -17,27 +17,20 @@ pub record Follows (p : Place) (l : Line) (q : Place) : Type 0 where
   pub number : q.line ≡ p.line + 1
   pub lines : p.rest ≡ l ∷ q.rest
 
-pub next_early : {X : Type 0} (read : Line → Reads X) (p : Place) → p.rest ≡ [] →
+pub next_early : {X : Type 0} (read : Line → Verdict X) (p : Place) → p.rest ≡ [] →
     next_line read p ≡ Err (p.line, cause.Early)
 next_early read p e = ap (line_at read p.line) e
 
-pub next_refused : {X : Type 0} (read : Line → Reads X) (p : Place) (l : Line) (q : Place)
+pub next_refused : {X : Type 0} (read : Line → Verdict X) (p : Place) (l : Line) (q : Place)
     (c : Cause) → Follows p l q → read l ≡ Err c → next_line read p ≡ Err (p.line, c)
 next_refused read p l q c f r = ap (line_at read p.line) f.lines ∙ ap (taken p.line q.rest) r
 
-pub next_taken : {X : Type 0} (read : Line → Reads X) (p : Place) (l : Line) (q : Place) (x : X) →
+pub next_taken : {X : Type 0} (read : Line → Verdict X) (p : Place) (l : Line) (q : Place) (x : X) →
     Follows p l q → read l ≡ Ok x → next_line read p ≡ Ok (x, q)
 next_taken read p l q x f r =
     ap (line_at read p.line) f.lines ∙ ap (taken p.line q.rest) r
     ∙ ap (λ z. Ok (x, z)) (same_place (record { line = p.line + 1; rest = q.rest }) q (sym f.number)
     refl)
-
-pub words_here : (words line : Line) → line ≡ words → read_words words line ≡ Ok tt
-words_here words line e = ap (read_words words) e ∙ rw (same_bytes words) refl
-
-pub words_differ : (words line : Line) → (line ≡ words → ⊥) →
-    read_words words line ≡ Err cause.Form
-words_differ words line other = rw (differ line words other) refl
 
 pub no_line_here : (line : ℕ) (ls : List Line) → ls ≡ [] → no_line line ls ≡ Ok tt
 no_line_here line ls e = ap (no_line line) e
@@ -49,13 +42,7 @@ line_here line (l ∷ ls) some = refl
 
 -- ---- a number of lines
 
-module _ (read : Line → Reads (Unit {0})) (count i : ℕ) (p : Place) where
-  pub lines_done : count ≤ i → next_lines (count - i) read p ≡ Ok p
-  lines_done done = ap (λ k. next_lines k read p) none
-    where
-      none : count - i ≡ 0
-      none = omega (arith, done)
-
+module _ (read : Line → Verdict (Unit {0})) (count i : ℕ) (p : Place) where
   one_more : i < count → count - i ≡ suc (count - (i + 1))
   one_more more = omega (arith, more)
 
@@ -79,16 +66,7 @@ module _ (read : Line → Reads (Unit {0})) (count i : ℕ) (p : Place) where
 
 -- ---- lines up to the one that ends them
 
-module _ {X : Type 0} (read : X → Line → Reads X) (last : X) (p : Place) where
-  pub end_early : p.rest ≡ [] → to_end read last p.line p.rest ≡ Err (p.line, cause.Early)
-  end_early e = ap (to_end read last p.line) e
-
-  pub end_here : (l : Line) (q : Place) → Follows p l q → l ≡ codes "end" →
-      to_end read last p.line p.rest ≡ Ok q
-  end_here l q f e =
-      ap (to_end read last p.line) (f.lines ∙ ap (λ k. k ∷ q.rest) e)
-      ∙ ap Ok (same_place (record { line = p.line + 1; rest = q.rest }) q (sym f.number) refl)
-
+module _ {X : Type 0} (read : X → Line → Verdict X) (last : X) (p : Place) where
   abbrev on : Place → X × Place → Result Place Refusal
   on q x = to_end read x.0 (p.line + 1) q.rest
 
@@ -96,11 +74,6 @@ module _ {X : Type 0} (read : X → Line → Reads X) (last : X) (p : Place) whe
       to_end read last p.line p.rest ≡ taken p.line q.rest (read last l) >>= on q
   goes_by l q f other =
       ap (to_end read last p.line) f.lines ∙ rw (differ l (codes "end") other) refl
-
-  pub end_refused : (l : Line) (q : Place) (c : Cause) → Follows p l q → (l ≡ codes "end" → ⊥) →
-      read last l ≡ Err c → to_end read last p.line p.rest ≡ Err (p.line, c)
-  end_refused l q c f other r =
-      goes_by l q f other ∙ ap (λ s. taken p.line q.rest s >>= on q) r
 
   pub end_more : (l : Line) (q : Place) (x : X) → Follows p l q → (l ≡ codes "end" → ⊥) →
       read last l ≡ Ok x → to_end read last p.line p.rest ≡ to_end read x q.line q.rest
@@ -110,10 +83,10 @@ module _ {X : Type 0} (read : X → Line → Reads X) (last : X) (p : Place) whe
 
 -- ---- what a line's reader answered
 
-pub read_ok : {X Y : Type 0} (f : X → Y) (r : Result X Cause) (x : X) (said : Reads Y) →
+pub read_ok : {X Y : Type 0} (f : X → Y) (r : Result X Cause) (x : X) (said : Verdict Y) →
     r ≡ Ok x → IsRead f r said → said ≡ Ok (f x)
 read_ok f r x said e h = subst (λ s. IsRead f s said) e h
 
-pub read_err : {X Y : Type 0} (f : X → Y) (r : Result X Cause) (c : Cause) (said : Reads Y) →
+pub read_err : {X Y : Type 0} (f : X → Y) (r : Result X Cause) (c : Cause) (said : Verdict Y) →
     r ≡ Err c → IsRead f r said → said ≡ Err c
 read_err f r c said e h = subst (λ s. IsRead f s said) e h

@@ -42,21 +42,6 @@ IsOnly {X} R E xs line x = (y : X) (more : List X) (behind : List Line) → R li
     E (xs ++ y ∷ more) behind → x ≡ y
 
 module _ {X : Type 0} (R : Line → X → Type 0) (E : List X → List Line → Type 0) where
-  pub Reads-none : (text : List Line) → Reads R E text [] text
-  Reads-none text = record {
-    lines = [];
-    each = tt;
-    front = refl;
-    only = λ lines all behind each ends whole. record {
-      lines = lines;
-      more = all;
-      each =
-          each;
-      whole = refl;
-      ends = whole;
-    };
-  }
-
   zip-push : (lines : List Line) (xs : List X) (line : Line) (x : X) → AllZip R lines xs →
       R line x →
       AllZip R (lines ++ line ∷ []) (xs ++ x ∷ [])
@@ -156,8 +141,10 @@ lines-zip f p [] [] each = (refl, refl)
 lines-zip f p [] (x ∷ xs) each = absurd each
 lines-zip f p (l ∷ lines) [] each = absurd each
 lines-zip f p (l ∷ lines) (x ∷ xs) each =
-    let rest = lines-zip f p lines xs each.1 in
-    (cons_both l (f x) lines (map f xs) each.0.0 rest.0, and_from (p x) (list_all p xs) each.0.1 rest.1)
+    let rest = lines-zip f p lines xs each.1 in (
+      cons_both l (f x) lines (map f xs) each.0.0 rest.0,
+      and_from (p x) (list_all p xs) each.0.1 rest.1,
+    )
 
 -- what is read stands at the front
 pub Reads-front : {X : Type 0} (f : X → Line) (p : X → Bool) (E : List X → List Line →

@@ -1,5 +1,5 @@
 -- Refused lines and their causes, computed.
-use Rattle.std.specs.Prelude.{◌≡◌, ℕ, ⊤, codes, Ok, Err, Result}
+use Rattle.std.specs.Prelude.{◌≡◌, ℕ, ⊤, List, ◌++◌, codes, Ok, Err, Result}
 use Rattle.std.specs.Int.Count.{ones}
 use Rattle.std.specs.Fmt.{digits}
 use Rattle.std.specs.Str.{is_utf8, chars}
@@ -12,8 +12,12 @@ use Rattle.tk_script.specs.declared.cause.Cause.TheVariants.{Early, Form, Shape,
 use Rattle.tk_script.specs.Grammar.{lines_of}
 use Rattle.tk_script.specs.Reading.{Refusal, read_head, read_keys, read_script, read_tape, read_end, read_input}
 
+unfoldable reading : ⊤
+unfolding read_head read_keys read_script read_tape read_end
+reading = tt
+
 unfoldable computing : ⊤
-unfolding ones digits chars encode_utf8 is_utf8
+unfolding ones digits chars encode_utf8 is_utf8 hex_on_literals lines_of read_input reading
 computing = tt
 
 abbrev accepted : Result (Unit {0}) Refusal
@@ -22,82 +26,77 @@ accepted = Ok tt
 abbrev refused : ℕ → Cause → Result (Unit {0}) Refusal
 refused line c = Err (line, c)
 
-whole : read_input (lines_of (codes "talek 1\nshape 2 8 4 4 24 64 1 0 2 2 1 1\ndrawn\nlog 0 1\nsay 1 1 0 hi\nend\ntape\nfill 11 36\nx aB\nend\n"))
-    ≡ accepted
-unfolding computing lines_of hex_on_literals read_head read_keys read_script read_tape read_end read_input
+-- what is said of a text, and of one that begins with these three lines
+abbrev said : List ℕ → Result (Unit {0}) Refusal
+said text = read_input (lines_of text)
+
+abbrev said_drawn : List ℕ → Result (Unit {0}) Refusal
+said_drawn text =
+    said (codes "talek 1\nshape 2 8 4 4 24 64 1 0 2 2 1 1\ndrawn\n" ++ text)
+
+whole : said_drawn (codes "log 0 1\nsay 1 1 0 hi\nend\ntape\nfill 11 36\nx aB\nend\n") ≡ accepted
+unfolding computing
 whole = refl
 
-nothing : read_input (lines_of (codes ""))
-    ≡ refused 1 Early
-unfolding computing lines_of hex_on_literals read_head read_keys read_script read_tape read_end read_input
+nothing : said (codes "") ≡ refused 1 Early
+unfolding computing
 nothing = refl
 
-cut : read_input (lines_of (codes "talek 1\nshape 2 8 4 4 24 64 1 0 2 2 1 1\ndrawn\nlog 0 1\nsay 1 1 0 hi\n"))
-    ≡ refused 6 Early
-unfolding computing lines_of hex_on_literals read_head read_keys read_script read_tape read_end read_input
+cut : said_drawn (codes "log 0 1\nsay 1 1 0 hi\n") ≡ refused 6 Early
+unfolding computing
 cut = refl
 
-word : read_input (lines_of (codes "talek 1\nshape 2 8 4 4 24 64 1 0 2 2 1 1\ndruwn\nlog 0 1\n"))
-    ≡ refused 3 Form
-unfolding computing lines_of hex_on_literals read_head read_keys read_script read_tape read_end read_input
+word : said (codes "talek 1\nshape 2 8 4 4 24 64 1 0 2 2 1 1\ndruwn\nlog 0 1\n") ≡ refused 3 Form
+unfolding computing
 word = refl
 
-long_number : read_input (lines_of (codes "talek 1\nshape 2 8 4 4 24 64 1 0 2 2 1 1\ndrawn\nlog 4294967296\n"))
-    ≡ refused 4 Form
-unfolding computing lines_of hex_on_literals read_head read_keys read_script read_tape read_end read_input
+long_number : said_drawn (codes "log 4294967296\n") ≡ refused 4 Form
+unfolding computing
 long_number = refl
 
-few_servers : read_input (lines_of (codes "talek 1\nshape 1 8 4 4 24 64 1 0 2 2 1 1\ndrawn\nlog 0 1\n"))
+few_servers : said (codes "talek 1\nshape 1 8 4 4 24 64 1 0 2 2 1 1\ndrawn\nlog 0 1\n")
     ≡ refused 2 (Shape Servers 1)
-unfolding computing lines_of hex_on_literals read_head read_keys read_script read_tape read_end read_input
+unfolding computing
 few_servers = refl
 
-long_tape : read_input (lines_of (codes "talek 1\nshape 2 8 4 4 24 64 1 0 64 256 3 1\ndrawn\nlog 0 1\n"))
+long_tape : said (codes "talek 1\nshape 2 8 4 4 24 64 1 0 64 256 3 1\ndrawn\nlog 0 1\n")
     ≡ refused 3 (Shape Tape 2288640)
-unfolding computing lines_of hex_on_literals read_head read_keys read_script read_tape read_end read_input
+unfolding computing
 long_tape = refl
 
-client : read_input (lines_of (codes "talek 1\nshape 2 8 4 4 24 64 1 0 2 2 1 1\ndrawn\nlog 0 2\n"))
-    ≡ refused 4 (Number 2)
-unfolding computing lines_of hex_on_literals read_head read_keys read_script read_tape read_end read_input
+client : said_drawn (codes "log 0 2\n") ≡ refused 4 (Number 2)
+unfolding computing
 client = refl
 
-repeated : read_input (lines_of (codes "talek 1\nshape 2 8 4 4 24 64 1 0 2 2 1 1\ndrawn\nlog 0 1 1\n"))
-    ≡ refused 4 Order
-unfolding computing lines_of hex_on_literals read_head read_keys read_script read_tape read_end read_input
+repeated : said_drawn (codes "log 0 1 1\n") ≡ refused 4 Order
+unfolding computing
 repeated = refl
 
-phase : read_input (lines_of (codes "talek 1\nshape 2 8 4 4 24 64 1 0 2 2 1 1\ndrawn\nlog 0 1\nsay 3 9 9 abcdefg\n"))
-    ≡ refused 5 (Number 3)
-unfolding computing lines_of hex_on_literals read_head read_keys read_script read_tape read_end read_input
+phase : said_drawn (codes "log 0 1\nsay 3 9 9 abcdefg\n") ≡ refused 5 (Number 3)
+unfolding computing
 phase = refl
 
-early : read_input (lines_of (codes "talek 1\nshape 2 8 4 4 24 64 1 0 2 2 1 1\ndrawn\nlog 0 1\nsay 2 1 0 a\nsay 1 1 0 abcdefg\n"))
-    ≡ refused 6 Order
-unfolding computing lines_of hex_on_literals read_head read_keys read_script read_tape read_end read_input
+early : said_drawn (codes "log 0 1\nsay 2 1 0 a\nsay 1 1 0 abcdefg\n") ≡ refused 6 Order
+unfolding computing
 early = refl
 
-room : read_input (lines_of (codes "talek 1\nshape 2 8 4 4 24 64 1 0 2 2 1 1\ndrawn\nlog 0 1\nsay 1 1 0 abcdefg\n"))
-    ≡ refused 5 (Room 6)
-unfolding computing lines_of hex_on_literals read_head read_keys read_script read_tape read_end read_input
+room : said_drawn (codes "log 0 1\nsay 1 1 0 abcdefg\n") ≡ refused 5 (Room 6)
+unfolding computing
 room = refl
 
-control : read_input (lines_of (codes "talek 1\nshape 2 8 4 4 24 64 1 0 2 2 1 1\ndrawn\nlog 0 1\nsay 1 1 0 ab\tc\n"))
-    ≡ refused 5 (Text 2)
-unfolding computing lines_of hex_on_literals read_head read_keys read_script read_tape read_end read_input
+control : said_drawn (codes "log 0 1\nsay 1 1 0 ab\tc\n") ≡ refused 5 (Text 2)
+unfolding computing
 control = refl
 
-repeats : read_input (lines_of (codes "talek 1\nshape 2 8 4 4 24 64 1 0 2 2 1 1\ndrawn\nlog 0 1\nend\ntape\nfill 11 0\n"))
-    ≡ refused 7 (Number 0)
-unfolding computing lines_of hex_on_literals read_head read_keys read_script read_tape read_end read_input
+repeats : said_drawn (codes "log 0 1\nend\ntape\nfill 11 0\n") ≡ refused 7 (Number 0)
+unfolding computing
 repeats = refl
 
-after : read_input (lines_of (codes "talek 1\nshape 2 8 4 4 24 64 1 0 2 2 1 1\ndrawn\nlog 0 1\nend\ntape\nfill 11 36\nx aB\nend\n\n"))
-    ≡ refused 10 After
-unfolding computing lines_of hex_on_literals read_head read_keys read_script read_tape read_end read_input
+after : said_drawn (codes "log 0 1\nend\ntape\nfill 11 36\nx aB\nend\n\n") ≡ refused 10 After
+unfolding computing
 after = refl
 
-keyed : read_input (lines_of (codes "talek 1\nshape 2 8 4 4 24 64 1 0 2 2 1 1\nkeyed\nlog 0 1\nhandle 00\n"))
+keyed : said (codes "talek 1\nshape 2 8 4 4 24 64 1 0 2 2 1 1\nkeyed\nlog 0 1\nhandle 00\n")
     ≡ refused 5 Form
-unfolding computing lines_of hex_on_literals read_head read_keys read_script read_tape read_end read_input
+unfolding computing
 keyed = refl

@@ -79,11 +79,10 @@ pub role_words : (shape : Shape) (role : Role) → IsTrue (is_role shape role) �
     AllByRecursion IsWord (role.writer ∷ role.followers)
 role_words shape role sound =
     let few = shape.in_range.clients_high in
-    let first = and_parts (nat_lt role.writer shape.clients && list_all (λ c. nat_lt c shape.clients)
-    role.followers) (is_ascending role.followers) sound in
-    let second = and_parts (nat_lt role.writer shape.clients)
-    (list_all (λ c. nat_lt c shape.clients) role.followers) first.0 in (
+    let writer = nat_lt role.writer shape.clients in
+    let followers = list_all (λ c. nat_lt c shape.clients) role.followers in
+    let first = and_parts (writer && followers) (is_ascending role.followers) sound in
+    let second = and_parts writer followers first.0 in (
       client_is_word shape.clients role.writer few second.0,
-      clients_are_words shape.clients
-          role.followers few second.1,
+      clients_are_words shape.clients role.followers few second.1,
     )

@@ -14,7 +14,7 @@ use Rattle.tk_script.specs.declared.cause.Cause.TheVariants as cause
 use Rattle.tk_script.specs.declared.say.Say.{Say}
 use Rattle.tk_script.specs.Grammar.{Line, fields, say_line}
 use Rattle.tk_script.specs.SoundScript.{is_say, is_said_by, are_in_order}
-use Rattle.tk_script.specs.Reading.{Reads, parts_of, number_spelled, number_before, numbers_spelled, named, When, is_by, last_when, out_of_range, in_room, said_behind, said, say_numbers, say_parts, read_say}
+use Rattle.tk_script.specs.Reading.{Verdict, parts_of, number_spelled, number_before, numbers_spelled, named, When, is_by, last_when, out_of_range, in_room, said_behind, said, say_numbers, say_parts, read_say}
 use Rattle.tk_script.proofs.CauseLaws.{lacks_by_test, bool_false}
 use Rattle.tk_script.proofs.FieldLaws.{LacksSpace-decimal}
 use Rattle.tk_script.proofs.SoundLaws.{is_say-IsSaid}
@@ -135,7 +135,7 @@ numbers_form n last p t g x rest (Some (a ∷ b ∷ c ∷ [])) e never =
     (four p t g (decimal a) (decimal b) (decimal c) rest x h.0))
 numbers_form n last p t g x rest (Some (a ∷ b ∷ c ∷ more ∷ ns)) e never = refl
 
-when_form : (b : Bool) (r : Reads When) → (IsTrue b → r ≡ Err cause.Form) →
+when_form : (b : Bool) (r : Verdict When) → (IsTrue b → r ≡ Err cause.Form) →
     cond b r (Err cause.Form) ≡ Err cause.Form
 when_form true r f = f refl
 when_form false r f = refl
@@ -226,9 +226,6 @@ range_test false b c p t g e = absurd (cc e)
 say_room : (size block : ℕ) → 24 ≤ block → size ≤ block - 18 → nat_le (size + 18) block ≡ true
 say_room size block low h = grind (arith, nat_tests)
 
-room_say : (size block : ℕ) → nat_le (size + 18) block ≡ true → size ≤ block - 18
-room_say size block h = grind (arith, nat_tests)
-
 -- a text with its numbers in range, room and bytes that may be sent
 pub is_say-by : (shape : Shape) (say : Say) →
     out_of_range (named shape) say.phase say.tick say.log ≡ None →
@@ -243,8 +240,8 @@ is_say-by shape say none short good =
     (and_from _ (nat_le (length say.text + 18) shape.block)
     (and_from _ (nat_lt say.log shape.logs)
     (and_from _ (nat_le say.tick shape.ticks)
-    (and_from (nat_le 1 say.phase && nat_le say.phase shape.phases) (nat_le 1 say.tick) range.0 tick.0)
-    tick.1) range.2) room) good
+    (and_from (nat_le 1 say.phase && nat_le say.phase shape.phases) (nat_le 1 say.tick) range.0
+    tick.0) tick.1) range.2) room) good
 
 -- what holds of a text that may be said
 pub record MaySay (shape : Shape) (say : Say) : Type 0 where
@@ -282,7 +279,7 @@ said_ok shape last say sound by =
     said_well (named shape) last (say.phase, say.tick) say.text
     (out_of_range (named shape) say.phase say.tick say.log) h.range by h.short h.good
 
-behind_test : (b : Bool) (r : Reads When) (w : When) → cond b r (Err cause.Order) ≡ Ok w →
+behind_test : (b : Bool) (r : Verdict When) (w : When) → cond b r (Err cause.Order) ≡ Ok w →
     IsTrue b × (r ≡ Ok w)
 behind_test true r w e = (refl, e)
 behind_test false r w e = absurd (cc e)

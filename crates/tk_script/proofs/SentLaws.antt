@@ -1,5 +1,5 @@
--- Each client sends one text a turn at most, and no number of a log is sent twice; what is sent is in
--- range, and may be sealed.
+-- Each client sends one text a turn at most, and no number of a log is sent twice; what is sent is
+-- in range, and may be sealed.
 use Rattle.std.proofs.Common.{◌≡◌, ◌∙◌, refl, ap, sym, subst, arith, rules}
 use Rattle.std.proofs.Common.{ℕ, ◌+◌, ◌<◌, ◌≤◌, ◌==◌, max, Bool, true, false, cond, ◌&&◌, IsTrue}
 use Rattle.std.proofs.Common.{List, [], ◌∷◌, filter, find, Option, Some, eqb-true, eq-eqb, ne_eqb}

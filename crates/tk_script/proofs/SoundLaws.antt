@@ -17,7 +17,8 @@ pub are_in_order-front : (says : List Say) (y : Say) (more : List Say) →
     IsTrue (are_in_order (says ++ y ∷ []))
 are_in_order-front [] y more ordered = refl
 are_in_order-front (a ∷ []) y more ordered =
-    and_from (is_said_by a y) true (and_parts (is_said_by a y) (are_in_order (y ∷ more)) ordered).0 refl
+    let split = and_parts (is_said_by a y) (are_in_order (y ∷ more)) ordered in
+    and_from (is_said_by a y) true split.0 refl
 are_in_order-front (a ∷ b ∷ says) y more ordered =
     let split = and_parts (is_said_by a b) (are_in_order (b ∷ (says ++ y ∷ more))) ordered in
     and_from (is_said_by a b) (are_in_order (b ∷ (says ++ y ∷ []))) split.0

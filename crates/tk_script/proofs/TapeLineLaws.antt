@@ -10,7 +10,7 @@ use Rattle.tk_shape.specs.Limits.{is_between}
 use Rattle.tk_script.specs.declared.cause.Cause.TheVariants as cause
 use Rattle.tk_script.specs.Fields.{LacksSpace}
 use Rattle.tk_script.specs.Grammar.{fields}
-use Rattle.tk_script.specs.Reading.{Reads, parts_of, number_spelled, bytes_found, in_piece, read_digits, repeats, repeated, read_fill, piece_parts, read_piece}
+use Rattle.tk_script.specs.Reading.{Verdict, parts_of, number_spelled, bytes_found, in_piece, read_digits, repeats, repeated, read_fill, piece_parts, read_piece}
 use Rattle.tk_script.proofs.CauseLaws.{lacks_by_test}
 use Rattle.tk_script.proofs.FieldLaws.{LacksSpace-decimal}
 use Rattle.tk_script.proofs.HexLaws.{digits_lack}
@@ -33,7 +33,7 @@ abbrev pub IsNoPiece : List ℕ → Type 0
 IsNoPiece digits = (bytes : List ℕ) → decode_of digits ≡ Ok bytes → 1 ≤ length bytes →
     length bytes ≤ 2048 → ⊥
 
-abbrev form_unless : Bool → Reads (Unit {0})
+abbrev form_unless : Bool → Verdict (Unit {0})
 form_unless b = cond b (Ok tt) (Err cause.Form)
 
 at_least : (n : ℕ) → is_between 1 2048 n ≡ true → 1 ≤ n
@@ -163,18 +163,18 @@ fill_behind line text e =
 abbrev pub LacksWord : List ℕ → List ℕ → Type 0
 LacksWord word line = (rest : List ℕ) → line ≡ word ++ 0x20 ∷ rest → ⊥
 
-none_form : (r : Reads (Unit {0})) (b : Bool) → (IsTrue b → r ≡ Err cause.Form) →
+none_form : (r : Verdict (Unit {0})) (b : Bool) → (IsTrue b → r ≡ Err cause.Form) →
     cond b r (Err cause.Form) ≡ Err cause.Form
 none_form r true f = f refl
 none_form r false f = refl
 
-two_form : (r s : Reads (Unit {0})) (a b : Bool) → (IsTrue a → r ≡ Err cause.Form) →
+two_form : (r s : Verdict (Unit {0})) (a b : Bool) → (IsTrue a → r ≡ Err cause.Form) →
     (IsTrue b → s ≡ Err cause.Form) →
     cond a r (cond b s (Err cause.Form)) ≡ Err cause.Form
 two_form r s true b f g = f refl
 two_form r s false b f g = none_form s b g
 
-word_form : (w word : List ℕ) (parts : List (List ℕ)) (r : List (List ℕ) → Reads (Unit {0})) →
+word_form : (w word : List ℕ) (parts : List (List ℕ)) (r : List (List ℕ) → Verdict (Unit {0})) →
     r [] ≡ Err cause.Form → LacksWord word (fields (w ∷ parts)) → IsTrue (bytes_eq w word) →
     r parts ≡ Err cause.Form
 word_form w word [] r none lacks same = none

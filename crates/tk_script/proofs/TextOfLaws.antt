@@ -2,7 +2,6 @@
 use Rattle.std.proofs.Common.{◌≡◌, ℕ, ◌+◌, ◌<◌, List, [], ◌∷◌, ◌++◌, length, map, take, get_or, codes, decimal, Option, Some, refl, ap, sym, ◌∙◌, append_assoc, append-nil}
 use Rattle.std.specs.List.{AllByRecursion}
 use Rattle.std.proofs.lemmas.List.{take_more, map-append}
-use Rattle.tk_shape.specs.Numbers.{numbers_of}
 use Rattle.tk_handle.specs.declared.handle.Handle.{Handle}
 use Rattle.tk_script.specs.declared.script.Script.{Script}
 use Rattle.tk_script.specs.declared.role.Role.{Role}
@@ -60,6 +59,13 @@ fields_of : (word : List ℕ) (ns : List ℕ) →
 fields_of word [] = sym (append-nil word)
 fields_of word (n ∷ ns) = ap (λ t. word ++ 0x20 ∷ t) (fields_of (decimal n) ns)
 
+-- numbers behind a word
+pub word_numbers : (word ns old : List ℕ) {new : List ℕ} →
+    new ≡ (old ++ word) ++ number_fields ns → new ≡ old ++ fields (word ∷ map decimal ns)
+word_numbers word ns old new_is =
+    new_is ∙ append_assoc old word (number_fields ns)
+    ∙ ap (λ t. old ++ t) (sym (fields_of word ns))
+
 pub numbers_text : (word ns old : List ℕ) {to_word to_numbers new : List ℕ} →
     to_word ≡ old ++ word → to_numbers ≡ to_word ++ number_fields ns →
     new ≡ to_numbers ++ 0x0A ∷ [] →
@@ -67,9 +73,7 @@ pub numbers_text : (word ns old : List ℕ) {to_word to_numbers new : List ℕ} 
 numbers_text word ns old {to_numbers = to_numbers} word_is numbers_is new_is =
     let line = fields (word ∷ map decimal ns) in
     let whole : to_numbers ≡ old ++ line =
-    numbers_is ∙ ap (λ t. t ++ number_fields ns) word_is
-    ∙ append_assoc old word (number_fields ns)
-    ∙ ap (λ t. old ++ t) (sym (fields_of word ns))
+    word_numbers word ns old (numbers_is ∙ ap (λ t. t ++ number_fields ns) word_is)
     in
     new_is ∙ ap (λ t. t ++ 0x0A ∷ []) whole ∙ append_assoc old line (0x0A ∷ [])
 
@@ -103,27 +107,23 @@ keys_text keys k handles seeds old is handles_is seeds_is before_is new_is =
     ∙ ap (λ o. old ++ text_of (lines_of_keys o)) (sym is)
 
 -- the parts of a script
-pub script_text : (S : Script) (ns : List ℕ) (roles : List Role) (says : List Say) (old : List ℕ)
-    {a b d e f g new : List ℕ} → ns ≡ numbers_of S.shape → roles ≡ S.roles → says ≡ S.says →
-    a ≡ old ++ text_of (codes "talek 1" ∷ []) →
-    b ≡ a ++ text_of (fields (codes "shape" ∷ map decimal ns) ∷ []) →
+pub script_text : (S : Script) (roles : List Role) (says : List Say) (old : List ℕ)
+    {a b d e f g new : List ℕ} → roles ≡ S.roles → says ≡ S.says →
+    a ≡ old ++ text_of (codes "talek 1" ∷ []) → b ≡ a ++ text_of (shape_line S.shape ∷ []) →
     d ≡ b ++ text_of (kind_line S.keys ∷ []) → e ≡ d ++ text_of (map role_line roles) →
     f ≡ e ++ text_of (lines_of_keys S.keys) → g ≡ f ++ text_of (map say_line says) →
     new ≡ g ++ text_of (codes "end" ∷ []) → new ≡ old ++ printed S
 unfolding printed
-script_text S ns roles says old {a} {b} {d} {e} {f} {g} ns_is roles_is says_is a_is b_is d_is e_is
-    f_is g_is new_is =
+script_text S roles says old {d = d} {f = f} roles_is says_is a_is b_is d_is e_is f_is g_is new_is =
     let first = codes "talek 1" in
     let shape = shape_line S.shape in
     let kind = kind_line S.keys in
     let logs = map role_line S.roles in
     let keys = lines_of_keys S.keys in
     let texts = map say_line S.says in
-    let shape_is = b_is
-    ∙ ap (λ xs. a ++ text_of (fields (codes "shape" ∷ map decimal xs) ∷ [])) ns_is in
     let logs_is = e_is ∙ ap (λ xs. d ++ text_of (map role_line xs)) roles_is in
     let texts_is = g_is ∙ ap (λ xs. f ++ text_of (map say_line xs)) says_is in
-    let two = text_of-behind (first ∷ []) (shape ∷ []) old a_is shape_is in
+    let two = text_of-behind (first ∷ []) (shape ∷ []) old a_is b_is in
     let three = text_of-behind (first ∷ shape ∷ []) (kind ∷ []) old two d_is in
     let four = text_of-behind (first ∷ shape ∷ kind ∷ []) logs old three logs_is in
     let five = text_of-behind (first ∷ shape ∷ kind ∷ logs) keys old four f_is in

@@ -21,6 +21,6 @@ IsRefusal (Line line c) said = said ≡ Err (line, c)
 IsRefusal Memory said = Unit {0}
 
 -- the answer tells of the lines what their definition says, unless memory ran out
-abbrev pub Tells : {X Y : Type 0} → (X → Y) → Result X ScriptError → Result Y Refusal → Type 0
-Tells f (Ok x) said = said ≡ Ok (f x)
-Tells f (Err e) said = IsRefusal e said
+abbrev pub Agrees : {X Y : Type 0} → (X → Y) → Result X ScriptError → Result Y Refusal → Type 0
+Agrees f (Ok x) said = said ≡ Ok (f x)
+Agrees f (Err e) said = IsRefusal e said

@@ -1,7 +1,8 @@
 -- Which texts spell which inputs.
--- A text is lines of fields with one space between; numbers are plain decimal, and hexadecimal digits are in either case.
+-- A text is lines of fields with one space between; numbers are plain decimal, and hexadecimal
+-- digits are in either case.
 use Rattle.std.specs.Prelude.{◌≡◌, ℕ, ◌<◌, ◌≤◌, ◌^◌, ◌-◌, min, ◌⊎◌, ◌==◌, cond, List, [], ◌∷◌, ◌++◌, length, map, take, replicate, codes, decimal, flat_map, Option, Some, None, Ok}
-use Rattle.std.specs.List.{join_with_byte, AllByRecursion, AllZip}
+use Rattle.std.specs.List.{join_with_byte, onto_first, AllByRecursion, AllZip}
 use Rattle.hex.specs.Hex.{decode_of}
 use Rattle.tk_shape.specs.declared.shape.Shape.{Shape}
 use Rattle.tk_shape.specs.Numbers.{numbers_of}
@@ -19,11 +20,6 @@ use Rattle.tk_handle.specs.Handle.{handle_bytes}
 
 abbrev pub Line : Type 0
 Line = List ℕ
-
--- a byte in front of the first line
-abbrev pub onto_first : ℕ → List Line → List Line
-onto_first b [] = (b ∷ []) ∷ []
-onto_first b (l ∷ ls) = (b ∷ l) ∷ ls
 
 -- the lines of a text, each ended by a line feed; the last line feed may be missing
 unfoldable pub lines_of : List ℕ → List Line
@@ -48,11 +44,13 @@ role_line role = fields (codes "log" ∷ decimal role.writer ∷ map decimal rol
 
 -- the text is all after the space that follows the log's number
 abbrev pub say_line : Say → Line
-say_line say = fields (codes "say" ∷ decimal say.phase ∷ decimal say.tick ∷ decimal say.log ∷ say.text ∷ [])
+say_line say =
+    fields (codes "say" ∷ decimal say.phase ∷ decimal say.tick ∷ decimal say.log ∷ say.text ∷ [])
 
 -- a word, and bytes in hexadecimal
 abbrev pub SpellsBytes : Line → List ℕ × List ℕ → Type 0
-SpellsBytes line x = (digits : List ℕ) × (line ≡ fields (x.0 ∷ digits ∷ [])) × (decode_of digits ≡ Ok x.1)
+SpellsBytes line x =
+    (digits : List ℕ) × (line ≡ fields (x.0 ∷ digits ∷ [])) × (decode_of digits ≡ Ok x.1)
 
 -- a word in front of each list of bytes
 abbrev pub worded : List ℕ → List (List ℕ) → List (List ℕ × List ℕ)
@@ -72,7 +70,8 @@ IsSeed seed = length seed ≡ 32
 abbrev pub SpellsKeys : List Line → Option Keys → Type 0
 SpellsKeys lines None = lines ≡ []
 SpellsKeys lines (Some keys) =
-    AllZip SpellsBytes lines (worded (codes "handle") (map handle_bytes keys.handles) ++ worded (codes "seed") keys.seeds)
+    AllZip SpellsBytes lines
+    (worded (codes "handle") (map handle_bytes keys.handles) ++ worded (codes "seed") keys.seeds)
     × AllByRecursion IsHandle keys.handles
     × AllByRecursion IsSeed keys.seeds
 
@@ -102,7 +101,8 @@ pub record BeginsWithTape (lines : List Line) (tape : List ℕ) (rest : List Lin
 
 -- ---- inputs
 
--- what is kept of a tape: no more bytes than the shape wants, and how many there were, as far as 64 bits count
+-- what is kept of a tape: no more bytes than the shape wants, and how many there were, as far as 64
+-- bits count
 abbrev pub kept_of : Shape → List ℕ → RawTape
 kept_of shape bytes =
     record { bytes = take (tape_len shape) bytes; got = min (length bytes) (2 ^ 64 - 1) }

@@ -1,6 +1,8 @@
 pub mod SoundScript
 pub mod Sent
 pub mod SentLaws
+pub mod Book
+pub mod CauseText
 pub mod Grammar
 pub mod Fields
 pub mod Pieces

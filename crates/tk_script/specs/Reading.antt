@@ -18,16 +18,16 @@ use Rattle.tk_script.specs.SoundScript.{is_ascending}
 use Rattle.tk_script.specs.Grammar.{Line}
 
 -- what a line gives, or the cause for which it is refused
-abbrev pub Reads : Type 0 → Type 0
-Reads X = Result X Cause
+abbrev pub Verdict : Type 0 → Type 0
+Verdict X = Result X Cause
 
 -- a reader's answer says of the line what its definition says
-abbrev pub IsRead : {X Y : Type 0} → (X → Y) → Result X Cause → Reads Y → Type 0
+abbrev pub IsRead : {X Y : Type 0} → (X → Y) → Result X Cause → Verdict Y → Type 0
 IsRead f (Ok x) said = said ≡ Ok (f x)
 IsRead f (Err c) said = said ≡ Err c
 
 -- the same, where a line is refused for its form alone
-abbrev pub IsTaken : {X : Type 0} → Option X → Reads (Unit {0}) → Type 0
+abbrev pub IsTaken : {X : Type 0} → Option X → Verdict (Unit {0}) → Type 0
 IsTaken (Some x) said = said ≡ Ok tt
 IsTaken None said = said ≡ Err cause.Form
 
@@ -71,16 +71,16 @@ abbrev pub named : Shape → Numbers
 named shape = numbers_in (numbers_of shape)
 
 -- the first limit that is broken refuses the line
-abbrev pub unbroken : Numbers → Option Limit → Reads Numbers
+abbrev pub unbroken : Numbers → Option Limit → Verdict Numbers
 unbroken n None = Ok n
 unbroken n (Some l) = Err (cause.Shape l.field l.value)
 
-abbrev pub read_numbers : Option (List ℕ) → Reads Numbers
+abbrev pub read_numbers : Option (List ℕ) → Verdict Numbers
 read_numbers None = Err cause.Form
 read_numbers (Some ns) =
     cond (length ns == 12) (unbroken (numbers_in ns) (broken (numbers_in ns))) (Err cause.Form)
 
-abbrev pub read_shape : Line → Reads Numbers
+abbrev pub read_shape : Line → Verdict Numbers
 read_shape line = read_numbers (numbers_after (codes "shape") line)
 
 -- ---- the line of the kind
@@ -92,12 +92,12 @@ tape_in n =
     let read = 8 + 2 * (n.servers - 1) * (n.buckets / 8) in
     n.phases * n.ticks * (n.clients * (cell + read) + n.logs * cell)
 
-abbrev pub drawn_if : ℕ → Reads Bool
+abbrev pub drawn_if : ℕ → Verdict Bool
 drawn_if size =
     cond (nat_le size 2097152) (Ok false) (Err (cause.Shape field.Tape size))
 
 -- whether the script is keyed
-abbrev pub read_kind : Numbers → Line → Reads Bool
+abbrev pub read_kind : Numbers → Line → Verdict Bool
 read_kind n line =
     cond (bytes_eq line (codes "drawn")) (drawn_if (tape_in n))
     (cond (bytes_eq line (codes "keyed")) (Ok true) (Err cause.Form))
@@ -109,17 +109,17 @@ abbrev pub first_from : ℕ → List ℕ → Option ℕ
 first_from n ns = find (λ k. nat_le n k) ns
 
 -- a client out of range, else followers that don't ascend
-abbrev pub in_order : List ℕ → Option ℕ → Reads (Unit {0})
+abbrev pub in_order : List ℕ → Option ℕ → Verdict (Unit {0})
 in_order followers (Some k) = Err (cause.Number k)
 in_order followers None = cond (is_ascending followers) (Ok tt) (Err cause.Order)
 
-abbrev pub read_clients : Numbers → Option (List ℕ) → Reads (Unit {0})
+abbrev pub read_clients : Numbers → Option (List ℕ) → Verdict (Unit {0})
 read_clients n None = Err cause.Form
 read_clients n (Some []) = Err cause.Form
 read_clients n (Some (writer ∷ followers)) =
     in_order followers (first_from n.clients (writer ∷ followers))
 
-abbrev pub read_role : Numbers → Line → Reads (Unit {0})
+abbrev pub read_role : Numbers → Line → Verdict (Unit {0})
 read_role n line = read_clients n (numbers_after (codes "log") line)
 
 -- ---- the lines of the keys
@@ -132,43 +132,43 @@ bytes_found (Err e) = None
 abbrev pub bytes_in : List ℕ → Option (List ℕ)
 bytes_in text = bytes_found (decode_of text)
 
-abbrev pub counted : ℕ → Option (List ℕ) → Reads (Unit {0})
+abbrev pub counted : ℕ → Option (List ℕ) → Verdict (Unit {0})
 counted count None = Err cause.Form
 counted count (Some bytes) = cond (length bytes == count) (Ok tt) (Err cause.Form)
 
 -- a word, and this many bytes in hexadecimal
-abbrev pub read_hex : List ℕ → ℕ → List (List ℕ) → Reads (Unit {0})
+abbrev pub read_hex : List ℕ → ℕ → List (List ℕ) → Verdict (Unit {0})
 read_hex word count [] = Err cause.Form
 read_hex word count (w ∷ []) = Err cause.Form
 read_hex word count (w ∷ digits ∷ []) =
     cond (bytes_eq w word) (counted count (bytes_in digits)) (Err cause.Form)
 read_hex word count (w ∷ digits ∷ more ∷ parts) = Err cause.Form
 
-abbrev pub read_bytes : List ℕ → ℕ → Line → Reads (Unit {0})
+abbrev pub read_bytes : List ℕ → ℕ → Line → Verdict (Unit {0})
 read_bytes word count line = read_hex word count (parts_of line)
 
-abbrev pub read_handle : Line → Reads (Unit {0})
+abbrev pub read_handle : Line → Verdict (Unit {0})
 read_handle line = read_bytes (codes "handle") 104 line
 
-abbrev pub read_seed : Line → Reads (Unit {0})
+abbrev pub read_seed : Line → Verdict (Unit {0})
 read_seed line = read_bytes (codes "seed") 32 line
 
 -- ---- the lines of a tape
 
-abbrev pub in_piece : Option (List ℕ) → Reads (Unit {0})
+abbrev pub in_piece : Option (List ℕ) → Verdict (Unit {0})
 in_piece None = Err cause.Form
 in_piece (Some bytes) = cond (is_between 1 2048 (length bytes)) (Ok tt) (Err cause.Form)
 
 -- bytes in hexadecimal
-abbrev pub read_digits : List (List ℕ) → Reads (Unit {0})
+abbrev pub read_digits : List (List ℕ) → Verdict (Unit {0})
 read_digits [] = Err cause.Form
 read_digits (digits ∷ []) = in_piece (bytes_in digits)
 read_digits (digits ∷ more ∷ parts) = Err cause.Form
 
-abbrev pub repeats : ℕ → Reads (Unit {0})
+abbrev pub repeats : ℕ → Verdict (Unit {0})
 repeats n = cond (is_between 1 2097152 n) (Ok tt) (Err (cause.Number n))
 
-abbrev pub repeated : Option (List ℕ) → Option ℕ → Reads (Unit {0})
+abbrev pub repeated : Option (List ℕ) → Option ℕ → Verdict (Unit {0})
 repeated None count = Err cause.Form
 repeated (Some []) count = Err cause.Form
 repeated (Some (b ∷ [])) None = Err cause.Form
@@ -176,19 +176,19 @@ repeated (Some (b ∷ [])) (Some n) = repeats n
 repeated (Some (b ∷ more ∷ bytes)) count = Err cause.Form
 
 -- a byte, and how many times it is repeated
-abbrev pub read_fill : List (List ℕ) → Reads (Unit {0})
+abbrev pub read_fill : List (List ℕ) → Verdict (Unit {0})
 read_fill [] = Err cause.Form
 read_fill (digits ∷ []) = Err cause.Form
 read_fill (digits ∷ n ∷ []) = repeated (bytes_in digits) (number_spelled n)
 read_fill (digits ∷ n ∷ more ∷ parts) = Err cause.Form
 
-abbrev pub piece_parts : List (List ℕ) → Reads (Unit {0})
+abbrev pub piece_parts : List (List ℕ) → Verdict (Unit {0})
 piece_parts [] = Err cause.Form
 piece_parts (w ∷ parts) =
     cond (bytes_eq w (codes "x")) (read_digits parts)
     (cond (bytes_eq w (codes "fill")) (read_fill parts) (Err cause.Form))
 
-abbrev pub read_piece : Line → Reads (Unit {0})
+abbrev pub read_piece : Line → Verdict (Unit {0})
 read_piece line = piece_parts (parts_of line)
 
 -- ---- the lines of the texts
@@ -215,23 +215,23 @@ out_of_range n phase tick log =
     (Some phase)
 
 -- a text that is too long for its room, else one that may not be sent
-abbrev pub in_room : ℕ → When → List ℕ → Reads When
+abbrev pub in_room : ℕ → When → List ℕ → Verdict When
 in_room room when text =
     cond (nat_le (length text) room)
     (cond (is_allowed text) (Ok when) (Err (cause.Text (allowed_front (length text) text))))
     (Err (cause.Room room))
 
 -- a number out of range, else a text said too early
-abbrev pub said_behind : Numbers → When → When → List ℕ → Option ℕ → Reads When
+abbrev pub said_behind : Numbers → When → When → List ℕ → Option ℕ → Verdict When
 said_behind n last when text (Some k) = Err (cause.Number k)
 said_behind n last when text None =
     cond (is_by last when) (in_room (n.block - 18) when text) (Err cause.Order)
 
-abbrev pub said : Numbers → When → ℕ → ℕ → ℕ → List ℕ → Reads When
+abbrev pub said : Numbers → When → ℕ → ℕ → ℕ → List ℕ → Verdict When
 said n last phase tick log text =
     said_behind n last (phase, tick) text (out_of_range n phase tick log)
 
-abbrev pub say_numbers : Numbers → When → List ℕ → Option (List ℕ) → Reads When
+abbrev pub say_numbers : Numbers → When → List ℕ → Option (List ℕ) → Verdict When
 say_numbers n last text None = Err cause.Form
 say_numbers n last text (Some []) = Err cause.Form
 say_numbers n last text (Some (phase ∷ [])) = Err cause.Form
@@ -240,7 +240,7 @@ say_numbers n last text (Some (phase ∷ tick ∷ log ∷ [])) = said n last pha
 say_numbers n last text (Some (phase ∷ tick ∷ log ∷ more ∷ ns)) = Err cause.Form
 
 -- the text is all after the space that follows the log's number
-abbrev pub say_parts : Numbers → When → List (List ℕ) → Reads When
+abbrev pub say_parts : Numbers → When → List (List ℕ) → Verdict When
 say_parts n last [] = Err cause.Form
 say_parts n last (w ∷ []) = Err cause.Form
 say_parts n last (w ∷ p ∷ []) = Err cause.Form
@@ -252,11 +252,11 @@ say_parts n last (w ∷ p ∷ t ∷ g ∷ x ∷ parts) =
     (Err cause.Form)
 
 -- when the text of a line is said, behind one that is said at the last
-abbrev pub read_say : Numbers → When → Line → Reads When
+abbrev pub read_say : Numbers → When → Line → Verdict When
 read_say n last line = say_parts n last (parts_of line)
 
 -- why a text isn't said, if it isn't
-abbrev pub IsWhy : Option Cause → When → Reads When → Type 0
+abbrev pub IsWhy : Option Cause → When → Verdict When → Type 0
 IsWhy None when said = said ≡ Ok when
 IsWhy (Some c) when said = said ≡ Err c
 
@@ -276,25 +276,25 @@ abbrev pub ◌>>=◌ : {A B : Type 0} → Result A Refusal → (A → Result B R
 (Ok x) >>= f = f x
 (Err e) >>= f = Err e
 
-abbrev pub taken : {X : Type 0} → ℕ → List Line → Reads X → Result (X × Place) Refusal
+abbrev pub taken : {X : Type 0} → ℕ → List Line → Verdict X → Result (X × Place) Refusal
 taken line rest (Ok x) = Ok (x, record { line = line + 1; rest = rest })
 taken line rest (Err c) = Err (line, c)
 
 -- the line of this number, if there is one
-abbrev pub line_at : {X : Type 0} → (Line → Reads X) → ℕ → List Line → Result (X × Place) Refusal
+abbrev pub line_at : {X : Type 0} → (Line → Verdict X) → ℕ → List Line → Result (X × Place) Refusal
 line_at read line [] = Err (line, cause.Early)
 line_at read line (l ∷ ls) = taken line ls (read l)
 
-abbrev pub next_line : {X : Type 0} → (Line → Reads X) → Place → Result (X × Place) Refusal
+abbrev pub next_line : {X : Type 0} → (Line → Verdict X) → Place → Result (X × Place) Refusal
 next_line read p = line_at read p.line p.rest
 
 -- the next count lines
-abbrev pub next_lines : ℕ → (Line → Reads (Unit {0})) → Place → Result Place Refusal
+abbrev pub next_lines : ℕ → (Line → Verdict (Unit {0})) → Place → Result Place Refusal
 next_lines zero read p = Ok p
 next_lines (suc count) read p = next_line read p >>= λ x. next_lines count read x.1
 
 -- lines up to an `end`, of which each may look at what the one before it gave
-abbrev pub to_end : {X : Type 0} → (X → Line → Reads X) → X → ℕ → List Line → Result Place Refusal
+abbrev pub to_end : {X : Type 0} → (X → Line → Verdict X) → X → ℕ → List Line → Result Place Refusal
 to_end read last line [] = Err (line, cause.Early)
 to_end {X} read last line (l ∷ ls) =
     let on = λ (x : X × Place). to_end read x.0 (line + 1) ls in
@@ -304,7 +304,7 @@ to_end {X} read last line (l ∷ ls) =
 -- ---- sections
 
 -- a line of these words alone
-abbrev pub read_words : List ℕ → Line → Reads (Unit {0})
+abbrev pub read_words : List ℕ → Line → Verdict (Unit {0})
 read_words words line = cond (bytes_eq line words) (Ok tt) (Err cause.Form)
 
 -- the three lines at the front of a script: its numbers, and whether it is keyed

@@ -7,7 +7,8 @@ use Rattle.tk_script.specs.declared.say.Say.{Say}
 use Rattle.tk_shape.specs.Lengths.{turn_count}
 use Rattle.tk_schedule.specs.Schedule.{turn_at}
 
--- a text with its log and number, and the turn that is its own: its own turn may lie past the end of the run
+-- a text with its log and number, and the turn that is its own, which may lie past the end of the
+-- run
 pub record Sending : Type 0 where
   pub turn : ℕ
   pub log : ℕ
@@ -21,13 +22,19 @@ blank_role = record { writer = 0; followers = [] }
 abbrev pub writer_of : Script → ℕ → ℕ
 writer_of S log = (slice_index_or S.roles log blank_role).writer
 
--- The texts of one client in order, behind the earlier ones, where free is the first turn without a text. Each is sent in the
--- turn in which it is said, or in the first free one, whichever is later; its number is how many of its log came before it.
+-- The texts of one client in order, behind the earlier ones, where free is the first turn without a
+-- text. Each is sent in the turn in which it is said, or in the first free one, whichever is later;
+-- its number is how many of its log came before it.
 unfoldable pub sendings_from : Shape → ℕ → List Say → List Say → List Sending
 sendings_from shape free earlier [] = []
 sendings_from shape free earlier (y ∷ ys) =
     let turn = max (turn_at shape y.phase y.tick) free in
-    record { turn = turn; log = y.log; number = count_by (λ z. z.log == y.log) earlier; text = y.text }
+    record {
+      turn = turn;
+      log = y.log;
+      number = count_by (λ z. z.log == y.log) earlier;
+      text = y.text;
+    }
     ∷ sendings_from shape (turn + 1) (y ∷ earlier) ys
 
 -- the texts of a client's logs, each with its turn and number

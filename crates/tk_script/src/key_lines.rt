@@ -3,7 +3,7 @@ ghost use Rattle.hex.specs.Hex.{decode_of};
 ghost use Rattle.std.specs.List.{AllZip};
 ghost use Rattle.tk_handle.specs.declared.handle.Handle.{Handle};
 ghost use Rattle.tk_script.specs.declared.keys.Keys.{Keys};
-ghost use Rattle.tk_script.specs.Answer.{Gives, Tells};
+ghost use Rattle.tk_script.specs.Answer.{Gives, Agrees};
 ghost use Rattle.tk_script.specs.Grammar.{Line, lines_of, SpellsKeys};
 ghost use Rattle.tk_script.specs.KeyLines.{IsHandleLine, IsSeedLine};
 ghost use Rattle.tk_script.specs.Reading.{IsTaken, named, next_lines, read_handle, read_keys, read_seed};
@@ -33,7 +33,7 @@ pub(crate) fn keys_of<'a>(
         is_some keys ≡ keyed → IsTrue (has_keys shape.now keys) →
         lines_of start.entry.rest.now ≡ lines ++ behind →
         Gives result (λ x. (x.0 ≡ keys) × (lines_of x.1.rest.now ≡ behind)) }
-    ensures read { Tells (λ x. stands x.1) result
+    ensures read { Agrees (λ x. stands x.1) result
         (read_keys (named shape.now) keyed (stands start.entry)) }
 {
     if !keyed {
@@ -58,7 +58,7 @@ fn handles_of(
         AllZip IsHandleLine lines handles → length handles ≡ logs →
         lines_of start.entry.rest.now ≡ lines ++ behind →
         Gives result (λ x. (x.0 ≡ handles) × (lines_of x.1.rest.now ≡ behind)) }
-    ensures read { Tells (λ x. stands x.1) result
+    ensures read { Agrees (λ x. stands x.1) result
         (next_lines logs read_handle (stands start.entry)) }
 {
     let mut handles = Vec::new(alloc);
@@ -88,7 +88,7 @@ fn seeds_of(
         AllZip IsSeedLine lines seeds → length seeds ≡ clients →
         lines_of start.entry.rest.now ≡ lines ++ behind →
         Gives result (λ x. (x.0 ≡ seeds) × (lines_of x.1.rest.now ≡ behind)) }
-    ensures read { Tells (λ x. stands x.1) result
+    ensures read { Agrees (λ x. stands x.1) result
         (next_lines clients read_seed (stands start.entry)) }
 {
     let mut seeds = Vec::new(alloc);

@@ -1,5 +1,5 @@
 ghost use Rattle.std.specs.Prelude.{◌≡◌, ◌∷◌, Bool, List, Ok, IfOk};
-ghost use Rattle.tk_script.specs.Answer.{Gives, Tells};
+ghost use Rattle.tk_script.specs.Answer.{Gives, Agrees};
 ghost use Rattle.tk_script.specs.Grammar.{Line, lines_of};
 ghost use Rattle.tk_script.specs.KeyLines.{kind_words, MayBeOfKind};
 ghost use Rattle.tk_script.specs.Reading.{IsRead, named, next_line, read_kind};
@@ -21,7 +21,7 @@ pub(crate) fn kind_of<'a>(shape: &Shape, here: Place<'a>) -> Result<(bool, Place
     ensures only { (keyed : Bool) (behind : List Line) → MayBeOfKind shape.now keyed →
         lines_of here.entry.rest.now ≡ kind_words keyed ∷ behind →
         Gives result (λ x. (x.0 ≡ keyed) × (lines_of x.1.rest.now ≡ behind)) }
-    ensures read { Tells (λ x. (x.0, stands x.1)) result
+    ensures read { Agrees (λ x. (x.0, stands x.1)) result
         (next_line (read_kind (named shape.now)) (stands here.entry)) }
 {
     let (line, behind) = here.next()?;

@@ -1,7 +1,9 @@
 //! The text that describes a group, its logs and what is said: a script and, where its words are drawn, their tape.
 #![tactic(auto)]
 
+mod book;
 mod cause;
+mod cause_text;
 mod error;
 mod fields;
 mod input;
@@ -31,11 +33,14 @@ mod shape_line;
 mod tape;
 mod tape_text;
 
+pub use book::BookError;
 pub use cause::Cause;
+pub use cause_text::push_cause;
 pub use error::ScriptError;
 pub use input::{Input, RawTape};
 pub use keys::{ClientSeeds, Handles, Keys};
 pub use laws::{numbers_sent_once, one_input};
+pub use line_text::{push_field, push_line, push_number, push_numbers, push_numbers_line};
 pub use numbers::plain_number;
 pub use parsing::parse;
 pub use print_laws::printed_reads;

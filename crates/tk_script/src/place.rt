@@ -14,7 +14,7 @@ pub(crate) struct Place<'a> {
 impl<'a> Place<'a> {
     ghost use Rattle.tk_script.specs.declared.cause.Cause.TheVariants as cause;
     ghost use Rattle.tk_script.specs.declared.error.ScriptError.TheVariants as error;
-    ghost use Rattle.tk_script.specs.Answer.{Gives, Tells};
+    ghost use Rattle.tk_script.specs.Answer.{Gives, Agrees};
     ghost use Rattle.tk_script.specs.Grammar.{Line, lines_of};
     ghost use Rattle.tk_script.specs.Reading.{next_line, no_line, read_words};
     ghost use Rattle.tk_script.specs.Stands.{stands};
@@ -67,7 +67,7 @@ impl<'a> Place<'a> {
             lines_of self.entry.rest.now ≡ words.now ∷ lines_of x.rest.now) }
         ensures only { (behind : List Line) → lines_of self.entry.rest.now ≡ words.now ∷ behind →
             Gives result (λ x. lines_of x.rest.now ≡ behind) }
-        ensures read { Tells (λ x. (tt, stands x)) result
+        ensures read { Agrees (λ x. (tt, stands x)) result
             (next_line (read_words words.now) (stands self.entry)) }
     {
         let (line, behind) = self.next()?;
@@ -81,7 +81,7 @@ impl<'a> Place<'a> {
     pub(crate) fn no_line(self) -> Result<(), ScriptError>
         ensures found { IfOk result (λ x. lines_of self.entry.rest.now ≡ []) }
         ensures only { lines_of self.entry.rest.now ≡ [] → Gives result (λ x. Unit {0}) }
-        ensures read { Tells (λ x. tt) result
+        ensures read { Agrees (λ x. tt) result
             (no_line self.entry.line (lines_of self.entry.rest.now)) }
     {
         if !self.rest.is_empty() {

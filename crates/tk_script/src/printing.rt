@@ -1,15 +1,15 @@
 ghost use Rattle.std.specs.Prelude.{◌≡◌, ◌++◌, ◌∷◌, [], OnOk, OnErr};
-ghost use Rattle.tk_script.specs.Grammar.{kind_line};
+ghost use Rattle.tk_script.specs.Grammar.{shape_line, kind_line};
 ghost use Rattle.tk_script.specs.Printing.{text_of, printed, HasKeys};
 ghost use Rattle.tk_script.specs.PrintLaws.{ReadsPrinted};
 
 use crate::key_text::push_keys;
-use crate::line_text::{push_line, push_numbers_line};
+use crate::line_text::{push_fields, push_line};
 use crate::role_text::push_roles;
 use crate::say_text::push_says;
 use crate::{Keys, Script};
 use std::alloc::Global;
-use tk_shape::Memory;
+use tk_shape::{Memory, Shape};
 
 /// Appends a script in its one printed form, or nothing where memory is wanting. `parse` answers with the same script:
 /// for a script of keys see `parse_printed`, and for one of drawn words, which wants a tape behind it,
@@ -33,12 +33,23 @@ fn push_script(alloc: Global, script: &Script, out: &mut Vec<u8>) -> Result<(), 
     ensures has { OnOk result (HasKeys script.now.keys) }
 {
     push_line(b"talek 1", out)?;
-    push_numbers_line(alloc, b"shape", script.shape.numbers().as_slice(), out)?;
+    push_shape(alloc, &script.shape, out)?;
     push_kind(&script.keys, out)?;
     push_roles(alloc, script.roles.as_slice(), out)?;
     push_keys(alloc, &script.keys, out)?;
     push_says(alloc, script.says.as_slice(), out)?;
     push_line(b"end", out)
+}
+
+/// Appends the line of a shape.
+fn push_shape(alloc: Global, shape: &Shape, out: &mut Vec<u8>) -> Result<(), Memory>
+    ensures ok { OnOk result (out.new.items
+        ≡ out.old.items ++ text_of (shape_line shape.now ∷ [])) }
+{
+    out.extend_from_slice(b"shape")?;
+    push_fields(alloc, shape.numbers().as_slice(), out)?;
+    out.push(b'\n')?;
+    Ok(())
 }
 
 /// Appends the line that says whether a script is keyed.

@@ -1,7 +1,7 @@
 ghost use Rattle.std.specs.Prelude.{◌≡◌, ◌∷◌, ◌++◌, List, map, IsTrue, Some, Ok, IfOk, length};
 ghost use Rattle.std.specs.List.{list_all};
 ghost use Rattle.std.specs.Option.{option_copied};
-ghost use Rattle.tk_script.specs.Answer.{Gives, Tells};
+ghost use Rattle.tk_script.specs.Answer.{Gives, Agrees};
 ghost use Rattle.tk_script.specs.Grammar.{Line, lines_of, role_line};
 ghost use Rattle.tk_script.specs.Reading.{IsRead, named, next_lines, read_clients, read_role, first_from};
 ghost use Rattle.tk_script.specs.SoundScript.{is_role, is_ascending};
@@ -27,7 +27,7 @@ pub(crate) fn roles_of<'a>(
         lines_of start.entry.rest.now ≡ map role_line roles ++ behind →
         length roles ≡ shape.now.logs → IsTrue (list_all (is_role shape.now) roles) →
         Gives result (λ x. (x.0 ≡ roles) × (lines_of x.1.rest.now ≡ behind)) }
-    ensures read { Tells (λ x. stands x.1) result
+    ensures read { Agrees (λ x. stands x.1) result
         (next_lines shape.now.logs (read_role (named shape.now)) (stands start.entry)) }
 {
     let mut roles = Vec::new(alloc);

@@ -3,7 +3,7 @@ ghost use Rattle.tk_script.specs.Grammar.{role_line};
 ghost use Rattle.tk_script.specs.Printing.{text_of};
 
 use crate::Role;
-use crate::line_text::{push_number, push_numbers};
+use crate::line_text::{push_field, push_fields};
 use std::alloc::Global;
 use tk_shape::Memory;
 
@@ -22,8 +22,8 @@ fn push_role(alloc: Global, role: &Role, out: &mut Vec<u8>) -> Result<(), Memory
     ensures ok { OnOk result (out.new.items ≡ out.old.items ++ text_of (role_line role.now ∷ [])) }
 {
     out.extend_from_slice(b"log")?;
-    push_number(alloc, role.writer, out)?;
-    push_numbers(alloc, role.followers.as_slice(), out)?;
+    push_field(alloc, role.writer as u64, out)?;
+    push_fields(alloc, role.followers.as_slice(), out)?;
     out.push(b'\n')?;
     Ok(())
 }

@@ -1,6 +1,6 @@
 ghost use Rattle.std.specs.Prelude.{◌≡◌, ◌<◌, ◌^◌, ◌∷◌, ◌++◌, ℕ, List, [], map, codes, IsTrue, Ok, IfOk, IfSome, IsSomeAnd};
 ghost use Rattle.std.specs.List.{list_all};
-ghost use Rattle.tk_script.specs.Answer.{Gives, Tells};
+ghost use Rattle.tk_script.specs.Answer.{Gives, Agrees};
 ghost use Rattle.tk_script.specs.Grammar.{Line, lines_of, say_line};
 ghost use Rattle.tk_script.specs.Reading.{IsRead, IsWhy, is_by, last_when, named, out_of_range, read_say, said, to_end};
 ghost use Rattle.tk_script.specs.SoundScript.{is_say, are_in_order};
@@ -28,7 +28,7 @@ pub(crate) fn says_of<'a>(
         lines_of start.entry.rest.now ≡ map say_line says ++ codes "end" ∷ behind →
         IsTrue (list_all (is_say shape.now) says) → IsTrue (are_in_order says) →
         Gives result (λ x. (x.0 ≡ says) × (lines_of x.1.rest.now ≡ behind)) }
-    ensures read { Tells (λ x. stands x.1) result
+    ensures read { Agrees (λ x. stands x.1) result
         (to_end (read_say (named shape.now)) (0, 0) start.entry.line
         (lines_of start.entry.rest.now)) }
 {

@@ -3,7 +3,7 @@ ghost use Rattle.tk_script.specs.Grammar.{say_line};
 ghost use Rattle.tk_script.specs.Printing.{text_of};
 
 use crate::Say;
-use crate::line_text::{push_line, push_number};
+use crate::line_text::{push_field, push_line};
 use std::alloc::Global;
 use tk_shape::Memory;
 
@@ -22,9 +22,9 @@ fn push_say(alloc: Global, say: &Say, out: &mut Vec<u8>) -> Result<(), Memory>
     ensures ok { OnOk result (out.new.items ≡ out.old.items ++ text_of (say_line say.now ∷ [])) }
 {
     out.extend_from_slice(b"say")?;
-    push_number(alloc, say.phase, out)?;
-    push_number(alloc, say.tick, out)?;
-    push_number(alloc, say.log, out)?;
+    push_field(alloc, say.phase as u64, out)?;
+    push_field(alloc, say.tick as u64, out)?;
+    push_field(alloc, say.log as u64, out)?;
     out.push(b' ')?;
     push_line(say.text.as_slice(), out)
 }

@@ -1,5 +1,5 @@
 ghost use Rattle.std.specs.Prelude.{◌≡◌, ◌∷◌, Bool, List, codes, is_some, IfOk};
-ghost use Rattle.tk_script.specs.Answer.{Gives, Tells};
+ghost use Rattle.tk_script.specs.Answer.{Gives, Agrees};
 ghost use Rattle.tk_script.specs.Grammar.{Line, lines_of, shape_line, BeginsWithScript};
 ghost use Rattle.tk_script.specs.KeyLines.{kind_words, MayBeOfKind};
 ghost use Rattle.tk_script.specs.Reading.{named, read_head, read_script};
@@ -23,7 +23,7 @@ pub(crate) fn script_of(alloc: Global, start: Place<'_>) -> Result<(Script, Plac
     ensures only { (script : Script) (behind : List Line) →
         BeginsWithScript (lines_of start.entry.rest.now) script behind →
         Gives result (λ x. (x.0 ≡ script) × (lines_of x.1.rest.now ≡ behind)) }
-    ensures read { Tells (λ x. (is_some x.0.keys, stands x.1)) result
+    ensures read { Agrees (λ x. (is_some x.0.keys, stands x.1)) result
         (read_script (stands start.entry)) }
 {
     let (shape, keyed, rest) = head_of(alloc, start)?;
@@ -46,9 +46,10 @@ fn head_of(alloc: Global, start: Place<'_>) -> Result<(Shape, bool, Place<'_>), 
     ensures may { IfOk result (λ x. MayBeOfKind x.0 x.1) }
     ensures only { (shape : Shape) (keyed : Bool) (behind : List Line) →
         MayBeOfKind shape keyed →
-        lines_of start.entry.rest.now ≡ codes "talek 1" ∷ shape_line shape ∷ kind_words keyed ∷ behind →
+        lines_of start.entry.rest.now
+        ≡ codes "talek 1" ∷ shape_line shape ∷ kind_words keyed ∷ behind →
         Gives result (λ x. (x.0 ≡ shape) × (x.1 ≡ keyed) × (lines_of x.2.rest.now ≡ behind)) }
-    ensures read { Tells (λ x. (named x.0, x.1, stands x.2)) result
+    ensures read { Agrees (λ x. (named x.0, x.1, stands x.2)) result
         (read_head (stands start.entry)) }
 {
     let rest = start.behind(b"talek 1")?;

@@ -1,5 +1,5 @@
 ghost use Rattle.std.specs.Prelude.{◌≡◌, ◌≢◌, ◌∷◌, List, Some, Ok, length, IfOk, IfSome, IfNone};
-ghost use Rattle.tk_script.specs.Answer.{Gives, Tells};
+ghost use Rattle.tk_script.specs.Answer.{Gives, Agrees};
 ghost use Rattle.tk_script.specs.Grammar.{Line, lines_of, shape_line};
 ghost use Rattle.tk_shape.specs.Numbers.{numbers_of};
 ghost use Rattle.tk_script.specs.Reading.{IsRead, named, next_line, read_numbers, read_shape};
@@ -18,7 +18,7 @@ pub(crate) fn shape_of(alloc: Global, here: Place<'_>) -> Result<(Shape, Place<'
     ensures only { (shape : Shape) (behind : List Line) →
         lines_of here.entry.rest.now ≡ shape_line shape ∷ behind →
         Gives result (λ x. (x.0 ≡ shape) × (lines_of x.1.rest.now ≡ behind)) }
-    ensures read { Tells (λ x. (named x.0, stands x.1)) result
+    ensures read { Agrees (λ x. (named x.0, stands x.1)) result
         (next_line read_shape (stands here.entry)) }
 {
     let (line, behind) = here.next()?;

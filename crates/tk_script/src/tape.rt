@@ -1,5 +1,5 @@
 ghost use Rattle.std.specs.Prelude.{◌≡◌, ◌-◌, ◌^◌, ℕ, List, min, take, length, IfOk};
-ghost use Rattle.tk_script.specs.Answer.{Gives, Tells};
+ghost use Rattle.tk_script.specs.Answer.{Gives, Agrees};
 ghost use Rattle.tk_script.specs.Grammar.{Line, lines_of, BeginsWithTape};
 ghost use Rattle.tk_script.specs.Pieces.{BeginsWithPieces};
 ghost use Rattle.tk_script.specs.Reading.{read_pieces, read_tape};
@@ -26,7 +26,7 @@ pub(crate) fn tape_of(
         BeginsWithTape (lines_of start.entry.rest.now) bytes behind →
         Gives result (λ x. (x.0.bytes ≡ take want bytes)
         × (x.0.got ≡ min (length bytes) (2 ^ 64 - 1)) × (lines_of x.1.rest.now ≡ behind)) }
-    ensures read { Tells (λ x. stands x.1) result (read_tape (stands start.entry)) }
+    ensures read { Agrees (λ x. stands x.1) result (read_tape (stands start.entry)) }
 {
     let here = start.behind(b"tape")?;
     pieces_of(alloc, want, here)
@@ -45,7 +45,7 @@ fn pieces_of(
         BeginsWithPieces (lines_of start.entry.rest.now) bytes behind →
         Gives result (λ x. (x.0.bytes ≡ take want bytes)
         × (x.0.got ≡ min (length bytes) (2 ^ 64 - 1)) × (lines_of x.1.rest.now ≡ behind)) }
-    ensures read { Tells (λ x. stands x.1) result
+    ensures read { Agrees (λ x. stands x.1) result
         (read_pieces start.entry.line (lines_of start.entry.rest.now)) }
 {
     let mut kept = Vec::new(alloc);

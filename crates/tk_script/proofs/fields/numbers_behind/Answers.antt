@@ -11,9 +11,8 @@ pub returns-in_default-next_number-clause-only : goal.returns-in_default-next_nu
 returns-in_default-next_number-clause-only c ns words e =
     let text = c.in-Some.ensures.only (spaced ns) (e ∙ fields-spaced c.args.word.now ns) in
     let some : 0 < length c.numbers.rest.now = search rules in
-    Read-stuck c.in-Some.text.now c.numbers.numbers.items c.numbers.rest.now c.numbers.invariant.read
-    some
-    c.in_default-next_number.ensures.only ns words text
+    Read-stuck c.in-Some.text.now c.numbers.numbers.items c.numbers.rest.now
+    c.numbers.invariant.read some c.in_default-next_number.ensures.only ns words text
 
 pub numbers-preserved : goal.numbers-preserved
 numbers-preserved c =
@@ -40,5 +39,5 @@ pub returns-clause-only : goal.returns-clause-only
 returns-clause-only c ns words e =
     let none : length c.numbers.rest.now ≡ 0 = search rules in
     let text = c.in-Some.ensures.only (spaced ns) (e ∙ fields-spaced c.args.word.now ns) in
-    Read-done c.in-Some.text.now c.numbers.numbers.items c.numbers.rest.now c.numbers.invariant.read none
-    ns words text
+    Read-done c.in-Some.text.now c.numbers.numbers.items c.numbers.rest.now
+    c.numbers.invariant.read none ns words text

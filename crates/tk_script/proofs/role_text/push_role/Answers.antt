@@ -7,5 +7,5 @@ returns c = record {
   ok =
       role_text c.args.role.now.writer c.args.role.now.followers c.as_slice.result.now
       c.args.out.now.items c.as_slice.ensures c.in_ok-extend_from_slice.ensures.items
-      c.in_ok-push_number.ensures.ok c.in_ok-push_numbers.ensures.ok c.in_ok-push.ensures.items;
+      c.in_ok-push_field.ensures.ok c.in_ok-push_fields.ensures.ok c.in_ok-push.ensures.items;
 }

@@ -1,13 +1,13 @@
 ghost use Rattle.std.specs.Prelude.{◌≡◌, ◌++◌, OnOk};
-ghost use Rattle.tk_cli.specs.StatusLines.{cause_text, field_name};
+ghost use Rattle.tk_script.specs.CauseText.{cause_text, field_name};
 
-use crate::printing::push_field;
+use crate::Cause;
+use crate::line_text::push_field;
 use std::alloc::Global;
-use tk_script::Cause;
 use tk_shape::{Field, Memory};
 
-/// Appends why a line is refused.
-pub(crate) fn push_cause(alloc: Global, cause: &Cause, out: &mut Vec<u8>) -> Result<(), Memory>
+/// Appends why a line is refused. Where memory is wanting a part may have been appended.
+pub fn push_cause(alloc: Global, cause: &Cause, out: &mut Vec<u8>) -> Result<(), Memory>
     ensures ok { OnOk result (out.new.items ≡ out.old.items ++ cause_text cause.now) }
 {
     match cause {
@@ -16,20 +16,20 @@ pub(crate) fn push_cause(alloc: Global, cause: &Cause, out: &mut Vec<u8>) -> Res
         Cause::Shape { field, value } => {
             out.extend_from_slice(b"shape ")?;
             push_name(*field, out)?;
-            push_field(alloc, out, *value)?;
+            push_field(alloc, *value, out)?;
         }
         Cause::Number { value } => {
             out.extend_from_slice(b"number")?;
-            push_field(alloc, out, u64::from(*value))?;
+            push_field(alloc, u64::from(*value), out)?;
         }
         Cause::Order => out.extend_from_slice(b"order")?,
         Cause::Room { room } => {
             out.extend_from_slice(b"room")?;
-            push_field(alloc, out, u64::from(*room))?;
+            push_field(alloc, u64::from(*room), out)?;
         }
         Cause::Text { at } => {
             out.extend_from_slice(b"text")?;
-            push_field(alloc, out, *at)?;
+            push_field(alloc, *at, out)?;
         }
         Cause::After => out.extend_from_slice(b"after")?,
     }

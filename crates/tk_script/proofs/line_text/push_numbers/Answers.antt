@@ -1,8 +1,9 @@
 -- At the end all numbers stand behind the word.
-use Rattle.std.proofs.Common.{◌≡◌, ◌++◌, ◌∙◌, ap, rules, take, decimal}
+use Rattle.std.proofs.Common.{◌≡◌, ◌++◌, ◌∙◌, ap, rules, take}
 use Rattle.std.proofs.lemmas.List.{take_all}
-use Rattle.tk_cli.proofs.ReportLaws.{spaced, word_fields}
-use Rattle.tk_cli.proofs.printing.push_numbers.Goals as goal
+use Rattle.tk_script.specs.Printing.{number_fields}
+use Rattle.tk_script.proofs.TextOfLaws.{word_numbers}
+use Rattle.tk_script.proofs.line_text.push_numbers.Goals as goal
 
 pub returns : goal.returns
 returns c =
@@ -13,7 +14,6 @@ returns c =
     let all : take i numbers ≡ numbers = take_all i numbers (search rules) in
     record {
       ok =
-          c.loop-number.invariant
-          ∙ ap (λ xs. (old ++ word) ++ spaced decimal xs) all
-          ∙ word_fields decimal old word numbers;
+          word_numbers word numbers old
+          (c.loop-number.invariant ∙ ap (λ ns. (old ++ word) ++ number_fields ns) all);
     }

@@ -1,0 +1,8 @@
+-- The numbers so far stand behind what was there.
+use Rattle.std.proofs.Common.{◌≡◌, ◌++◌, take}
+use Rattle.tk_script.specs.Printing.{number_fields}
+use Rattle.tk_script.proofs.line_text.push_fields.Given as goal
+
+abbrev pub invariant-loop-number : goal.invariant-loop-number
+invariant-loop-number l =
+    l.out.items ≡ l.fn.out.items ++ number_fields (take l.number-index l.numbers)
