@@ -1,3 +1,4 @@
 pub mod KeyBytes
 pub mod Joined
 pub mod Offers
+pub mod Below

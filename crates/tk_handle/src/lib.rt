@@ -5,7 +5,7 @@ mod handle;
 mod stream;
 
 pub use handle::Handle;
-pub use stream::{fill, word};
+pub use stream::{fill, remainders, word};
 
 #[cfg(test)]
 mod tests;

@@ -1,5 +1,6 @@
 //! The words of a key: of each of its streams, by their places.
-ghost use Rattle.std.specs.Prelude.{◌≡◌, ◌<◌, ◌≤◌, ◌^◌, length};
+ghost use Rattle.std.specs.Prelude.{◌≡◌, ◌%◌, ◌<◌, ◌≤◌, ◌^◌, length, map};
+ghost use Rattle.std.specs.List.{range_with_len, AllByRecursion};
 ghost use Rattle.rand_chacha.specs.ChaCha.{key_of};
 ghost use Rattle.tk_handle.specs.Handle.{word, key_bytes};
 
@@ -13,6 +14,21 @@ pub fn word(key: &[u8; 32], stream: u64, place: u64) -> u32
     ensures { result ≡ word key.now stream place }
 {
     words_from(key, stream, place).next_word()
+}
+
+/// Writes what is left of the words from a place on when each is divided by `below`.
+pub fn remainders(key: &[u8; 32], stream: u64, place: u64, below: u32, out: &mut [u32])
+    requires some { 0 < below }
+    requires low { place < 2 ^ 32 }
+    requires short { length out.old ≤ 65536 }
+    ensures words { out.new
+        ≡ map (λ i. word key.now stream i % below) (range_with_len place (length out.old)) }
+    ensures below { AllByRecursion (λ rest. rest < below) out.new }
+{
+    let mut words = words_from(key, stream, place);
+    for i in 0..out.len() {
+        out[i] = words.next_word() % below;
+    }
 }
 
 /// Writes the bytes of the words from a place on, each word's least byte first.

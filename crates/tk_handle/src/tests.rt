@@ -1,4 +1,4 @@
-use crate::{Handle, fill, word};
+use crate::{Handle, fill, remainders, word};
 use std::test::Fail;
 
 // The key stream of the zero key and stream 0 (RFC 8439, A.1, test vectors 1 and 2).
@@ -34,6 +34,13 @@ fn bytes_of_the_zero_key(rt: HostRuntime) {
     let mut bytes = [0; 5];
     fill(&[0; 32], 0, 22, &mut bytes);
     assert_eq!(rt; bytes.as_slice(), &ZERO_KEY_BYTES[88..93]);
+}
+
+#[test]
+fn remainders_of_the_zero_key(rt: HostRuntime) {
+    let mut out = [0; 2];
+    remainders(&[0; 32], 0, 1, 0x100, &mut out);
+    assert_eq!(rt; out.as_slice(), [0xa0, 0x40].as_slice());
 }
 
 #[test]
