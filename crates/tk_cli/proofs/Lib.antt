@@ -26,6 +26,5 @@ pub mod TurnLaws
 pub mod ReadingLaws
 pub mod Computing
 pub mod OrdinaryRun
-pub mod Displaced
 pub mod PassingOver
 pub mod FalsePositive

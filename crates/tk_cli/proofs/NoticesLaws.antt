@@ -15,7 +15,7 @@ use Rattle.tk_bloom.specs.Filters.{all_marked, positions_of as positions_in, is_
 use Rattle.tk_bloom.specs.Windows.{Kept, window as window_of}
 use Rattle.tk_bloom.proofs.Cutting.{window-append}
 use Rattle.tk_table.specs.Table.{window}
-use Rattle.tk_cli.specs.Bloom.{pushes_of, is_shown}
+use Rattle.tk_table.specs.Shown.{pushes_of, is_shown}
 use Rattle.tk_cli.specs.declared.notices.Notices.{Notices}
 use Rattle.tk_cli.specs.Notices.{AreNotices, kept_of}
 use Rattle.tk_cli.specs.Sendable.{HasPositions}

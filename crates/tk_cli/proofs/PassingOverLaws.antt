@@ -22,7 +22,7 @@ use Rattle.tk_frames.specs.Order.{before}
 use Rattle.tk_frames.specs.Lists.{first_some}
 use Rattle.tk_client.specs.declared.got.Got.{Got}
 use Rattle.tk_client.specs.declared.got.Got.TheVariants.{Absent, Text}
-use Rattle.tk_cli.specs.Bloom.{is_shown}
+use Rattle.tk_table.specs.Shown.{is_shown}
 use Rattle.tk_cli.specs.Entries.{entries}
 use Rattle.tk_client.specs.Client.{Follow, Reader, Target, next_of, new_follow, untried}
 use Rattle.tk_client.specs.Client.{at_epoch, wanted, follow_at, number_ahead, target_in, target}

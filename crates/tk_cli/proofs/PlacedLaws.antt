@@ -9,7 +9,7 @@ use Rattle.tk_frames.specs.declared.entry.Entry.{Entry}
 use Rattle.tk_frames.specs.declared.entry.Entry.TheVariants.{Write, Mark}
 use Rattle.tk_frames.specs.Order.{Record, record_at, record_in, records}
 use Rattle.tk_table.specs.Ordered.{AscendFrom, AreOrdered}
-use Rattle.tk_table.proofs.Each.{each-push}
+use Rattle.tk_frames.proofs.Offers.{each-push}
 use Rattle.tk_cli.specs.declared.order.Order.{Order}
 use Rattle.tk_cli.specs.Orders.{ArePlacedFrom, IsOrder}
 

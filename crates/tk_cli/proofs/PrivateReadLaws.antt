@@ -27,9 +27,9 @@ use Rattle.tk_table.specs.Ordered.{AreOrdered}
 use Rattle.tk_table.specs.Table.{layout, blocks_of}
 use Rattle.tk_table.specs.Laws.{IsStorable, block_at}
 use Rattle.tk_frames.specs.Slots.{slots_in, text_among}
-use Rattle.tk_table.proofs.Each.{each-push}
-use Rattle.tk_table.proofs.LaidOut.{layout-laid_out}
-use Rattle.tk_table.proofs.BucketBytes.{layout-read_back, layout-as_read}
+use Rattle.tk_frames.proofs.Offers.{each-push}
+use Rattle.tk_table.proofs.Offers.{layout-laid_out}
+use Rattle.tk_table.proofs.Offers.{layout-read_back, layout-as_read}
 use Rattle.tk_cli.specs.declared.server.Server.{Server}
 use Rattle.tk_client.specs.Client.{Target, at_epoch, after_read}
 use Rattle.tk_client.specs.Replies.{answer_in, frames_in, first_joined, second_joined}
@@ -37,7 +37,8 @@ use Rattle.tk_client.specs.State.{ClientState, OpenRead, opened, after_replies}
 use Rattle.tk_client.proofs.RepliesLaws.{frames_in-spelled}
 use Rattle.tk_cli.specs.Clients.{knowing}
 use Rattle.tk_cli.specs.Report.{lookup, answered, target_at}
-use Rattle.tk_cli.specs.Exchange.{read_at, reply_to, bytes_of, with_reply}
+use Rattle.tk_table.specs.Replies.{reply_to}
+use Rattle.tk_cli.specs.Exchange.{read_at, bytes_of, with_reply}
 use Rattle.tk_client.specs.Asked.{asked, AreWhole, IsPair, pair_for}
 use Rattle.tk_cli.specs.Servers.{IsServer, AreServers, AreReads, seen_with, blank_read, read_for}
 use Rattle.tk_client.proofs.AskingLaws.{vector_bits}

@@ -13,7 +13,7 @@ use Rattle.tk_script.specs.declared.say.Say.{Say}
 use Rattle.tk_script.specs.Sent.{Sending, writer_of, sendings_from, sendings, in_run, sent, unsent_count}
 use Rattle.tk_client.specs.declared.waiting.Waiting.{Waiting}
 use Rattle.tk_client.specs.Writing.{Writing, new_writing, count_of, with_text, first_waiting, after_write}
-use Rattle.tk_table.proofs.Each.{each-filter}
+use Rattle.tk_frames.proofs.Offers.{each-filter}
 use Rattle.tk_cli.specs.Queues.{QueuesSend}
 use Rattle.tk_cli.specs.Queues.{turn_said, writes_of, says_in, with_says, writing_before, writing_said, waiting_of}
 use Rattle.tk_cli.proofs.EachLaws.{each-weaker, each-append, each-behind, each-passes, filter-none, filter-swap}

@@ -20,7 +20,7 @@ use Rattle.tk_client.specs.Asked.{asked, shown_by}
 use Rattle.tk_client.specs.Client.{Target, target, at_epoch, after_read}
 use Rattle.tk_client.specs.State.{ClientState, target_over}
 use Rattle.tk_cli.specs.declared.server.Server.{Server}
-use Rattle.tk_cli.specs.Bloom.{is_shown}
+use Rattle.tk_table.specs.Shown.{is_shown}
 use Rattle.tk_cli.specs.Clients.{idle, knowing, client_wrote, client_before}
 use Rattle.tk_cli.specs.Queues.{writing_before}
 use Rattle.tk_cli.specs.Report.{answered, read_over, target_at, reader_before, reader_step}

@@ -23,12 +23,13 @@ use Rattle.tk_frames.specs.Order.{Record, is_mark_entry, is_mark_of, records, up
 use Rattle.tk_frames.specs.Lists.{first_some}
 use Rattle.tk_table.specs.Ordered.{AscendFrom}
 use Rattle.tk_table.specs.Table.{window, has_position, retained}
-use Rattle.tk_table.proofs.Ascending.{ascend-above}
-use Rattle.tk_table.proofs.InWindow.{retained-in_window}
-use Rattle.tk_table.proofs.Members.{IsIn, in_from_contains, contains_from_in, each-in, in_map}
-use Rattle.tk_table.proofs.RetainedEach.{retained-each}
+use Rattle.tk_table.proofs.Offers.{ascend-above}
+use Rattle.tk_table.proofs.Offers.{retained-in_window}
+use Rattle.tk_frames.specs.Lists.{IsIn}
+use Rattle.tk_frames.proofs.Offers.{in_from_contains, contains_from_in, each-in, in_map}
+use Rattle.tk_table.proofs.Offers.{retained-each}
 use Rattle.tk_bloom.proofs.Showing.{is_shown-positions_of}
-use Rattle.tk_cli.specs.Bloom.{pushes_of, is_shown}
+use Rattle.tk_table.specs.Shown.{pushes_of, is_shown}
 use Rattle.tk_client.specs.Writes.{write_of}
 use Rattle.tk_cli.specs.Queues.{waiting_of}
 use Rattle.tk_cli.specs.Entries.{write_at, placed_from, placed_after, entries_before}

@@ -16,7 +16,7 @@ use Rattle.tk_seal.specs.Texts.{is_allowed}
 use Rattle.tk_script.specs.declared.script.Script.{Script}
 use Rattle.tk_script.specs.declared.say.Say.{Say}
 use Rattle.tk_script.specs.SoundScript.{is_say, is_said_by, are_in_order}
-use Rattle.tk_table.proofs.Each.{each-filter}
+use Rattle.tk_frames.proofs.Offers.{each-filter}
 use Rattle.tk_cli.specs.Queues.{turn_said, says_in, said_before}
 use Rattle.tk_cli.proofs.EachLaws.{each-weaker, filter-none}
 

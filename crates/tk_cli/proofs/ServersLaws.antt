@@ -20,8 +20,8 @@ use Rattle.tk_table.specs.declared.recent.Recent.{Recent}
 use Rattle.tk_table.specs.Ordered.{AscendFrom, HasBuckets, AreOrdered}
 use Rattle.tk_table.specs.Table.{layout, blocks_of}
 use Rattle.tk_table.specs.Stands.{Kept, recent_of, TableStandsFor, IsPair, IsWrite}
-use Rattle.tk_table.proofs.Ascending.{ascend-last}
-use Rattle.tk_table.proofs.Each.{each-split}
+use Rattle.tk_table.proofs.Offers.{ascend-last}
+use Rattle.tk_frames.proofs.Offers.{each-split}
 use Rattle.tk_cli.specs.declared.server.Server.{Server}
 use Rattle.tk_cli.specs.Sendable.{placed_has_block}
 use Rattle.tk_cli.specs.Servers.{IsServer, AreServers, MayFollow, MayTakeAll, MayApply}

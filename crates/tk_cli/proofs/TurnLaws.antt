@@ -29,7 +29,7 @@ use Rattle.tk_cli.specs.Servers.{AreServers, nothing_seen, shown_after}
 use Rattle.tk_cli.specs.Turns.{turn_seen, seen_before, seen_of_reads, placed_before}
 use Rattle.tk_cli.specs.Turns.{AreReadOver, AreServersBefore, IsReadable, IsTurnOf}
 use Rattle.tk_cli.specs.declared.notices.Notices.{Notices}
-use Rattle.tk_cli.specs.Bloom.{is_shown}
+use Rattle.tk_table.specs.Shown.{is_shown}
 use Rattle.tk_cli.specs.Notices.{AreNotices}
 use Rattle.tk_cli.specs.Runs.{AreNoticesBefore}
 use Rattle.tk_cli.specs.Sendable.{placed_has_block, HasPositions}

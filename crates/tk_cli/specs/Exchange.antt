@@ -2,19 +2,17 @@
 use Rattle.std.specs.Prelude.{ℕ, List, [], ◌∷◌, ◌++◌, map, flat_map}
 use Rattle.std.specs.List.{range_with_len}
 use Rattle.tk_shape.specs.declared.shape.Shape.{Shape}
-use Rattle.tk_shape.specs.Lengths.{turn_count, vector_len, width}
+use Rattle.tk_shape.specs.Lengths.{turn_count, vector_len}
 use Rattle.tk_schedule.specs.declared.history.History.{History}
 use Rattle.tk_schedule.specs.Schedule.{epoch_at}
 use Rattle.tk_script.specs.declared.script.Script.{Script}
-use Rattle.tk_kernel.specs.Chosen.{chosen_sum}
 use Rattle.tk_bits.specs.Shares.{shares}
 use Rattle.tk_words.specs.Words.{WordBook, BookWords, words_of, fresh_vectors}
 use Rattle.tk_frames.specs.declared.write_frame.WriteFrame.{WriteFrame}
 use Rattle.tk_frames.specs.declared.read_frame.ReadFrame.{ReadFrame}
-use Rattle.tk_frames.specs.declared.reply_frame.ReplyFrame.{ReplyFrame}
 use Rattle.tk_frames.specs.Spelling.{placed_frame, read_frame, reply_frame}
 use Rattle.tk_frames.specs.Order.{Record}
-use Rattle.tk_table.specs.Table.{layout, blocks_of}
+use Rattle.tk_table.specs.Replies.{reply_to}
 use Rattle.tk_client.specs.Asked.{pair_for, frame_with}
 use Rattle.tk_cli.specs.Entries.{write_at, entries_at}
 use Rattle.tk_cli.specs.Report.{target_at, read_over}
@@ -32,18 +30,6 @@ read_at S b H g c j =
     let drawn = fresh_vectors S.shape b g c in
     frame_with g c (epoch_at H g c) (shares size pair.0 drawn.first) (shares size pair.1 drawn.second)
     j
-
--- the reply to a read over these writes
-abbrev pub reply_to : Shape → List Record → ReadFrame → ReplyFrame
-reply_to shape R r =
-    let blocks = blocks_of (layout shape R) in
-    record {
-      client = r.client;
-      turn = r.turn;
-      epoch = r.epoch;
-      first = chosen_sum (width shape) blocks r.first;
-      second = chosen_sum (width shape) blocks r.second;
-    }
 
 -- a read frame, and behind it the reply over these writes
 unfoldable pub with_reply : Shape → List Record → ReadFrame → List (List ℕ)

@@ -3,7 +3,6 @@ pub mod StatusLines
 pub mod Requests
 pub mod Handles
 pub mod Orders
-pub mod Bloom
 pub mod Queues
 pub mod Entries
 pub mod Report

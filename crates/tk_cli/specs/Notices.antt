@@ -4,7 +4,7 @@ use Rattle.tk_shape.specs.declared.shape.Shape.{Shape}
 use Rattle.tk_frames.specs.Order.{Record}
 use Rattle.tk_bloom.specs.Filters.{all_marked}
 use Rattle.tk_bloom.specs.Windows.{Kept}
-use Rattle.tk_cli.specs.Bloom.{pushes_of, is_shown}
+use Rattle.tk_table.specs.Shown.{pushes_of, is_shown}
 use Rattle.tk_cli.specs.declared.notices.Notices.{Notices}
 
 -- a window of a shape, with these pushes

@@ -10,7 +10,7 @@ use Rattle.tk_table.specs.Ordered.{AreOrdered}
 use Rattle.tk_table.specs.Laws.{IsStorable}
 use Rattle.tk_bloom.specs.declared.filter.Filter.{Filter}
 use Rattle.tk_bloom.specs.Filters.{all_marked}
-use Rattle.tk_cli.specs.Bloom.{is_shown}
+use Rattle.tk_table.specs.Shown.{is_shown}
 use Rattle.tk_cli.specs.declared.server.Server.{Server}
 use Rattle.tk_cli.specs.Entries.{write_at, entries_before, entries_at}
 use Rattle.tk_cli.specs.Exchange.{turn_frames, frames_before, read_answered, bytes_of}

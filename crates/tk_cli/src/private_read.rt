@@ -12,7 +12,7 @@ ghost use Rattle.tk_table.specs.Laws.{IsStorable};
 ghost use Rattle.tk_client.specs.Asked.{asked};
 ghost use Rattle.tk_client.specs.State.{target_over};
 ghost use Rattle.tk_cli.specs.Clients.{knowing};
-ghost use Rattle.tk_cli.specs.Exchange.{reply_to};
+ghost use Rattle.tk_table.specs.Replies.{reply_to};
 ghost use Rattle.tk_cli.specs.Report.{answered};
 ghost use Rattle.tk_cli.specs.Servers.{AreServers, AreReads, seen_with};
 

@@ -7,7 +7,7 @@ ghost use Rattle.tk_frames.specs.Order.{Record};
 ghost use Rattle.tk_table.specs.Ordered.{AreOrdered};
 ghost use Rattle.tk_table.specs.Laws.{IsStorable};
 ghost use Rattle.tk_bloom.specs.Filters.{all_marked};
-ghost use Rattle.tk_cli.specs.Bloom.{is_shown};
+ghost use Rattle.tk_table.specs.Shown.{is_shown};
 ghost use Rattle.tk_cli.specs.Clients.{AreClients, client_before, client_wrote};
 ghost use Rattle.tk_cli.specs.Exchange.{read_answered, bytes_of};
 ghost use Rattle.tk_cli.specs.Servers.{AreServers};

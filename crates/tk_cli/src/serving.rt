@@ -5,7 +5,8 @@ ghost use Rattle.tk_frames.specs.declared.read_frame.ReadFrame.{ReadFrame};
 ghost use Rattle.tk_frames.specs.Ranges.{IsRead, IsReply};
 ghost use Rattle.tk_frames.specs.Spelling.{read_frame, reply_frame};
 ghost use Rattle.tk_frames.specs.Order.{Record};
-ghost use Rattle.tk_cli.specs.Exchange.{reply_to, bytes_of, with_reply};
+ghost use Rattle.tk_table.specs.Replies.{reply_to};
+ghost use Rattle.tk_cli.specs.Exchange.{bytes_of, with_reply};
 ghost use Rattle.tk_cli.specs.Servers.{IsServer};
 
 use crate::server::Server;

@@ -14,3 +14,6 @@ pub mod PlacedFrames
 pub mod Records
 pub mod Spellings
 pub mod WriteFields
+pub mod Each
+pub mod Members
+pub mod Offers

@@ -10,3 +10,4 @@ pub mod Paths
 pub mod Reaching
 pub mod Singles
 pub mod Walks
+pub mod Offers

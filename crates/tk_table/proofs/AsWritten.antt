@@ -14,10 +14,12 @@ use Rattle.tk_table.specs.Ordered.{AscendFrom}
 use Rattle.tk_table.specs.Laws.{entries_in, IsSlotOf, IsLaidOut, AsWritten}
 use Rattle.tk_frames.specs.Lists.{first_some}
 use Rattle.tk_frames.specs.Slots.{Accepted, accepted, earliest, text_among, text_in}
-use Rattle.tk_table.proofs.Members.{IsIn, in_from_contains, contains_from_in, all_in, in-append}
-use Rattle.tk_table.proofs.Members.{in_front, in_back, in_map, IsFrom, from_map, in_filter}
-use Rattle.tk_table.proofs.Members.{from_filter, in_filter_map, from_filter_map, in_flat_map}
-use Rattle.tk_table.proofs.Members.{from_flat_map, nothing_in}
+use Rattle.tk_frames.specs.Lists.{IsIn}
+use Rattle.tk_frames.proofs.Offers.{in_from_contains, contains_from_in, all_in, in-append}
+use Rattle.tk_frames.specs.Lists.{IsFrom}
+use Rattle.tk_frames.proofs.Offers.{in_front, in_back, in_map, from_map, in_filter}
+use Rattle.tk_frames.proofs.Offers.{from_filter, in_filter_map, from_filter_map, in_flat_map}
+use Rattle.tk_frames.proofs.Offers.{from_flat_map, nothing_in}
 use Rattle.tk_table.proofs.Ascending.{ascend-above, retained-ascend}
 use Rattle.tk_table.proofs.LaidOut.{layout-laid_out}
 use Rattle.tk_table.proofs.Earliest.{IsLeast, earliest-least, IsFirst, first_some-none}

@@ -6,7 +6,7 @@ use Rattle.tk_frames.specs.Order.{Record}
 use Rattle.tk_table.specs.Ordered.{AscendFrom}
 use Rattle.tk_table.specs.Table.{window, has_position, unexpired, fit_together, retained_with}
 use Rattle.tk_table.specs.Table.{retained}
-use Rattle.tk_table.proofs.Members.{IsIn}
+use Rattle.tk_frames.specs.Lists.{IsIn}
 use Rattle.tk_table.proofs.OneMore.{retained-append, retained-none, by_one_more}
 
 ascend-lower : (p q : ℕ) (R : List Record) → p ≤ q → AscendFrom q R → AscendFrom p R

@@ -16,7 +16,8 @@ use Rattle.tk_table.specs.Table.{Slot, SlotTable, bucket_at, empty_slot, window}
 use Rattle.tk_table.specs.Table.{pair_in, has_position, retained, layout, without_expired}
 use Rattle.tk_table.specs.Laws.{IsSlotOf, IsLaidOut}
 use Rattle.tk_table.specs.Steps.{cleared, cleared_in, cleared_of}
-use Rattle.tk_table.proofs.Members.{IsIn, all_in, each-in}
+use Rattle.tk_frames.specs.Lists.{IsIn}
+use Rattle.tk_frames.proofs.Offers.{all_in, each-in}
 use Rattle.tk_table.proofs.Ascending.{ascend-above}
 use Rattle.tk_table.proofs.AsWritten.{entry-record}
 use Rattle.tk_table.proofs.Buckets.{bucket-map}

@@ -22,7 +22,7 @@ use Rattle.tk_table.specs.Steps.{AreSteps, IsFree, first_of, moved_by, cleared, 
 use Rattle.tk_table.specs.Stands.{slot_with, IsPair}
 use Rattle.tk_table.specs.Inside.{IsSlotIn, IsGrid, Laid}
 use Rattle.tk_table.proofs.Buckets.{IsSized, EachSlot, IsWithin}
-use Rattle.tk_place.proofs.Paths.{path_to_end}
+use Rattle.tk_place.proofs.Offers.{path_to_end}
 use Rattle.tk_table.proofs.Seen.{IsEntryIn, IsHome, seen, lowest_empty-free}
 use Rattle.tk_table.proofs.Searching.{searchable}
 use Rattle.tk_table.proofs.Shifting.{shifted-filled}

@@ -7,7 +7,7 @@ use Rattle.tk_table.specs.Table.{window, unexpired, fit_together, retained, empt
 use Rattle.tk_table.specs.Table.{layout_with, layout}
 use Rattle.tk_table.specs.Ordered.{HasBuckets, AreOrdered}
 use Rattle.tk_table.specs.Laws.{left_for, DisplacedWithoutEnd}
-use Rattle.tk_table.proofs.Each.{each-split}
+use Rattle.tk_frames.proofs.Offers.{each-split}
 use Rattle.tk_table.proofs.OneMore.{retained-append, retained-none, layout-append, layout-none}
 use Rattle.tk_table.proofs.OneMore.{by_one_more}
 use Rattle.tk_table.proofs.Ascending.{ascend-front, ascend-last}

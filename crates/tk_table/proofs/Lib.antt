@@ -1,5 +1,3 @@
-pub mod Each
-pub mod Members
 pub mod Counting
 pub mod Fitting
 pub mod Buckets
@@ -28,3 +26,6 @@ pub mod Expiring
 pub mod Grids
 pub mod Reading
 pub mod Standing
+pub mod Computing
+pub mod Displaced
+pub mod Offers

@@ -11,7 +11,7 @@ use Rattle.tk_table.specs.Table.{SlotTable, slot_at, empty_slot, others_from, sh
 use Rattle.tk_table.specs.Table.{window, unexpired, fit_together, retained_with, layout_with}
 use Rattle.tk_table.specs.Table.{slot_of, placed_at, placed_in, without_expired}
 use Rattle.tk_table.specs.Ordered.{HasBuckets}
-use Rattle.tk_place.proofs.Paths.{path_to_end}
+use Rattle.tk_place.proofs.Offers.{path_to_end}
 use Rattle.tk_table.proofs.Seen.{IsEntryIn, lowest_empty-free}
 use Rattle.tk_table.proofs.Shifting.{IsFilled, shifted-filled}
 use Rattle.tk_table.proofs.SearchExact.{ends_in_room}

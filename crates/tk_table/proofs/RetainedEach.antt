@@ -5,7 +5,7 @@ use Rattle.tk_shape.specs.declared.shape.Shape.{Shape}
 use Rattle.tk_frames.specs.Order.{Record}
 use Rattle.tk_table.specs.Table.{window, has_position, unexpired, fit_together, retained_with}
 use Rattle.tk_table.specs.Table.{retained}
-use Rattle.tk_table.proofs.Each.{each-filter, each-push, each-split}
+use Rattle.tk_frames.proofs.Offers.{each-filter, each-push, each-split}
 use Rattle.tk_table.proofs.OneMore.{retained-append, retained-none, by_one_more}
 
 retained_with-each : (P : Record → Type 0) (shape : Shape) (R K : List Record) (w : Record) →

@@ -5,10 +5,10 @@ use Rattle.std.specs.Prelude.{Option, Some, None, is_some, find}
 use Rattle.tk_place.specs.Place.{Others, Reached, lowest_empty, fit, search_end, reached}
 use Rattle.tk_place.specs.Pairs.{pairs_with}
 use Rattle.tk_place.specs.Table.{IsTable}
-use Rattle.tk_place.proofs.Blocked.{nothing_fits}
-use Rattle.tk_place.proofs.Fits.{fit_by_placement}
-use Rattle.tk_place.proofs.Paths.{path_to_end}
-use Rattle.tk_place.proofs.Moves.{placed_along}
+use Rattle.tk_place.proofs.Offers.{nothing_fits}
+use Rattle.tk_place.proofs.Offers.{fit_by_placement}
+use Rattle.tk_place.proofs.Offers.{path_to_end}
+use Rattle.tk_place.proofs.Offers.{placed_along}
 
 -- what is found passes
 found-passes : {X : Type 0} (test : X → Bool) (xs : List X) (x : X) → find test xs ≡ Some x →

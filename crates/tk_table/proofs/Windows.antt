@@ -10,8 +10,9 @@ use Rattle.tk_table.specs.declared.recent.Recent.{Recent}
 use Rattle.tk_table.specs.Ordered.{AscendFrom, HasBuckets, AreOrdered}
 use Rattle.tk_table.specs.Table.{window}
 use Rattle.tk_table.specs.Stands.{recent_of}
-use Rattle.tk_table.proofs.Each.{each-push}
-use Rattle.tk_table.proofs.Members.{IsIn, all_in, in_map}
+use Rattle.tk_frames.proofs.Offers.{each-push}
+use Rattle.tk_frames.specs.Lists.{IsIn}
+use Rattle.tk_frames.proofs.Offers.{all_in, in_map}
 
 pub window-push : {X : Type 0} (shape : Shape) (xs : List X) (x : X) →
     window shape (xs ++ x ∷ []) ≡ drop (length xs + 1 - shape.retained) xs ++ x ∷ []

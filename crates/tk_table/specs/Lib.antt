@@ -4,3 +4,5 @@ pub mod Laws
 pub mod Stands
 pub mod Steps
 pub mod Inside
+pub mod Shown
+pub mod Replies

@@ -6,11 +6,12 @@ use Rattle.std.specs.List.{list_any}
 use Rattle.tk_shape.specs.declared.shape.Shape.{Shape}
 use Rattle.tk_frames.specs.Order.{Record}
 pub use Rattle.tk_frames.specs.Slots.{Slot, slot_bytes}
+use Rattle.tk_bloom.specs.Windows.{window as last_of}
 use Rattle.tk_place.specs.Place.{fit, Others, Spot, Reached, lowest_empty, search_end}
 
 -- the last retained writes, or all where there are fewer
 abbrev pub window : {X : Type 0} → Shape → List X → List X
-window shape R = drop (length R - shape.retained) R
+window shape R = last_of shape.retained R
 
 abbrev pub pair_in : Record → ℕ × ℕ
 pair_in r = (r.write.first, r.write.second)

@@ -6,7 +6,7 @@ use Rattle.tk_frames.specs.declared.read_frame.ReadFrame.{ReadFrame}
 use Rattle.tk_frames.specs.Order.{Record}
 use Rattle.tk_frames.specs.Ranges.{IsReply}
 use Rattle.tk_frames.specs.Spelling.{reply_frame}
-use Rattle.tk_cli.specs.Exchange.{reply_to}
+use Rattle.tk_table.specs.Replies.{reply_to}
 use Rattle.tk_cli.specs.Servers.{AreServers, AreReads}
 use Rattle.tk_cli.proofs.PrivateReadLaws.{AreAsked}
 use Rattle.tk_cli.proofs.private_read.ask_all.Given as goal

@@ -5,10 +5,7 @@ use Rattle.std.proofs.Common.{filter}
 use Rattle.std.specs.Prelude.{Option, Some, None, slice_index_or, flat_map}
 use Rattle.std.specs.List.{AllByRecursion, All, Contains, filter_map, cons_option}
 use Rattle.std.proofs.lemmas.List.Elements.{All-contains}
-
-abbrev pub IsIn : {X : Type 0} → List X → X → Type 0
-IsIn [] x = ⊥
-IsIn (y ∷ ys) x = (y ≡ x) ⊎ IsIn ys x
+use Rattle.tk_frames.specs.Lists.{IsIn, IsFrom, IsAt}
 
 in_from_index : {X : Type 0} (xs : List X) (k : ℕ) (x : X) → k < length xs →
     slice_index_or xs k x ≡ x → IsIn xs x
@@ -52,12 +49,6 @@ pub in_map : {X Y : Type 0} (f : X → Y) (xs : List X) (x : X) → IsIn xs x �
 in_map f [] x h = absurd h
 in_map f (z ∷ xs) x (inl e) = inl (ap f e)
 in_map f (z ∷ xs) x (inr h) = inr (in_map f xs x h)
-
--- what a mapped one came from
-pub record IsFrom {X Y : Type 0} (f : X → Y) (xs : List X) (y : Y) : Type 0 where
-  pub origin : X
-  pub there : IsIn xs origin
-  pub gives : f origin ≡ y
 
 pub from_map : {X Y : Type 0} (f : X → Y) (xs : List X) (y : Y) → IsIn (map f xs) y →
     IsFrom f xs y
@@ -134,12 +125,6 @@ in_flat_map f [] d k y low h = absurd (omega (arith, low))
 in_flat_map f (x ∷ xs) d zero y low h = in_front (f x) (flat_map f xs) y h
 in_flat_map f (x ∷ xs) d (suc k) y low h =
     in_back (f x) (flat_map f xs) y (in_flat_map f xs d k y (omega (arith, low)) h)
-
--- the place of the list that it is in
-pub record IsAt {X Y : Type 0} (f : X → List Y) (xs : List X) (d : X) (y : Y) : Type 0 where
-  pub index : ℕ
-  pub low : index < length xs
-  pub there : IsIn (f (slice_index_or xs index d)) y
 
 pub from_flat_map : {X Y : Type 0} (f : X → List Y) (xs : List X) (d : X) (y : Y) →
     IsIn (flat_map f xs) y → IsAt f xs d y

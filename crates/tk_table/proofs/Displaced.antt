@@ -5,7 +5,7 @@ use Rattle.tk_shape.specs.declared.shape.Shape.{Shape}
 use Rattle.tk_shape.specs.Ranges.{IsShape}
 use Rattle.tk_frames.specs.Order.{Record}
 use Rattle.tk_table.specs.Table.{retained, is_displaced}
-use Rattle.tk_cli.proofs.Computing.{computing}
+use Rattle.tk_table.proofs.Computing.{computing}
 
 pub narrow_ranges : IsShape 2 8 1 8 24 64 1 0 2 2 1 1
 unfolding computing
