@@ -2,8 +2,10 @@ pub mod Blocked
 pub mod Crowds
 pub mod Ends
 pub mod Fits
+pub mod Later
 pub mod Levels
 pub mod Lines
+pub mod Stamps
 pub mod Moves
 pub mod Orders
 pub mod Paths

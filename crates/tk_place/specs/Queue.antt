@@ -1,12 +1,18 @@
 -- The insides of a queue.
-use Rattle.std.specs.Prelude.{◌≡◌, ℕ, ◌+◌, ◌^◌, ◌<◌, ◌≤◌, Bool, false, List, [], ◌∷◌, length, slice_index_or, take, IfSome, vec_len}
+use Rattle.std.specs.Prelude.{◌≡◌, ℕ, ◌+◌, ◌^◌, ◌<◌, ◌≤◌, ◌==◌, Bool, false, List, [], ◌∷◌}
+use Rattle.std.specs.Prelude.{length, map, slice_index_or, take, All, IfSome, vec_len}
 use Rattle.tk_place.specs.Place.{Reached, has_bucket}
 use Rattle.tk_place.specs.Views.{Line, places_from}
 use Rattle.tk_place.specs.declared.queue.Queued.{Queued}
 use Rattle.tk_place.specs.declared.queue.Queue.TheInside.{Inside}
 
 abbrev pub line_of : Inside → Line
-line_of q = record { buckets = vec_len q.seen; places = places_from [] (take q.len q.places.items) }
+line_of q =
+    record { buckets = vec_len q.stamps; places = places_from [] (take q.len q.places.items) }
+
+-- which buckets have this stamp
+abbrev pub marks_of : ℕ → List ℕ → List Bool
+marks_of stamp stamps = map (λ s. s == stamp) stamps
 
 -- each bucket is below n, and stands there once
 abbrev pub AreDistinct : ℕ → List Reached → Type 0
@@ -28,6 +34,9 @@ pub record IsLine (rooms : List Queued) (len : ℕ) (seen : List Bool) (n : ℕ)
   pub marked : (b : ℕ) → b < n
       → slice_index_or seen b false ≡ has_bucket (places_from [] (take len rooms)) b
 
+-- The buckets that are queued have the stamp of this search, and none has one to come.
 pub record IsQueue (q : Inside) : Type 0 where
-  pub few : vec_len q.seen < 2 ^ 32
-  pub line : IsLine q.places.items q.len q.seen.items (vec_len q.seen)
+  pub few : vec_len q.stamps < 2 ^ 32
+  pub line :
+      IsLine q.places.items q.len (marks_of q.stamp q.stamps.items) (vec_len q.stamps)
+  pub past : All (λ s. s ≤ q.stamp) q.stamps.items

@@ -20,12 +20,14 @@ pub struct Queued {
     pub link: Option<Link>,
 }
 
-/// The buckets in the order in which they were reached, each once.
+/// The buckets in the order in which they were reached, each once. A bucket has the stamp of the
+/// last search that reached it, so that the next one has nothing to clear.
 #[derive(Drop)]
 pub struct Queue {
     places: Vec<Queued>,
     len: u32,
-    seen: Vec<bool>,
+    stamps: Vec<u32>,
+    stamp: u32,
 }
 
 impl Model for Queue {
@@ -53,7 +55,8 @@ impl Queue {
         Ok(Queue {
             places: vec![in alloc; nowhere; buckets as usize]?,
             len: 0,
-            seen: vec![in alloc; false; buckets as usize]?,
+            stamps: vec![in alloc; 0u32; buckets as usize]?,
+            stamp: 1,
         })
     }
 
@@ -63,7 +66,12 @@ impl Queue {
         ensures places { self.new.places ≡ [] }
     {
         self.len = 0;
-        self.seen.fill(false);
+        if self.stamp == u32::MAX {
+            self.stamps.fill(0);
+            self.stamp = 1;
+            return;
+        }
+        self.stamp += 1;
     }
 
     /// How many buckets were queued.
@@ -104,10 +112,10 @@ impl Queue {
             let place = reached_by old bucket link in
             self.new.places ≡ old ++ not_before old (place ∷ []) }
     {
-        if self.seen[bucket as usize] {
+        if self.stamps[bucket as usize] == self.stamp {
             return;
         }
-        self.seen[bucket as usize] = true;
+        self.stamps[bucket as usize] = self.stamp;
         self.places[self.len as usize] = Queued { bucket, link };
         self.len += 1;
     }

@@ -2,7 +2,7 @@ ghost use Rattle.std.specs.Prelude.{◌≡◌, ◌<◌, ◌≤◌, ◌+◌, ◌�
 ghost use Rattle.tk_place.specs.Place.{fit, lowest_empty, slots_of, named_in, not_before, search_end};
 ghost use Rattle.tk_place.specs.Pairs.{pairs_with, HasPlacement};
 ghost use Rattle.tk_place.specs.Chain.{IsAnswer, AreMoves, IsBlocked};
-ghost use Rattle.tk_place.specs.Search.{IsEnd};
+ghost use Rattle.tk_place.specs.Search.{IsEnd, AreFull, IsFirst};
 ghost use Rattle.tk_place.specs.Table.{IsTable};
 ghost use Rattle.tk_place.specs.Views.{place_at, spot_of};
 
@@ -73,12 +73,32 @@ fn search<V: Slots>(slots: &V, new: (u32, u32), queue: &mut Queue) -> Option<End
     queue.add(new.1, None);
     let depth = slots.depth();
     let mut place = 0;
+    let mut tried = 0;
     while place < queue.len() {
-        let bucket = queue.bucket(place);
-        if let Some(slot) = slots.free(bucket) {
+        if let Some(end) = first_with_room(slots, queue, tried) {
+            return Some(end);
+        }
+        tried = queue.len();
+        add_others(slots, depth, place, queue);
+        place += 1;
+    }
+    None
+}
+
+/// The first place from one on whose bucket has an empty slot. It ends a search in which all before
+/// it are full, long before its turn comes to have its entries gone through.
+fn first_with_room<V: Slots>(slots: &V, queue: &Queue, from: u32) -> Option<End>
+    requires size { queue.now.buckets ≡ length (V.others slots.now) }
+    requires from { from ≤ length queue.now.places }
+    ensures { let T = V.others slots.now in
+        let places = queue.now.places in
+        MatchOption result (AreFull T places from (length places)) (IsFirst T places from) }
+{
+    let mut place = from;
+    while place < queue.len() {
+        if let Some(slot) = slots.free(queue.bucket(place)) {
             return Some(End { place, slot });
         }
-        add_others(slots, depth, place, queue);
         place += 1;
     }
     None
