@@ -96,6 +96,10 @@ unfoldable pub tag_of : Shape → WordBook → ℕ → ℕ → List ℕ → List
 tag_of shape (keyed handles seeds) log s masked = keyed_tag (handle_at handles log) s masked
 tag_of shape (drawn tape) log s masked = cell_tag shape (keyed_cell shape tape log s)
 
+-- the filter positions of a number s that come from a key
+abbrev pub hits_under : ℕ → ℕ → List ℕ → ℕ → List ℕ
+hits_under bits count key s = map (λ i. word key s i % bits) (range_with_len 1 count)
+
 -- ---- what a book gives afresh for a client's turn
 
 -- what a write holds beside its client and turn

@@ -82,6 +82,10 @@ impl Draws for DrawnDraws {
         cell_hits(&self.shape, self.keyed_cell(log, number), out);
     }
 
+    fn hits_key(&self, _log: u32) -> Option<[u8; 32]> {
+        None
+    }
+
     fn seal(&self, log: u32, number: u32, text: &[u8], out: &mut [u8]) {
         let (pad, tag) = pad_and_tag(&self.shape, self.keyed_cell(log, number));
         let (masked, mark) = out.split_at_mut(pad.len());

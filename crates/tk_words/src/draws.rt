@@ -3,7 +3,7 @@ ghost use Rattle.std.specs.List.{AllByRecursion};
 ghost use Rattle.tk_shape.specs.declared.shape.Shape.{Shape};
 ghost use Rattle.tk_shape.specs.Lengths.{turn_count, vector_len};
 ghost use Rattle.tk_seal.specs.Texts.{is_allowed};
-ghost use Rattle.tk_words.specs.Words.{WordBook, IsBook, pair_of, hits_of, sealed, opened, fresh_write, fresh_pair, fresh_vectors, words_of};
+ghost use Rattle.tk_words.specs.Words.{WordBook, IsBook, pair_of, hits_of, hits_under, sealed, opened, fresh_write, fresh_pair, fresh_vectors, words_of};
 ghost use Rattle.tk_words.specs.Opening.{OpensWhatSeals, OpensSealed};
 
 /// The words that a client uses, over one shape. Logs, clients and turns count from 0.
@@ -27,6 +27,13 @@ pub trait Draws: Sync {
         requires room { length out.old ≡ (shape self.now).hits }
         ensures hits { out.new ≡ hits_of (shape self.now) (book self.now) log number }
         ensures hits_in { AllByRecursion (λ h. h < (shape self.now).filter_bits) out.new };
+
+    /// The key that all filter positions of a log's numbers come from; none where they are drawn number by number. While
+    /// the key is the same, so are they, whatever the book.
+    fn hits_key(&self, log: u32) -> Option<[u8; 32]>
+        requires log_in { log < (shape self.now).logs }
+        ensures { let run = shape self.now in IfSome result (λ key. (s : ℕ)
+            → hits_of run (book self.now) log s ≡ hits_under run.filter_bits run.hits key s) };
 
     /// Seals a text for a number of a log.
     fn seal(&self, log: u32, number: u32, text: &[u8], out: &mut [u8])

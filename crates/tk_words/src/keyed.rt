@@ -64,6 +64,10 @@ impl Draws for KeyedDraws {
         tk_choice::hits(self.handle(log), number, self.shape.filter_bits, out);
     }
 
+    fn hits_key(&self, log: u32) -> Option<[u8; 32]> {
+        Some(self.handle(log).seed2)
+    }
+
     fn seal(&self, log: u32, number: u32, text: &[u8], out: &mut [u8]) {
         tk_seal::seal(self.handle(log), number, text, out);
     }
