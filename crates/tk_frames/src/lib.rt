@@ -19,6 +19,7 @@ pub use encode::{encode_placed, encode_read, encode_reply, encode_write};
 pub use entry::{Entry, Placed};
 pub use fault::{FrameError, Name};
 pub use laws::{before_a_mark, each_fault, lengths, one_spelling};
+pub use numbers::{u32_at, u64_at};
 pub use read_frame::ReadFrame;
 pub use reply_frame::ReplyFrame;
 pub use write_frame::WriteFrame;
