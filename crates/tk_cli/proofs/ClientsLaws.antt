@@ -12,7 +12,7 @@ use Rattle.std.proofs.lemmas.List.Elements.{filter-append, All-from_recursion}
 use Rattle.tk_schedule.specs.declared.history.History.{History}
 use Rattle.tk_script.specs.declared.script.Script.{Script}
 use Rattle.tk_words.specs.Words.{BookWords}
-use Rattle.tk_client.specs.State.{ClientState, new_client}
+use Rattle.tk_client.specs.Client.{ClientState, new_client}
 use Rattle.tk_cli.specs.Clients.{AreClients, client_before}
 use Rattle.tk_cli.specs.Queues.{writes_of, writing_before}
 use Rattle.tk_cli.specs.Report.{follows_of, reader_before}

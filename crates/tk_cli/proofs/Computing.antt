@@ -12,7 +12,7 @@ use Rattle.tk_script.specs.Sent.{sendings_from, sent}
 use Rattle.tk_cli.specs.Entries.{write_at, placed_from, entries_before}
 use Rattle.tk_place.specs.Place.{is_placeable}
 use Rattle.tk_table.specs.Table.{retained_with, retained_on}
-use Rattle.tk_client.specs.Client.{target, after_read}
+use Rattle.tk_client.specs.Reader.{target, after_read}
 use Rattle.tk_cli.specs.Report.{lookup, reader_before, history_lines, report_of}
 
 unfoldable pub computing : ⊤

@@ -11,7 +11,7 @@ use Rattle.tk_script.specs.Sent.{writer_of}
 use Rattle.tk_client.specs.declared.written.Written.{Written}
 use Rattle.tk_client.specs.Writing.{Writing, unwritten, count_of, one_more_of, with_text}
 use Rattle.tk_client.specs.Saying.{is_written}
-use Rattle.tk_client.proofs.LogPlaces.{is_written-more}
+use Rattle.tk_client.proofs.Offers.{is_written-more}
 use Rattle.tk_script.proofs.Offers.{of_log, of_log-append}
 
 -- the logs that a client writes are there, and each counts its texts among those that were said

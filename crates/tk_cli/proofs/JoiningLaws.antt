@@ -17,10 +17,10 @@ use Rattle.tk_frames.specs.declared.reply_frame.ReplyFrame.{ReplyFrame}
 use Rattle.tk_frames.specs.Order.{Record}
 use Rattle.tk_table.specs.Table.{SlotTable, layout, blocks_of}
 use Rattle.tk_table.specs.Laws.{block_at}
-use Rattle.tk_client.specs.Client.{Target}
 use Rattle.tk_table.specs.Replies.{reply_to}
+use Rattle.tk_client.specs.Reader.{Target}
 use Rattle.tk_client.specs.Asked.{frame_with, asked, AreWhole, IsPair, pair_for}
-use Rattle.tk_client.proofs.AskingLaws.{vector_bits, length-shares}
+use Rattle.tk_client.proofs.Offers.{vector_bits, length-shares}
 
 -- ---- what servers with equal blocks reply
 

@@ -24,12 +24,12 @@ use Rattle.tk_client.specs.declared.got.Got.{Got}
 use Rattle.tk_client.specs.declared.got.Got.TheVariants.{Absent, Text}
 use Rattle.tk_table.specs.Shown.{is_shown}
 use Rattle.tk_cli.specs.Entries.{entries}
-use Rattle.tk_client.specs.Client.{Follow, Reader, Target, next_of, new_follow, untried}
-use Rattle.tk_client.specs.Client.{at_epoch, wanted, follow_at, number_ahead, target_in, target}
-use Rattle.tk_client.specs.Client.{places_from_cursor}
-use Rattle.tk_client.specs.Client.{follow_after, after_read}
+use Rattle.tk_client.specs.Reader.{Follow, Reader, Target, next_of, new_follow, untried}
+use Rattle.tk_client.specs.Reader.{at_epoch, wanted, follow_at, number_ahead, target_in, target}
+use Rattle.tk_client.specs.Reader.{places_from_cursor}
+use Rattle.tk_client.specs.Reader.{follow_after, after_read}
 use Rattle.tk_cli.specs.Report.{lookup, is_follower, read_over, target_for, answer_for}
-use Rattle.tk_client.specs.Readers.{first_got, got_in}
+use Rattle.tk_client.specs.Reader.{first_got, got_in}
 use Rattle.tk_cli.specs.Report.{reader_step, reader_before, target_at}
 use Rattle.tk_cli.specs.PassingOver.{IsNotRetained, IsRightlyPassed}
 use Rattle.tk_cli.specs.PassingOver.{HonestPassingOver, SerialRunsPassOverHonestly}

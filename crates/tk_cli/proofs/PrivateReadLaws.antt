@@ -31,17 +31,17 @@ use Rattle.tk_frames.proofs.Offers.{each-push}
 use Rattle.tk_table.proofs.Offers.{layout-laid_out}
 use Rattle.tk_table.proofs.Offers.{layout-read_back, layout-as_read}
 use Rattle.tk_cli.specs.declared.server.Server.{Server}
-use Rattle.tk_client.specs.Client.{Target, at_epoch, after_read}
+use Rattle.tk_client.specs.Reader.{Target, at_epoch, after_read}
 use Rattle.tk_client.specs.Replies.{answer_in, frames_in, first_joined, second_joined}
-use Rattle.tk_client.specs.State.{ClientState, OpenRead, opened, after_replies}
-use Rattle.tk_client.proofs.RepliesLaws.{frames_in-spelled}
+use Rattle.tk_client.specs.Client.{ClientState, OpenRead, opened, after_replies}
+use Rattle.tk_client.proofs.Offers.{frames_in-spelled}
 use Rattle.tk_cli.specs.Clients.{knowing}
 use Rattle.tk_cli.specs.Report.{lookup, answered, target_at}
 use Rattle.tk_table.specs.Replies.{reply_to}
 use Rattle.tk_cli.specs.Exchange.{read_at, bytes_of, with_reply}
 use Rattle.tk_client.specs.Asked.{asked, AreWhole, IsPair, pair_for}
 use Rattle.tk_cli.specs.Servers.{IsServer, AreServers, AreReads, seen_with, blank_read, read_for}
-use Rattle.tk_client.proofs.AskingLaws.{vector_bits}
+use Rattle.tk_client.proofs.Offers.{vector_bits}
 use Rattle.tk_cli.proofs.AskingLaws.{asked-read_at}
 use Rattle.tk_cli.proofs.JoiningLaws.{AreBlocks, replies_join}
 

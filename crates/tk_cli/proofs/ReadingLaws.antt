@@ -17,8 +17,8 @@ use Rattle.tk_frames.specs.declared.read_frame.ReadFrame.{ReadFrame}
 use Rattle.tk_frames.specs.Order.{Record}
 use Rattle.tk_bloom.specs.declared.filter.Filter.{Filter}
 use Rattle.tk_client.specs.Asked.{asked, shown_by}
-use Rattle.tk_client.specs.Client.{Target, target, at_epoch, after_read}
-use Rattle.tk_client.specs.State.{ClientState, target_over}
+use Rattle.tk_client.specs.Reader.{Target, target, at_epoch, after_read}
+use Rattle.tk_client.specs.Client.{ClientState, target_over}
 use Rattle.tk_cli.specs.declared.server.Server.{Server}
 use Rattle.tk_table.specs.Shown.{is_shown}
 use Rattle.tk_cli.specs.Clients.{idle, knowing, client_wrote, client_before}

@@ -7,8 +7,8 @@ use Rattle.tk_schedule.specs.declared.history.History.{History}
 use Rattle.tk_script.specs.declared.script.Script.{Script}
 use Rattle.tk_words.specs.Words.{BookWords}
 use Rattle.tk_client.specs.declared.got.Got.{Got}
-use Rattle.tk_client.specs.Readers.{got_in}
-use Rattle.tk_client.specs.State.{ClientState}
+use Rattle.tk_client.specs.Reader.{got_in}
+use Rattle.tk_client.specs.Client.{ClientState}
 use Rattle.tk_script.specs.Sent.{unsent_count}
 use Rattle.tk_cli.specs.Clients.{AreClientsAtEnd, client_before}
 use Rattle.tk_cli.specs.Report.{line, got_of}

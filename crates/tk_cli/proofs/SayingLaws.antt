@@ -11,7 +11,7 @@ use Rattle.tk_script.specs.declared.script.Script.{Script}
 use Rattle.tk_script.specs.declared.say.Say.{Say}
 use Rattle.tk_script.specs.Sent.{writer_of}
 use Rattle.tk_words.specs.Words.{BookWords}
-use Rattle.tk_client.specs.State.{ClientState}
+use Rattle.tk_client.specs.Client.{ClientState}
 use Rattle.tk_client.specs.Writing.{Writing, with_text}
 use Rattle.tk_cli.specs.Clients.{AreClients, idle, client_before, client_said}
 use Rattle.tk_cli.specs.Queues.{turn_said, says_in, said_before, with_says, writing_before}

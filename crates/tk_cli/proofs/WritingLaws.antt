@@ -17,7 +17,7 @@ use Rattle.tk_schedule.specs.Schedule.{is_of, is_within}
 use Rattle.tk_script.specs.declared.script.Script.{Script}
 use Rattle.tk_words.specs.Words.{BookWords}
 use Rattle.tk_shape.specs.Lengths.{turn_count}
-use Rattle.tk_client.specs.State.{ClientState}
+use Rattle.tk_client.specs.Client.{ClientState}
 use Rattle.tk_client.specs.Writing.{first_waiting, after_write}
 use Rattle.tk_client.specs.Writes.{write_of}
 use Rattle.tk_cli.specs.Clients.{AreClients, idle, client_said, client_wrote, client_after, has_written}

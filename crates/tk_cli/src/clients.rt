@@ -1,7 +1,7 @@
 ghost use Rattle.std.specs.Prelude.{◌≡◌, ◌<◌, IfOk};
 ghost use Rattle.tk_schedule.specs.declared.history.History.{History};
 ghost use Rattle.tk_words.specs.Words.{BookWords};
-ghost use Rattle.tk_client.specs.State.{new_client};
+ghost use Rattle.tk_client.specs.Client.{new_client};
 ghost use Rattle.tk_cli.specs.Clients.{AreClients, client_before};
 ghost use Rattle.tk_cli.specs.Queues.{writes_of};
 ghost use Rattle.tk_cli.specs.Report.{follows_of};

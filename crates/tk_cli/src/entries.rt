@@ -6,7 +6,7 @@ ghost use Rattle.tk_schedule.specs.declared.item.Item.TheVariants.{Client as Wri
 ghost use Rattle.tk_schedule.specs.Schedule.{IsLegal, is_within};
 ghost use Rattle.tk_words.specs.Words.{words_of};
 ghost use Rattle.tk_frames.specs.Ranges.{IsWrite};
-ghost use Rattle.tk_client.specs.State.{ClientState};
+ghost use Rattle.tk_client.specs.Client.{ClientState};
 ghost use Rattle.tk_client.specs.Writing.{first_waiting, after_write};
 ghost use Rattle.tk_client.specs.Writes.{write_of};
 ghost use Rattle.tk_cli.specs.Clients.{AreClients, client_said, client_wrote};

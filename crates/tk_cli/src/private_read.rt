@@ -10,7 +10,7 @@ ghost use Rattle.tk_frames.specs.Order.{Record};
 ghost use Rattle.tk_table.specs.Ordered.{AreOrdered};
 ghost use Rattle.tk_table.specs.Laws.{IsStorable};
 ghost use Rattle.tk_client.specs.Asked.{asked};
-ghost use Rattle.tk_client.specs.State.{target_over};
+ghost use Rattle.tk_client.specs.Client.{target_over};
 ghost use Rattle.tk_cli.specs.Clients.{knowing};
 ghost use Rattle.tk_table.specs.Replies.{reply_to};
 ghost use Rattle.tk_cli.specs.Report.{answered};

@@ -18,17 +18,16 @@ use Rattle.tk_shape.specs.Lengths.{turn_count, vector_len}
 use Rattle.tk_handle.specs.Handle.{key_bytes}
 use Rattle.tk_kernel.specs.Pieces.{pieces, all_pieces, AllSized}
 use Rattle.tk_kernel.specs.Xor.{xor_all}
-use Rattle.tk_kernel.proofs.Sums.{length-xor_bytes, length-xor_all}
-use Rattle.tk_kernel.proofs.Cuts.{all_pieces-append, all_pieces_short, all_pieces-concat}
-use Rattle.tk_kernel.proofs.Cuts.{concat-all_pieces, length-pieces, AllSized-pieces}
-use Rattle.tk_kernel.proofs.Cuts.{AllSized-all_pieces}
+use Rattle.tk_kernel.proofs.Offers.{length-xor_bytes, length-xor_all}
+use Rattle.tk_kernel.proofs.Offers.{all_pieces-append, all_pieces_short, all_pieces-concat}
+use Rattle.tk_kernel.proofs.Offers.{concat-all_pieces, length-pieces, AllSized-pieces}
+use Rattle.tk_kernel.proofs.Offers.{AllSized-all_pieces}
 use Rattle.tk_bits.specs.Shares.{unit_vector, last_share, shares}
-use Rattle.tk_bits.proofs.Vectors.{length-unit_vector}
 use Rattle.tk_words.specs.Words.{WordBook, keyed, drawn, words_of, DrawnVectors, vectors_of}
 use Rattle.tk_words.specs.Words.{fresh_vectors, seed_at, read_cell}
 use Rattle.tk_frames.specs.declared.read_frame.ReadFrame.{ReadFrame}
 use Rattle.tk_frames.specs.Ranges.{IsRead}
-use Rattle.tk_client.specs.Client.{Target}
+use Rattle.tk_client.specs.Reader.{Target}
 use Rattle.tk_client.specs.Asked.{pair_for, frame_with, asked, AreWhole, IsPair}
 
 -- ---- a vector has a bit for each bucket
@@ -115,73 +114,6 @@ written_back len items new same =
 abbrev pub joined_vectors : DrawnVectors → List ℕ
 joined_vectors vectors = flat_map (λ v. v) vectors.first ++ flat_map (λ v. v) vectors.second
 
-sized_halves : (size each : ℕ) (bytes : List ℕ) → 2 * each * size ≤ length bytes →
-    AllSized size (pieces size each bytes)
-    × AllSized size (pieces size each (drop (each * size) bytes))
-sized_halves size each bytes long = (
-  AllSized-pieces size each bytes (omega arith),
-  AllSized-pieces size each (drop (each * size) bytes)
-      (omega (arith, length-drop (each * size) bytes)),
-)
-
-vectors_of-whole : (shape : Shape) (bytes : List ℕ) →
-    2 * (shape.servers - 1) * vector_len shape ≤ length bytes →
-    AreWhole shape (vectors_of shape bytes)
-vectors_of-whole shape bytes long =
-    let size = vector_len shape in
-    let each = shape.servers - 1 in
-    let sized = sized_halves size each bytes long in
-    record {
-      first_each = length-pieces size each bytes;
-      second_each = length-pieces size each (drop (each * size) bytes);
-      first_sized = sized.0;
-      second_sized = sized.1;
-    }
-
--- how long joined pieces are, where there may be too few bytes for them
-length-joined_pieces : (size count : ℕ) (bytes : List ℕ) →
-    length (flat_map (λ v. v) (pieces size count bytes)) ≡ min (count * size) (length bytes)
-length-joined_pieces size zero bytes = omega arith
-length-joined_pieces size (suc count) bytes =
-    let rest = drop size bytes in
-    let both = length-append (take size bytes) (flat_map (λ v. v) (pieces size count rest)) in
-    let first = length-take size bytes in
-    let later = length-joined_pieces size count rest in
-    let left = length-drop size bytes in
-    let more : suc count * size ≡ size + count * size = omega arith in
-    omega (arith, both, first, later, left, more)
-
-enough : (size each : ℕ) (bytes joined : List ℕ) →
-    joined
-    ≡ flat_map (λ v. v) (pieces size each bytes)
-    ++ flat_map (λ v. v) (pieces size each (drop (each * size) bytes)) →
-    length joined ≡ 2 * each * size → 2 * each * size ≤ length bytes
-enough size each bytes joined is long =
-    let rest = drop (each * size) bytes in
-    let front = flat_map (λ v. v) (pieces size each bytes) in
-    let back = flat_map (λ v. v) (pieces size each rest) in
-    let both = ap length is ∙ length-append front back in
-    let first = length-joined_pieces size each bytes in
-    let second = length-joined_pieces size each rest in
-    let left = length-drop (each * size) bytes in
-    omega (arith, long, both, first, second, left)
-
--- drawn bytes of the right length show that the vectors are whole
-pub whole_by_length : (shape : Shape) (b : WordBook) (g c : ℕ) (joined : List ℕ) →
-    joined ≡ joined_vectors (fresh_vectors shape b g c) →
-    length joined ≡ 2 * (shape.servers - 1) * vector_len shape →
-    AreWhole shape (fresh_vectors shape b g c)
-unfolding fresh_vectors
-whole_by_length shape (keyed handles seeds) g c joined is long =
-    let all = 2 * (shape.servers - 1) * vector_len shape in
-    let bytes = key_bytes (seed_at seeds c) (2 * g + 1) 16 all in
-    vectors_of-whole shape bytes
-    (enough (vector_len shape) (shape.servers - 1) bytes joined is long)
-whole_by_length shape (drawn tape) g c joined is long =
-    let bytes = drop 8 (read_cell shape tape g c) in
-    vectors_of-whole shape bytes
-    (enough (vector_len shape) (shape.servers - 1) bytes joined is long)
-
 length-joined : (size : ℕ) (vs : List (List ℕ)) → AllSized size vs →
     length (flat_map (λ v. v) vs) ≡ length vs * size
 length-joined size [] h = omega arith
@@ -225,15 +157,6 @@ halves shape vectors bytes front back each whole joined each_is front_is back_is
 
 -- ---- the frames
 
--- what holds in any case holds with an answer
-pub on_ok_always : {T E P : Type 0} (r : Result T E) → P → OnOk r P
-on_ok_always (Ok x) p = p
-on_ok_always (Err e) p = tt
-
-pub on_ok_then : {T E P Q : Type 0} (r : Result T E) → (P → Q) → OnOk r P → OnOk r Q
-on_ok_then (Ok x) f p = f p
-on_ok_then (Err e) f p = tt
-
 -- the frame that carries these two vectors
 abbrev pub framed : ℕ → ℕ → ℕ → List ℕ → List ℕ → ReadFrame
 framed g c e x y = record { client = c; turn = g; epoch = e; first = x; second = y }
@@ -261,33 +184,6 @@ pub fresh_joined : (own shape : Shape) (b : WordBook) (g c : ℕ) (bytes : List 
 fresh_joined own shape b g c bytes same joined =
     subst (λ s. bytes ≡ joined_vectors (fresh_vectors s b g c)) same joined
 
-pub whole_by_room : (own shape : Shape) (b : WordBook) (g c : ℕ) (bytes : List ℕ) (size : ℕ) →
-    own ≡ shape →
-    bytes ≡ joined_vectors (fresh_vectors own b g c) →
-    size ≡ vector_len shape → length bytes ≡ 2 * ((shape.servers - 1) * size) →
-    AreWhole shape (fresh_vectors shape b g c)
-whole_by_room own shape b g c bytes size same joined size_is room =
-    let each = shape.servers - 1 in
-    let long : length bytes ≡ 2 * (each * vector_len shape) =
-    room ∙ ap (λ n. 2 * (each * n)) size_is
-    in
-    whole_by_length shape b g c bytes (fresh_joined own shape b g c bytes same joined)
-    (long ∙ regrouped each (vector_len shape))
-  where
-    regrouped : (n k : ℕ) → 2 * (n * k) ≡ 2 * n * k
-    regrouped n k = omega arith
-
--- the buckets that are asked for are buckets of the table
-pub pair_within : (own shape : Shape) (b : WordBook) (g c : ℕ) (t : Option Target) (pair : ℕ × ℕ) →
-    own ≡ shape → pair ≡ pair_for (words_of own b) g c t → pair.0 < own.buckets →
-    pair.1 < own.buckets → IsPair shape (pair_for (words_of shape b) g c t)
-pair_within own shape b g c t pair same pair_is first second =
-    let here : IsPair own pair = record { first = first; second = second } in
-    let there : IsPair own (pair_for (words_of own b) g c t) =
-    subst (λ (p : ℕ × ℕ). IsPair own p) pair_is here
-    in
-    subst (λ s. IsPair s (pair_for (words_of s b) g c t)) same there
-
 -- the halves of the drawn bytes, each completed to shares, are what the frames carry
 pub frames_asked : (own shape : Shape) (b : WordBook) (g c e : ℕ) (t : Option Target) (pair : ℕ × ℕ)
     (bytes front back first second : List ℕ) (each : ℕ) →
@@ -312,98 +208,3 @@ frames_asked own shape b g c e t pair bytes front back first second each
     ap₂ (λ (us vs : List (List ℕ)). map (frame_with g c e us vs) (range_with_len 1 shape.servers))
     (first_is ∙ ap₂ (λ (p : ℕ × ℕ) (vs : List (List ℕ)). shares size p.0 vs) is_pair both.front_is)
     (second_is ∙ ap₂ (λ (p : ℕ × ℕ) (vs : List (List ℕ)). shares size p.1 vs) is_pair both.back_is)
-
--- ---- the frames are in range
-
--- a frame for each server
-pub length-asked : (shape : Shape) (b : WordBook) (g c e : ℕ) (t : Option Target) →
-    length (asked shape b g c e t) ≡ shape.servers
-length-asked shape b g c e t =
-    length-map (range_with_len 1 shape.servers) _ ∙ length-range 1 shape.servers
-  where
-    length-range : (k n : ℕ) → length (range_with_len k n) ≡ n
-    length-range k zero = refl
-    length-range k (suc n) = ap suc (length-range (k + 1) n)
-
-AllSized-push : (size : ℕ) (vs : List (List ℕ)) (v : List ℕ) → AllSized size vs → length v ≡ size →
-    AllSized size (vs ++ v ∷ [])
-AllSized-push size [] v h e = (e, tt)
-AllSized-push size (u ∷ us) v h e = (h.0, AllSized-push size us v h.1 e)
-
-pub AllSized-shares : (size i : ℕ) (vs : List (List ℕ)) → AllSized size vs →
-    AllSized size (shares size i vs)
-AllSized-shares size i vs h =
-    let unit = length-unit_vector size i in
-    let same = unit ∙ sym (length-xor_all size vs h) in
-    let long = length-xor_bytes (unit_vector size i) (xor_all size vs) same ∙ unit in
-    AllSized-push size vs (last_share size i vs) h long
-
-pub length-shares : (size i n : ℕ) (vs : List (List ℕ)) → 0 < n → length vs ≡ n - 1 →
-    length (shares size i vs) ≡ n
-length-shares size i n vs some each =
-    let more = length-append vs (last_share size i vs ∷ []) in
-    omega (arith, more, each, some)
-
-sized_at : (size i : ℕ) (vs : List (List ℕ)) → AllSized size vs → i < length vs →
-    length (slice_index_or vs i []) ≡ size
-sized_at size i [] h low = absurd (omega (arith, low))
-sized_at size zero (v ∷ vs) h low = h.0
-sized_at size (suc i) (v ∷ vs) h low = sized_at size i vs h.1 (omega (arith, low))
-
--- what frames that carry these vectors need, to be in range
-record AreInRange (shape : Shape) (g c e : ℕ) (us vs : List (List ℕ)) : Type 0 where
-  turn : g < turn_count shape
-  client : c < shape.clients
-  epoch : e ≤ shape.phases
-  first_sized : AllSized (vector_len shape) us
-  second_sized : AllSized (vector_len shape) vs
-  first_each : length us ≡ shape.servers
-  second_each : length vs ≡ shape.servers
-
-frames_in_range : (shape : Shape) (g c e : ℕ) (us vs : List (List ℕ)) →
-    AreInRange shape g c e us vs → (j n : ℕ) → 1 ≤ j → j + n ≤ shape.servers + 1 →
-    AllByRecursion (IsRead shape) (map (frame_with g c e us vs) (range_with_len j n))
-unfolding frame_with
-frames_in_range shape g c e us vs is j zero low high = tt
-frames_in_range shape g c e us vs is j (suc n) low high =
-    let size = vector_len shape in
-    let us_each = is.first_each in
-    let vs_each = is.second_each in
-    let first_in : j - 1 < length us = omega (arith, low, high, us_each) in
-    let second_in : j - 1 < length vs = omega (arith, low, high, vs_each) in
-    let next_high : j + 1 + n ≤ shape.servers + 1 = omega (arith, high) in
-    let later = frames_in_range shape g c e us vs is (j + 1) n (omega arith) next_high in (
-      record {
-        client = is.client;
-        turn = is.turn;
-        epoch = is.epoch;
-        first_len = sized_at size (j - 1) us is.first_sized first_in;
-        second_len = sized_at size (j - 1) vs is.second_sized second_in;
-      },
-      later,
-    )
-
-pub asked-in_range : (shape : Shape) (b : WordBook) (g c e : ℕ) (t : Option Target) →
-    AreWhole shape (fresh_vectors shape b g c) → g < turn_count shape → c < shape.clients →
-    e ≤ shape.phases → AllByRecursion (IsRead shape) (asked shape b g c e t)
-asked-in_range shape b g c e t whole turn_in client_in epoch_in =
-    let size = vector_len shape in
-    let pair = pair_for (words_of shape b) g c t in
-    let first = (fresh_vectors shape b g c).first in
-    let second = (fresh_vectors shape b g c).second in
-    let us = shares size pair.0 first in
-    let vs = shares size pair.1 second in
-    let servers = shape.in_range.servers_low in
-    let some : 0 < shape.servers = omega (arith, servers) in
-    let is : AreInRange shape g c e us vs =
-    record {
-      turn = turn_in;
-      client = client_in;
-      epoch = epoch_in;
-      first_sized = AllSized-shares size pair.0 first whole.first_sized;
-      second_sized = AllSized-shares size pair.1 second whole.second_sized;
-      first_each = length-shares size pair.0 shape.servers first some whole.first_each;
-      second_each = length-shares size pair.1 shape.servers second some whole.second_each;
-    }
-    in
-    frames_in_range shape g c e us vs is 1 shape.servers (omega arith) (omega arith)

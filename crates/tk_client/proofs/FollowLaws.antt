@@ -9,8 +9,8 @@ use Rattle.std.proofs.lemmas.Bool.{cond-true, cond-false, le-ltb}
 use Rattle.tk_shape.specs.declared.shape.Shape.{Shape}
 use Rattle.tk_shape.specs.Lengths.{turn_count}
 use Rattle.tk_client.specs.declared.got.Got.{Got}
-use Rattle.tk_client.specs.Client.{Follow, next_of, wanted}
-use Rattle.tk_client.specs.Readers.{follow_anew, is_wanted}
+use Rattle.tk_client.specs.Reader.{Follow, next_of, wanted}
+use Rattle.tk_client.specs.Searching.{follow_anew, is_wanted}
 
 -- ---- the first of the numbers from i on that are below n
 

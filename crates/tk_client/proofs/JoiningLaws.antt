@@ -8,7 +8,7 @@ use Rattle.tk_shape.specs.declared.shape.Shape.{Shape}
 use Rattle.tk_shape.specs.Lengths.{width}
 use Rattle.tk_kernel.specs.Xor.{xor_bytes, xor_all}
 use Rattle.tk_kernel.specs.Pieces.{AllSized}
-use Rattle.tk_kernel.proofs.Sums.{xor_bytes-zeros, xor_all-append}
+use Rattle.tk_kernel.proofs.Offers.{xor_bytes-zeros, xor_all-append}
 use Rattle.tk_frames.specs.declared.reply_frame.ReplyFrame.{ReplyFrame}
 use Rattle.tk_frames.specs.Ranges.{IsReply}
 

@@ -3,7 +3,9 @@ pub mod LogPlaces
 pub mod FollowLaws
 pub mod ReaderLaws
 pub mod AskingLaws
+pub mod InRangeLaws
 pub mod JoiningLaws
 pub mod TakingLaws
 pub mod RepliesLaws
-pub mod StateLaws
+pub mod ClientLaws
+pub mod Offers

@@ -10,12 +10,12 @@ use Rattle.std.proofs.lemmas.Bool.{eqb-true}
 use Rattle.std.proofs.lemmas.List.{map-set, length-map}
 use Rattle.tk_shape.specs.declared.shape.Shape.{Shape}
 use Rattle.tk_frames.specs.Lists.{first_some}
-use Rattle.tk_client.specs.Client.{Follow, untried, follow_after, Reader, at_epoch}
-use Rattle.tk_client.specs.Client.{Target, target, after_read}
+use Rattle.tk_client.specs.Reader.{Follow, untried, follow_after, Reader, at_epoch}
+use Rattle.tk_client.specs.Reader.{Target, target, after_read}
 use Rattle.tk_client.specs.declared.got.Got.{Got}
-use Rattle.tk_client.specs.Client.{follow_in, target_in}
-use Rattle.tk_client.specs.Readers.{follows_anew}
-use Rattle.tk_client.specs.Readers.{first_got, got_in}
+use Rattle.tk_client.specs.Reader.{follow_in, target_in}
+use Rattle.tk_client.specs.Searching.{follows_anew}
+use Rattle.tk_client.specs.Reader.{first_got, got_in}
 
 -- ---- the first that is given
 

@@ -17,7 +17,7 @@ use Rattle.tk_frames.specs.declared.fault.FrameError.TheVariants as frame_fault
 use Rattle.tk_frames.specs.Faults.{first_fault, reply_checks, IsRefusal}
 use Rattle.tk_kernel.specs.Pieces.{AllSized}
 use Rattle.tk_kernel.specs.Xor.{xor_all}
-use Rattle.tk_kernel.proofs.Sums.{length-xor_all}
+use Rattle.tk_kernel.proofs.Offers.{length-xor_all}
 use Rattle.tk_client.specs.declared.take_error.TakeError.TheVariants as fault
 use Rattle.tk_client.specs.Replies.{frames_in, unread, first_unread, other_name, first_other}
 use Rattle.tk_client.specs.Replies.{refusal, IsRefusedForOrMemory, IsPlain}

@@ -10,8 +10,7 @@ use Rattle.std.proofs.lemmas.Nat.{div-mul-add}
 use Rattle.tk_shape.specs.declared.shape.Shape.{Shape}
 use Rattle.tk_shape.specs.Lengths.{slot_len, width}
 use Rattle.tk_kernel.specs.Pieces.{pieces, all_pieces}
-use Rattle.tk_kernel.proofs.Cuts.{all_pieces-append, all_pieces_short}
-use Rattle.tk_kernel.specs.Pieces.{pieces as slot_pieces}
+use Rattle.tk_kernel.proofs.Offers.{all_pieces-append, all_pieces_short}
 use Rattle.tk_frames.specs.Slots.{Slot}
 use Rattle.tk_frames.specs.Slots.{slot_from, slots_in, Accepted, accepted, earlier_of, earliest}
 use Rattle.tk_frames.specs.Slots.{text_among}
@@ -142,12 +141,6 @@ given-next shape pair opens block bytes slot rest so_far next after
     ∙ ap (earlier_of_both so_far) (sym (given-front shape pair opens bytes slot rest split long))
     ∙ whole
 
-same_pieces : (size count : ℕ) (bytes : List ℕ) →
-    pieces size count bytes ≡ slot_pieces size count bytes
-same_pieces size zero bytes = refl
-same_pieces size (suc count) bytes =
-    ap (λ ps. take size bytes ∷ ps) (same_pieces size count (drop size bytes))
-
 given-slots : (shape : Shape) (pair : ℕ × ℕ) (opens : List ℕ → Option (List ℕ)) (block : List ℕ) →
     length block ≡ width shape →
     given shape pair opens block
@@ -159,7 +152,7 @@ given-slots shape pair opens block whole =
     ap (λ n. n / size) same ∙ div-mul-add shape.depth size 0 (slot_some shape)
     in
     ap (λ (ps : List (List ℕ)). earliest (filter_map (accepted pair opens) (map slot_from ps)))
-    (ap (λ n. pieces size n block) count ∙ same_pieces size shape.depth block)
+    (ap (λ n. pieces size n block) count)
 
 -- with no slot left
 pub given-all : (shape : Shape) (pair : ℕ × ℕ) (opens : List ℕ → Option (List ℕ))
@@ -177,19 +170,18 @@ given-all shape pair opens block rest found whole short all =
 
 -- ---- two blocks
 
-pub text_of_two : (shape : Shape) (wanted pair : ℕ × ℕ) (opens : List ℕ → Option (List ℕ))
-    (first second : List ℕ) (one other both : Option Accepted) → wanted ≡ pair →
-    one ≡ earliest (filter_map (accepted wanted opens) (slots_in shape first)) →
-    other ≡ earliest (filter_map (accepted wanted opens) (slots_in shape second)) →
+pub text_of_two : (shape : Shape) (pair : ℕ × ℕ) (opens : List ℕ → Option (List ℕ))
+    (first second : List ℕ) (one other both : Option Accepted) →
+    one ≡ earliest (filter_map (accepted pair opens) (slots_in shape first)) →
+    other ≡ earliest (filter_map (accepted pair opens) (slots_in shape second)) →
     both ≡ earlier_of_both one other →
     option_map (λ (x : Accepted). x.1) both
     ≡ text_among pair opens (slots_in shape first ++ slots_in shape second)
-text_of_two shape wanted pair opens first second one other both wanted_is one_is other_is both_is =
-    let each = accepted wanted opens in
+text_of_two shape pair opens first second one other both one_is other_is both_is =
+    let each = accepted pair opens in
     let xs = slots_in shape first in
     let ys = slots_in shape second in
     ap (option_map (λ (x : Accepted). x.1))
     (both_is ∙ ap₂ earlier_of_both one_is other_is
     ∙ sym (earliest-append (filter_map each xs) (filter_map each ys))
     ∙ ap earliest (sym (filter_map-append each xs ys)))
-    ∙ ap (λ (p : ℕ × ℕ). text_among p opens (xs ++ ys)) wanted_is

@@ -9,7 +9,7 @@ use Rattle.tk_bits.specs.Shares.{shares}
 use Rattle.tk_words.specs.Words.{WordBook, BookWords, DrawnVectors, words_of, fresh_vectors}
 use Rattle.tk_frames.specs.declared.read_frame.ReadFrame.{ReadFrame}
 use Rattle.tk_bloom.specs.Filters.{all_marked}
-use Rattle.tk_client.specs.Client.{Target}
+use Rattle.tk_client.specs.Reader.{Target}
 
 -- whether a filter shows a number of a log: it has all of its filter positions
 abbrev pub shown_by : List Bool → BookWords → ℕ → ℕ → Bool

@@ -1,104 +1,75 @@
--- What a client reads: the target of each read, and what the reader knows after it.
-use Rattle.std.specs.Prelude.{ℕ, ◌+◌, ◌-◌, ◌%◌, ◌==◌, nat_lt, Bool, ◌&&◌, cond, List, [], ◌∷◌, ◌++◌}
-use Rattle.std.specs.Prelude.{length, map, find, replicate, slice_index_or, slice_set, Option, Some}
-use Rattle.std.specs.Prelude.{None, option_map}
-use Rattle.std.specs.List.{range_with_len}
+-- What a client is seen as, and what holds of each.
+use Rattle.std.specs.Prelude.{◌≡◌, ◌<◌, ℕ, Bool, List, length, Option, Some, None}
 use Rattle.tk_shape.specs.declared.shape.Shape.{Shape}
-use Rattle.tk_client.specs.declared.got.Got.{Got}
-use Rattle.tk_client.specs.declared.got.Got.TheVariants.{Absent, Text}
-use Rattle.tk_frames.specs.Lists.{first_some}
-use Rattle.tk_shape.specs.Lengths.{turn_count}
+use Rattle.tk_words.specs.Words.{BookWords}
+pub use Rattle.tk_client.specs.declared.open_read.OpenRead.{OpenRead}
+use Rattle.tk_client.specs.Reader.{Reader, Target, new_reader, at_epoch, target, after_read}
+use Rattle.tk_client.specs.Writing.{Writing, new_writing}
+use Rattle.tk_client.specs.Asked.{shown_by}
+use Rattle.tk_client.specs.Searching.{AreBelow, IsTargetOrNone}
+use Rattle.tk_client.specs.declared.take_error.TakeError.{TakeError}
+use Rattle.tk_client.specs.Replies.{frames_in, answer_in, refusal}
 
--- a log that is followed: what its numbers gave so far, one for each number below the next, and how
--- many numbers from the next one on were asked for in vain in this epoch
-pub record Follow : Type 0 where
-  pub log : ℕ
-  pub got : List Got
-  pub tried : ℕ
-
--- the number that comes next
-abbrev pub next_of : Follow → ℕ
-next_of f = length f.got
-
--- the logs that are followed, the place among them where the next search begins, and the last epoch
--- read
-pub record Reader : Type 0 where
-  pub follows : List Follow
-  pub cursor : ℕ
-  pub last : ℕ
-
-abbrev pub new_follow : ℕ → Follow
-new_follow log = record { log = log; got = []; tried = 0 }
-
-abbrev pub new_reader : List ℕ → Reader
-new_reader logs = record { follows = map new_follow logs; cursor = 0; last = 0 }
-
--- which number of which log a read is for: the log's place among those followed, and how far ahead
--- of the next number it is
-pub record Target : Type 0 where
-  pub place : ℕ
-  pub log : ℕ
+-- a client by its number: what it has to write, what it knows as a reader, and the read that is
+-- open, if one is
+pub record ClientState : Type 0 where
+  pub shape : Shape
   pub number : ℕ
-  pub ahead : ℕ
+  pub writing : Writing
+  pub reader : Reader
+  pub read : Option OpenRead
 
-abbrev pub untried : Follow → Follow
-untried f = record f { tried = 0 }
-
--- a new epoch may show what the last one did not
-abbrev pub at_epoch : ℕ → Reader → Reader
-at_epoch e r =
-    cond (e == r.last) r
-    (record { follows = map untried r.follows; cursor = r.cursor; last = e })
-
--- how far ahead the number wanted of a log is: the least that is shown and not tried yet; without
--- reading ahead the next one
-abbrev pub wanted : Shape → (ℕ → ℕ → Bool) → Follow → Option ℕ
-wanted shape shown f =
-    cond (shape.ahead == 0)
-    (cond (nat_lt (next_of f) (turn_count shape)) (Some 0) None)
-    (find (λ j. nat_lt (next_of f + j) (turn_count shape) && shown f.log (next_of f + j))
-    (range_with_len f.tried (shape.ahead - f.tried)))
-
--- the log at a place of these
-abbrev pub follow_in : List Follow → ℕ → Follow
-follow_in follows i = slice_index_or follows i (new_follow 0)
-
-abbrev pub follow_at : Reader → ℕ → Follow
-follow_at r i = follow_in r.follows i
-
--- the number of a log that is so far ahead of the next one
-abbrev pub number_ahead : ℕ → Follow → ℕ → Target
-number_ahead place f j =
-    record { place = place; log = f.log; number = next_of f + j; ahead = j }
-
--- the number that is wanted of the log at a place of these, if one is
-abbrev pub target_in : Shape → (ℕ → ℕ → Bool) → List Follow → ℕ → Option Target
-target_in shape shown follows i =
-    option_map (number_ahead i (follow_in follows i)) (wanted shape shown (follow_in follows i))
-
--- the places from the cursor on, and then those before it
-abbrev pub places_from_cursor : Reader → List ℕ
-places_from_cursor r =
-    range_with_len r.cursor (length r.follows - r.cursor) ++ range_with_len 0 r.cursor
-
--- The first log, cyclically from the cursor, of which a number is wanted; none for a dummy read.
--- The reader is the one at the read's epoch, and shown says which numbers of which logs its filter
--- shows.
-unfoldable pub target : Shape → (ℕ → ℕ → Bool) → Reader → Option Target
-target shape shown r = first_some (target_in shape shown r.follows) (places_from_cursor r)
-
--- a log after a read of the number that is j ahead: found, it and those before it are settled
-abbrev pub follow_after : Shape → ℕ → Option (List ℕ) → Follow → Follow
-follow_after shape j (Some text) f =
-    record { log = f.log; got = f.got ++ replicate j Absent ++ Text text ∷ []; tried = 0 }
-follow_after shape j None f = cond (shape.ahead == 0) f (record f { tried = j + 1 })
-
--- the reader after a read and its answer; a dummy's answer is dropped
-unfoldable pub after_read : Shape → Reader → Option Target → Option (List ℕ) → Reader
-after_read shape r None answer = r
-after_read shape r (Some t) answer =
-    record r {
-      follows = slice_set r.follows t.place
-          (follow_after shape t.ahead answer (follow_at r t.place));
-      cursor = (t.place + 1) % length r.follows;
+-- a client that has said nothing and knows nothing
+abbrev pub new_client : Shape → ℕ → List ℕ → List ℕ → ClientState
+new_client shape number writes follows =
+    record {
+      shape = shape;
+      number = number;
+      writing = new_writing writes;
+      reader = new_reader follows;
+      read = None;
     }
+
+-- what a client's read over an epoch is for, where a filter with these marks shows what is worth
+-- reading
+abbrev pub target_over : BookWords → List Bool → ℕ → ClientState → Option Target
+target_over w marks e s = target s.shape (shown_by marks w) (at_epoch e s.reader)
+
+-- the client with a read open whose replies are awaited
+abbrev pub opened : ℕ → ℕ → Option Target → ClientState → ClientState
+opened g e t s = record s { read = Some (record { turn = g; epoch = e; target = t }) }
+
+-- the reader after the replies to the read that is open
+abbrev pub reader_after : Shape → BookWords → List (List ℕ) → Reader → Option OpenRead → Reader
+reader_after shape w replies r None = r
+reader_after shape w replies r (Some o) =
+    let answer = answer_in shape w (frames_in shape replies) o.target in
+    after_read shape (at_epoch o.epoch r) o.target answer
+
+-- the client after them: the read is open no longer
+abbrev pub after_replies : BookWords → List (List ℕ) → ClientState → ClientState
+after_replies w replies s =
+    record s { reader = reader_after s.shape w replies s.reader s.read; read = None }
+
+-- why replies to the read that is open are refused, if they are
+abbrev pub refusal_of : Shape → ℕ → List (List ℕ) → Option OpenRead → Option TakeError
+refusal_of shape number replies None = None
+refusal_of shape number replies (Some o) = refusal shape number o.turn o.epoch replies
+
+abbrev pub refusal_in : List (List ℕ) → ClientState → Option TakeError
+refusal_in replies s = refusal_of s.shape s.number replies s.read
+
+-- ---- what a client keeps
+
+-- a read that is open is for a number of one of so many logs, or for nothing
+abbrev pub IsOpenOrNone : Shape → ℕ → Option OpenRead → Type 0
+IsOpenOrNone shape count None = Unit {0}
+IsOpenOrNone shape count (Some o) = IsTargetOrNone shape count o.target
+
+-- the client is one of the shape's, and so are the logs that it follows
+pub record IsClient (shape outbox_shape : Shape) (number : ℕ) (reader : Reader)
+    (read : Option OpenRead) : Type 0 where
+  pub one_shape : outbox_shape ≡ shape
+  pub number_in : number < shape.clients
+  pub follows_in : AreBelow shape.logs reader.follows
+  pub read_in : IsOpenOrNone shape (length reader.follows) read

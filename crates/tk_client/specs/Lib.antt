@@ -1,10 +1,12 @@
-pub mod Client
+pub mod Reader
 pub mod Writing
 pub mod Writes
 pub mod Saying
 pub mod Outboxes
 pub mod Asked
-pub mod Readers
+pub mod Searching
+pub mod Positions
 pub mod Taken
 pub mod Replies
-pub mod State
+pub mod Client
+pub mod Laws

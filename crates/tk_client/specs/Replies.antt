@@ -13,7 +13,7 @@ use Rattle.tk_frames.specs.Faults.{first_fault, reply_checks}
 use Rattle.tk_frames.specs.Slots.{text_from}
 use Rattle.tk_client.specs.declared.take_error.TakeError.{TakeError}
 use Rattle.tk_client.specs.declared.take_error.TakeError.TheVariants as fault
-use Rattle.tk_client.specs.Client.{Target}
+use Rattle.tk_client.specs.Reader.{Target}
 
 -- ---- what replies give
 

@@ -1,16 +1,14 @@
-ghost use Rattle.std.specs.Prelude.{◌≡◌, ◌+◌, ◌-◌, ◌*◌, ◌<◌, ◌≤◌, length, map, slice_index_or};
+ghost use Rattle.std.specs.Prelude.{◌≡◌, ◌-◌, ◌*◌, ◌<◌, ◌≤◌, length, map, slice_index_or};
 ghost use Rattle.std.specs.Prelude.{ℕ, [], ◌++◌, IfSome, IfOk, OnOk, OnErr};
-ghost use Rattle.std.specs.Option.{option_map};
-ghost use Rattle.std.specs.List.{AllByRecursion, range_with_len};
+ghost use Rattle.std.specs.List.{range_with_len};
 ghost use Rattle.tk_shape.specs.Lengths.{turn_count, vector_len};
 ghost use Rattle.tk_kernel.specs.Pieces.{all_pieces};
 ghost use Rattle.tk_bits.specs.Shares.{shares};
-ghost use Rattle.tk_words.specs.Words.{words_of, fresh_pair, fresh_vectors};
-ghost use Rattle.tk_frames.specs.Ranges.{IsRead};
+ghost use Rattle.tk_words.specs.Words.{words_of, fresh_pair};
 ghost use Rattle.tk_frames.specs.Spelling.{read_frame};
-ghost use Rattle.tk_client.specs.Readers.{target_of};
-ghost use Rattle.tk_client.specs.Asked.{pair_for, frame_with, asked, AreWhole, IsPair};
+ghost use Rattle.tk_client.specs.Asked.{pair_for, frame_with, asked};
 
+use crate::open_read::OpenRead;
 use crate::target::Target;
 use std::alloc::Global;
 use tk_bits::share;
@@ -18,35 +16,27 @@ use tk_frames::{ReadFrame, encode_read};
 use tk_shape::{Bytes, Memory, Shape};
 use tk_words::Draws;
 
-/// What a client asks of every server in a turn, server by server. A read that is for nothing asks
+/// What a client asks of every server in a read, server by server. A read that is for nothing asks
 /// for buckets that are drawn, and otherwise as any other.
 pub(crate) fn read_frames<D: Draws>(
     alloc: Global,
     shape: &Shape,
     draws: &D,
     client: u32,
-    turn: u32,
-    epoch: u32,
-    target: Option<Target>,
+    read: OpenRead,
 ) -> Result<Vec<ReadFrame>, Memory>
     requires one_shape { D.shape draws.now ≡ shape.now }
     requires client_in { client < shape.now.clients }
-    requires turn_in { turn < turn_count shape.now }
-    requires log_in { IfSome target (λ t. t.log < shape.now.logs) }
-    requires number_in { IfSome target (λ t. t.number < turn_count shape.now) }
-    ensures frames { IfOk result (λ frames. frames.items ≡ asked
-        shape.now (D.book draws.now) turn client epoch (option_map target_of target)) }
-    ensures in_range { epoch ≤ shape.now.phases
-        → IfOk result (λ frames. AllByRecursion (IsRead shape.now) frames.items) }
-    ensures pair { let words = words_of shape.now (D.book draws.now) in
-        OnOk result (IsPair shape.now (pair_for words turn client (option_map target_of target))) }
-    ensures whole { OnOk result (AreWhole shape.now
-        (fresh_vectors shape.now (D.book draws.now) turn client)) }
+    requires turn_in { read.turn < turn_count shape.now }
+    requires log_in { IfSome read.target (λ t. t.log < shape.now.logs) }
+    requires number_in { IfSome read.target (λ t. t.number < turn_count shape.now) }
+    ensures { IfOk result (λ frames. frames.items
+        ≡ asked shape.now (D.book draws.now) read.turn client read.epoch read.target) }
 {
     let each = (shape.servers as usize - 1) * shape.vector_len() as usize;
     let mut drawn = vec![in alloc; 0u8; 2 * each]?;
-    let fresh = draws.fresh_read(client, turn, drawn.as_mut_slice());
-    let (first_bucket, second_bucket) = buckets(draws, target, fresh);
+    let fresh = draws.fresh_read(client, read.turn, drawn.as_mut_slice());
+    let (first_bucket, second_bucket) = buckets(draws, read.target, fresh);
     let (first, second) = drawn.as_slice().split_at(each);
     let first = all_shares(alloc, shape, first_bucket, first)?;
     let second = all_shares(alloc, shape, second_bucket, second)?;
@@ -54,8 +44,7 @@ pub(crate) fn read_frames<D: Draws>(
         alloc,
         shape,
         client,
-        turn,
-        epoch,
+        read,
         first.as_slice(),
         second.as_slice(),
     )
@@ -69,7 +58,7 @@ fn buckets<D: Draws>(draws: &D, target: Option<Target>, fresh: (u32, u32)) -> (u
     requires second_in { fresh.1 < (D.shape draws.now).buckets }
     ensures pair { (g c : ℕ) → fresh ≡ fresh_pair (D.shape draws.now) (D.book draws.now) g c
         → result ≡ pair_for (words_of (D.shape draws.now) (D.book draws.now)) g c
-        (option_map target_of target) }
+        target }
     ensures first_in { result.0 < (D.shape draws.now).buckets }
     ensures second_in { result.1 < (D.shape draws.now).buckets }
 {
@@ -101,23 +90,25 @@ fn frames_of(
     alloc: Global,
     shape: &Shape,
     client: u32,
-    turn: u32,
-    epoch: u32,
+    read: OpenRead,
     first: &[u8],
     second: &[u8],
 ) -> Result<Vec<ReadFrame>, Memory>
     requires first_long { length first.now ≡ shape.now.servers * vector_len shape.now }
     requires second_long { length second.now ≡ shape.now.servers * vector_len shape.now }
-    ensures { let size = vector_len shape.now in IfOk result (λ frames. frames.items ≡ map
-        (frame_with turn client epoch (all_pieces size first.now) (all_pieces size second.now))
+    ensures { let size = vector_len shape.now in
+        let firsts = all_pieces size first.now in
+        let seconds = all_pieces size second.now in
+        IfOk result (λ frames. frames.items
+        ≡ map (frame_with read.turn client read.epoch firsts seconds)
         (range_with_len 1 shape.now.servers)) }
 {
     let mut frames = Vec::new(alloc);
     for server in 1..shape.servers + 1 {
         frames.push(ReadFrame {
             client,
-            turn,
-            epoch,
+            turn: read.turn,
+            epoch: read.epoch,
             first: vector_of(alloc, shape, server, first)?,
             second: vector_of(alloc, shape, server, second)?,
         })?;

@@ -1,19 +1,19 @@
 ghost use Rattle.std.specs.Prelude.{◌≡◌, ◌+◌, ◌<◌, ◌≤◌, ◌++◌, ℕ, All, length, map, Some, None};
 ghost use Rattle.std.specs.Prelude.{IsSome, IfOk, IfErr, OnOk, OnErr};
 ghost use Rattle.std.specs.Option.{ForSome};
-ghost use Rattle.std.specs.List.{AllByRecursion};
 ghost use Rattle.std.specs.List.Sorted.{IsStrictlyIncreasing};
 ghost use Rattle.tk_shape.specs.Lengths.{turn_count};
-ghost use Rattle.tk_words.specs.Words.{words_of, fresh_vectors};
+ghost use Rattle.tk_words.specs.Words.{words_of};
 ghost use Rattle.tk_frames.specs.Spelling as spelling;
-ghost use Rattle.tk_frames.specs.Ranges.{IsRead, IsWrite};
+ghost use Rattle.tk_frames.specs.Ranges.{IsWrite};
 ghost use Rattle.tk_client.specs.Writing.{with_text, first_waiting, after_write};
 ghost use Rattle.tk_client.specs.Writes.{write_of};
 ghost use Rattle.tk_client.specs.Saying.{fault_of, IsRefusedFor};
-ghost use Rattle.tk_client.specs.Asked.{asked, pair_for, AreWhole, IsPair};
-ghost use Rattle.tk_client.specs.Readers.{got_in};
+ghost use Rattle.tk_client.specs.Asked.{asked};
+ghost use Rattle.tk_client.specs.Reader.{got_in};
 ghost use Rattle.tk_client.specs.Replies as replied;
-ghost use Rattle.tk_client.specs.State.{new_client, target_over, opened, after_replies, refusal_in};
+ghost use Rattle.tk_client.specs.Client.{new_client, target_over, opened, after_replies};
+ghost use Rattle.tk_client.specs.Client.{refusal_in};
 
 use crate::asking::{append_frames, read_frames};
 use crate::got::Got;
@@ -22,6 +22,7 @@ use crate::outbox::Outbox;
 use crate::reader::Reader;
 use crate::replies::answer_to;
 use crate::say_error::SayError;
+use crate::sight::Sight;
 use crate::take_error::TakeError;
 use std::alloc::Global;
 use std::marker::Model;
@@ -41,8 +42,7 @@ pub struct Client {
 }
 
 impl Model for Client {
-    ghost use Rattle.std.specs.Option.{option_map};
-    ghost use Rattle.tk_client.specs.State.{ClientState, IsClient, open_of};
+    ghost use Rattle.tk_client.specs.Client.{ClientState, IsClient};
 
     ghost Value = { ClientState };
 
@@ -51,11 +51,11 @@ impl Model for Client {
       number = c.number;
       writing = c.outbox.writing;
       reader = c.reader;
-      read = option_map open_of c.read;
+      read = c.read;
     } };
 
     ghost invariant = { λ c.
-        IsClient c.shape c.outbox.shape c.number c.reader (option_map open_of c.read) };
+        IsClient c.shape c.outbox.shape c.number c.reader c.read };
 }
 
 impl Client {
@@ -169,15 +169,7 @@ impl Client {
             let target = target_over words filter.now epoch self.old in
             OnOk result (out.new.items ≡ out.old.items ++ map spelling.read_frame
             (asked self.old.shape (D.book draws.now) turn self.old.number epoch target)) }
-        ensures in_range { let words = words_of self.old.shape (D.book draws.now) in
-            let target = target_over words filter.now epoch self.old in
-            OnOk result (AllByRecursion (IsRead self.old.shape)
-            (asked self.old.shape (D.book draws.now) turn self.old.number epoch target)) }
-        ensures pair { let words = words_of self.old.shape (D.book draws.now) in
-            let target = target_over words filter.now epoch self.old in
-            OnOk result (IsPair self.old.shape (pair_for words turn self.old.number target)) }
-        ensures whole { OnOk result (AreWhole self.old.shape
-            (fresh_vectors self.old.shape (D.book draws.now) turn self.old.number)) }
+        ensures number_in { self.old.number < self.old.shape.clients }
         ensures counted { OnOk result
             (length out.new.items ≡ length out.old.items + self.old.shape.servers) }
         ensures opened { let words = words_of self.old.shape (D.book draws.now) in
@@ -186,14 +178,20 @@ impl Client {
         ensures kept { OnErr result (self.new ≡ self.old) }
         ensures out_kept { OnErr result (out.new.items ≡ out.old.items) }
     {
-        let target = self.reader.target(&self.shape, draws, filter, epoch);
-        let frames = read_frames(alloc, &self.shape, draws, self.number, turn, epoch, target)?;
-        append_frames(alloc, frames.as_slice(), out)?;
-        self.read = Some(OpenRead {
+        let sight = Sight {
+            shape: &self.shape,
+            draws,
+            filter,
+        };
+        let target = self.reader.target(&sight, epoch);
+        let read = OpenRead {
             turn,
             epoch,
             target,
-        });
+        };
+        let frames = read_frames(alloc, &self.shape, draws, self.number, read)?;
+        append_frames(alloc, frames.as_slice(), out)?;
+        self.read = Some(read);
         Ok(())
     }
 

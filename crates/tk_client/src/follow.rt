@@ -6,14 +6,16 @@ ghost use Rattle.tk_shape.specs.declared.shape.Shape.{Shape};
 ghost use Rattle.tk_shape.specs.Lengths.{turn_count};
 ghost use Rattle.tk_words.specs.Words.{words_of};
 ghost use Rattle.tk_client.specs.declared.got.Got.TheVariants.{Absent, Text};
-ghost use Rattle.tk_client.specs.Client.{next_of, new_follow, wanted, follow_after};
+ghost use Rattle.tk_client.specs.Reader.{next_of, new_follow, wanted, follow_after};
 ghost use Rattle.tk_client.specs.Asked.{shown_by};
-ghost use Rattle.tk_client.specs.Readers.{follow_anew, is_wanted};
+ghost use Rattle.tk_client.specs.Positions.{IsOriginOrNone};
+ghost use Rattle.tk_client.specs.Searching.{follow_anew, is_wanted};
 
 use crate::got::Got;
+use crate::positions::Positions;
+use crate::sight::Sight;
 use std::alloc::Global;
 use std::marker::Model;
-use tk_bloom::Filter;
 use tk_shape::{Bytes, Memory, Shape};
 use tk_words::Draws;
 
@@ -26,10 +28,12 @@ pub(crate) struct Follow {
     got: Vec<Got>,
     /// How many numbers from the next one on were asked for in vain in this epoch.
     tried: u32,
+    /// The filter positions of those numbers that were looked at.
+    positions: Positions,
 }
 
 impl Model for Follow {
-    ghost use Rattle.tk_client.specs.Client.{Follow};
+    ghost use Rattle.tk_client.specs.Reader.{Follow};
 
     ghost Value = { Follow };
 
@@ -45,6 +49,7 @@ impl Follow {
             log,
             got: Vec::new(alloc),
             tried: 0,
+            positions: Positions::new(),
         }
     }
 
@@ -69,29 +74,26 @@ impl Follow {
 
     /// How far ahead of the next number the one is that is wanted. Where the epoch is a new one all
     /// numbers count as not tried yet.
-    pub(crate) fn wanted<D: Draws>(
-        &self,
-        shape: &Shape,
-        draws: &D,
-        filter: &Filter,
-        anew: bool,
-    ) -> Option<u32>
-        requires one_shape { D.shape draws.now ≡ shape.now }
-        requires log_in { self.now.log < shape.now.logs }
-        ensures wanted { let shown = shown_by filter.now (words_of shape.now (D.book draws.now)) in
-            result ≡ wanted shape.now shown (follow_anew anew self.now) }
-        ensures number_in { IfSome result (λ j. next_of self.now + j < turn_count shape.now) }
-        ensures ahead_in { IfSome result (λ j. j ≤ shape.now.ahead) }
+    pub(crate) fn wanted<D: Draws>(&mut self, sight: &Sight<D>, anew: bool) -> Option<u32>
+        requires log_in { self.old.log < sight.now.shape.now.logs }
+        ensures wanted { let shape = sight.now.shape.now in
+            let words = words_of shape (D.book sight.now.draws.now) in
+            let shown = shown_by sight.now.filter.now words in
+            result ≡ wanted shape shown (follow_anew anew self.old) }
+        ensures number_in { IfSome result
+            (λ j. next_of self.old + j < turn_count sight.now.shape.now) }
+        ensures ahead_in { IfSome result (λ j. j ≤ sight.now.shape.now.ahead) }
+        ensures same { self.new ≡ self.old }
     {
         let next = self.got.len();
-        if next >= shape.turns() as usize {
+        if next >= sight.shape.turns() as usize {
             return None;
         }
-        if shape.ahead == 0 {
+        if sight.shape.ahead == 0 {
             return Some(0);
         }
         let tried = self.tried(anew);
-        first_shown(shape, draws, filter, self.log, next as u32, tried)
+        first_shown(&mut self.positions, sight, self.log, next as u32, tried)
     }
 
     /// How many numbers from the next one on count as tried.
@@ -134,46 +136,49 @@ fn settled(alloc: Global, absent: u32, text: Bytes) -> Result<Vec<Got>, Memory>
     Ok(got)
 }
 
-/// How far ahead of the next number of a log the first one is that isn't tried yet and that the
-/// filter shows.
+/// How far ahead of the next number of a log the first one is that isn't tried yet and that is
+/// shown.
 fn first_shown<D: Draws>(
-    shape: &Shape,
-    draws: &D,
-    filter: &Filter,
+    positions: &mut Positions,
+    sight: &Sight<D>,
     log: u32,
     next: u32,
     tried: u32,
 ) -> Option<u32>
-    requires one_shape { D.shape draws.now ≡ shape.now }
-    requires log_in { log < shape.now.logs }
-    requires next_in { next < turn_count shape.now }
-    ensures first { let shown = shown_by filter.now (words_of shape.now (D.book draws.now)) in
-        result ≡ find (λ j. is_wanted shape.now shown log (next + j))
-        (range_with_len tried (shape.now.ahead - tried)) }
-    ensures number_in { IfSome result (λ j. next + j < turn_count shape.now) }
-    ensures ahead_in { IfSome result (λ j. j < shape.now.ahead) }
+    requires log_in { log < sight.now.shape.now.logs }
+    requires next_in { next < turn_count sight.now.shape.now }
+    ensures first { let shape = sight.now.shape.now in
+        let words = words_of shape (D.book sight.now.draws.now) in
+        let shown = shown_by sight.now.filter.now words in
+        result ≡ find (λ j. is_wanted shape shown log (next + j))
+        (range_with_len tried (shape.ahead - tried)) }
+    ensures number_in { IfSome result (λ j. next + j < turn_count sight.now.shape.now) }
+    ensures ahead_in { IfSome result (λ j. j < sight.now.shape.now.ahead) }
 {
-    for ahead in tried..shape.ahead {
-        if is_shown(shape, draws, filter, log, next + ahead) {
+    positions.turn_to(sight.shape, sight.draws, log);
+    for ahead in tried..sight.shape.ahead {
+        if is_shown(positions, sight, log, next + ahead) {
             return Some(ahead);
         }
     }
     None
 }
 
-/// Whether there is such a number, and the filter shows it.
-fn is_shown<D: Draws>(shape: &Shape, draws: &D, filter: &Filter, log: u32, number: u32) -> bool
-    requires one_shape { D.shape draws.now ≡ shape.now }
-    requires log_in { log < shape.now.logs }
-    ensures shown { let shown = shown_by filter.now (words_of shape.now (D.book draws.now)) in
-        result ≡ is_wanted shape.now shown log number }
-    ensures number_in { result ≡ true → number < turn_count shape.now }
+/// Whether there is such a number, and it is shown.
+fn is_shown<D: Draws>(positions: &mut Positions, sight: &Sight<D>, log: u32, number: u32) -> bool
+    requires log_in { log < sight.now.shape.now.logs }
+    requires ready { IsOriginOrNone sight.now.shape.now
+        (D.book sight.now.draws.now) log positions.old }
+    ensures shown { let shape = sight.now.shape.now in
+        let words = words_of shape (D.book sight.now.draws.now) in
+        let shown = shown_by sight.now.filter.now words in
+        result ≡ is_wanted shape shown log number }
+    ensures number_in { result ≡ true → number < turn_count sight.now.shape.now }
+    ensures same { positions.new ≡ positions.old }
 {
-    if number >= shape.turns() {
+    if number >= sight.shape.turns() {
         return false;
     }
-    let mut room = [0u32; 4];
-    let hits = &mut room[..shape.hits as usize];
-    draws.hits(log, number, hits);
-    filter.shows(hits)
+    let hits = positions.of(sight.shape, sight.draws, log, number);
+    sight.filter.shows(&hits[..sight.shape.hits as usize])
 }

@@ -7,13 +7,16 @@ mod client;
 mod follow;
 mod got;
 mod joining;
+mod laws;
 mod open_read;
 mod outbox;
+mod positions;
 mod reader;
 mod recording;
 mod replies;
 mod say_error;
 mod searching;
+mod sight;
 mod take_error;
 mod taking;
 mod target;
@@ -23,6 +26,7 @@ mod written;
 
 pub use client::Client;
 pub use got::Got;
+pub use laws::asked_in_range;
 pub use say_error::SayError;
 pub use take_error::TakeError;
 

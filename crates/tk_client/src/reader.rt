@@ -1,18 +1,19 @@
 ghost use Rattle.std.specs.Prelude.{◌≡◌, ◌==◌, ◌<◌, ◌≤◌, length, find, IfOk, IfSome, OnOk, OnErr};
-ghost use Rattle.std.specs.Option.{option_map, option_copied};
+ghost use Rattle.std.specs.Option.{option_copied};
 ghost use Rattle.tk_words.specs.Words.{words_of};
-ghost use Rattle.tk_client.specs.Client.{new_reader, at_epoch, target, after_read};
+ghost use Rattle.tk_client.specs.Reader.{new_reader, at_epoch, target, after_read};
 ghost use Rattle.tk_client.specs.Asked.{shown_by};
-ghost use Rattle.tk_client.specs.Readers.{target_of, got_in, AreBelow, IsTargetOrNone};
+ghost use Rattle.tk_client.specs.Reader.{got_in};
+ghost use Rattle.tk_client.specs.Searching.{AreBelow, IsTargetOrNone};
 
 use crate::follow::Follow;
 use crate::got::Got;
 use crate::recording::{record_answer, renew};
 use crate::searching::first_target;
+use crate::sight::Sight;
 use crate::target::Target;
 use std::alloc::Global;
 use std::marker::Model;
-use tk_bloom::Filter;
 use tk_shape::{Bytes, Memory, Shape};
 use tk_words::Draws;
 
@@ -29,7 +30,7 @@ pub(crate) struct Reader {
 
 impl Model for Reader {
     ghost use Rattle.std.specs.Prelude.{◌≤◌, length};
-    ghost use Rattle.tk_client.specs.Client.{Reader};
+    ghost use Rattle.tk_client.specs.Reader.{Reader};
 
     ghost Value = { Reader };
 
@@ -57,34 +58,23 @@ impl Reader {
     /// What a read over an epoch is for, where this filter shows what is worth reading: the first
     /// log from the cursor on, cyclically, of which a number is wanted; none for a read that is for
     /// nothing.
-    pub(crate) fn target<D: Draws>(
-        &self,
-        shape: &Shape,
-        draws: &D,
-        filter: &Filter,
-        epoch: u32,
-    ) -> Option<Target>
-        requires one_shape { D.shape draws.now ≡ shape.now }
-        requires follows_in { AreBelow shape.now.logs self.now.follows }
-        ensures target { let shown = shown_by filter.now (words_of shape.now (D.book draws.now)) in
-            option_map target_of result ≡ target shape.now shown (at_epoch epoch self.now) }
-        ensures in_range { let target = option_map target_of result in
-            IsTargetOrNone shape.now (length self.now.follows) target }
+    pub(crate) fn target<D: Draws>(&mut self, sight: &Sight<D>, epoch: u32) -> Option<Target>
+        requires follows_in { AreBelow sight.now.shape.now.logs self.old.follows }
+        ensures target { let shape = sight.now.shape.now in
+            let words = words_of shape (D.book sight.now.draws.now) in
+            let shown = shown_by sight.now.filter.now words in
+            result ≡ target shape shown (at_epoch epoch self.old) }
+        ensures in_range { IsTargetOrNone sight.now.shape.now (length self.old.follows) result }
+        ensures same { self.new ≡ self.old }
     {
         let anew = epoch != self.last;
-        let follows = self.follows.as_slice();
-        if let Some(target) = first_target(
-            shape,
-            draws,
-            filter,
-            follows,
-            anew,
-            self.cursor,
-            follows.len(),
-        ) {
+        let cursor = self.cursor;
+        let count = self.follows.len();
+        let follows = self.follows.as_mut_slice();
+        if let Some(target) = first_target(sight, follows, anew, cursor, count) {
             return Some(target);
         }
-        first_target(shape, draws, filter, follows, anew, 0, self.cursor)
+        first_target(sight, follows, anew, 0, cursor)
     }
 
     /// Takes the answer to a read over an epoch.
@@ -99,7 +89,7 @@ impl Reader {
         requires place_in { IfSome target (λ t. t.place < length self.old.follows) }
         requires ahead_in { IfSome target (λ t. t.ahead ≤ 8) }
         ensures taken { OnOk result (self.new
-            ≡ after_read shape.now (at_epoch epoch self.old) (option_map target_of target) answer) }
+            ≡ after_read shape.now (at_epoch epoch self.old) target answer) }
         ensures err { OnErr result (self.new ≡ self.old) }
     {
         let anew = epoch != self.last;

@@ -2,9 +2,9 @@
 ghost use Rattle.std.specs.Prelude.{◌≡◌, ◌+◌, ◌<◌, ◌≤◌, ◌^◌, length, map, slice_set, Some, None};
 ghost use Rattle.std.specs.Prelude.{OnOk, OnErr};
 ghost use Rattle.tk_shape.specs.declared.shape.Shape.{Shape};
-ghost use Rattle.tk_client.specs.Client.{untried, follow_after};
-ghost use Rattle.tk_client.specs.Client.{follow_in};
-ghost use Rattle.tk_client.specs.Readers.{follows_anew};
+ghost use Rattle.tk_client.specs.Reader.{untried, follow_after};
+ghost use Rattle.tk_client.specs.Reader.{follow_in};
+ghost use Rattle.tk_client.specs.Searching.{follows_anew};
 
 use crate::follow::Follow;
 use crate::target::Target;

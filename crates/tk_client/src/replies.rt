@@ -1,7 +1,6 @@
 //! The replies to a read: whether they are what was asked for, and the text that they give.
 ghost use Rattle.std.specs.Prelude.{◌≡◌, ◌≢◌, ◌<◌, ◌≤◌, length, None, IfSome, IfOk, IfErr, OnOk};
 ghost use Rattle.std.specs.Result.{result_err};
-ghost use Rattle.std.specs.Option.{option_map};
 ghost use Rattle.std.specs.List.{AllByRecursion};
 ghost use Rattle.tk_shape.specs.Lengths.{turn_count};
 ghost use Rattle.tk_words.specs.Words.{words_of};
@@ -9,7 +8,6 @@ ghost use Rattle.tk_frames.specs.declared.fault.FrameError.TheVariants as frame_
 ghost use Rattle.tk_frames.specs.Fields.{reply_in};
 ghost use Rattle.tk_frames.specs.Ranges.{IsReply};
 ghost use Rattle.tk_client.specs.declared.take_error.TakeError.TheVariants as fault;
-ghost use Rattle.tk_client.specs.Readers.{target_of};
 ghost use Rattle.tk_client.specs.Replies.{frames_in, answer_in, unread, first_unread, refusal};
 ghost use Rattle.tk_client.specs.Replies.{IsRefusedForOrMemory, IsPlain};
 ghost use Rattle.tk_client.specs.Replies.{other_number, other_name, first_other};
@@ -17,7 +15,7 @@ ghost use Rattle.tk_client.specs.Replies.{other_number, other_name, first_other}
 use crate::joining::joined;
 use crate::open_read::OpenRead;
 use crate::take_error::TakeError;
-use crate::taking::text_in_blocks;
+use crate::taking::{text_in_blocks, wanted_for};
 use crate::target::Target;
 use std::alloc::Global;
 use tk_frames::{FrameError, ReplyFrame, decode_reply};
@@ -38,8 +36,8 @@ pub(crate) fn answer_to<D: Draws>(
     requires log_in { IfSome read.target (λ t. t.log < shape.now.logs) }
     requires number_in { IfSome read.target (λ t. t.number < turn_count shape.now) }
     ensures answer { let words = words_of shape.now (D.book draws.now) in
-        let target = option_map target_of read.target in IfOk result (λ o. o ≡
-        answer_in shape.now words (frames_in shape.now replies.now) target) }
+        IfOk result (λ o. o ≡ answer_in shape.now words (frames_in shape.now replies.now)
+        read.target) }
     ensures may { OnOk result (refusal shape.now client read.turn read.epoch replies.now ≡ None) }
     ensures refused { IfErr result
         (IsRefusedForOrMemory (refusal shape.now client read.turn read.epoch replies.now)) }
@@ -147,19 +145,19 @@ fn answer_of<D: Draws>(
     requires log_in { IfSome target (λ t. t.log < shape.now.logs) }
     requires number_in { IfSome target (λ t. t.number < turn_count shape.now) }
     ensures { let words = words_of shape.now (D.book draws.now) in IfOk result (λ o.
-        o ≡ answer_in shape.now words replies.now (option_map target_of target)) }
+        o ≡ answer_in shape.now words replies.now target) }
 {
     let Some(target) = target else {
         return Ok(None);
     };
     let (first, second) = joined(alloc, shape, replies)?;
+    let wanted = wanted_for(shape, draws, target);
     text_in_blocks(
         alloc,
         shape,
         draws,
+        wanted,
         first.as_slice(),
         second.as_slice(),
-        target.log,
-        target.number,
     )
 }

@@ -2,52 +2,62 @@ ghost use Rattle.std.specs.Prelude.{◌≡◌, ◌+◌, ◌<◌, ◌≤◌, ◌+
 ghost use Rattle.std.specs.Option.{option_map};
 ghost use Rattle.tk_shape.specs.Lengths.{turn_count, slot_len, width};
 ghost use Rattle.tk_words.specs.Words.{words_of, opened};
-ghost use Rattle.tk_frames.specs.Fields.{number_at, long_at};
 ghost use Rattle.tk_frames.specs.Slots.{slot_from, slots_in, accepted, earliest, text_among};
-ghost use Rattle.tk_client.specs.Taken.{accepted_of, earlier_of_both};
+ghost use Rattle.tk_client.specs.Taken.{earlier_of_both};
 
+use crate::target::Target;
 use std::alloc::Global;
+use tk_frames::{u32_at, u64_at};
 use tk_shape::{Bytes, Memory, Shape};
 use tk_words::Draws;
 
 /// A number of a log, and its pair of buckets.
 #[derive(Clone, Copy, Debug)]
-struct Wanted {
-    log: u32,
-    number: u32,
-    pair: (u32, u32),
+pub(crate) struct Wanted {
+    pub log: u32,
+    pub number: u32,
+    pub pair: (u32, u32),
 }
 
-/// The text of a slot that is accepted, and the position that stands there.
-#[derive(Debug, Drop)]
-struct Accepted {
-    position: u64,
-    text: Bytes,
+/// The position that stands in a slot that is accepted, and its text.
+type Accepted = (u64, Bytes);
+
+/// What a read for a target looks for.
+pub(crate) fn wanted_for<D: Draws>(shape: &Shape, draws: &D, target: Target) -> Wanted
+    requires one_shape { D.shape draws.now ≡ shape.now }
+    requires log_in { target.log < shape.now.logs }
+    requires number_in { target.number < turn_count shape.now }
+    ensures { let words = words_of shape.now (D.book draws.now) in
+        let pair = words.pair target.log target.number in
+        result ≡ record { log = target.log; number = target.number; pair = pair } }
+{
+    Wanted {
+        log: target.log,
+        number: target.number,
+        pair: draws.pair(target.log, target.number),
+    }
 }
 
-/// The text of a number of a log in the blocks of its pair of buckets: of the slots whose buckets
-/// are the pair, in order, and whose block opens, the text of the one with the least position, and
-/// of equal ones of the first.
+/// The text of what is wanted in the blocks of its pair of buckets: of the slots whose buckets are
+/// the pair, in order, and whose block opens, the text of the one with the least position, and of
+/// equal ones of the first.
 pub(crate) fn text_in_blocks<D: Draws>(
     alloc: Global,
     shape: &Shape,
     draws: &D,
+    wanted: Wanted,
     first: &[u8],
     second: &[u8],
-    log: u32,
-    number: u32,
 ) -> Result<Option<Bytes>, Memory>
     requires one_shape { D.shape draws.now ≡ shape.now }
-    requires log_in { log < shape.now.logs }
-    requires number_in { number < turn_count shape.now }
+    requires log_in { wanted.log < shape.now.logs }
+    requires number_in { wanted.number < turn_count shape.now }
     requires first_whole { length first.now ≡ width shape.now }
     requires second_whole { length second.now ≡ width shape.now }
     ensures text { let words = words_of shape.now (D.book draws.now) in
-        IfOk result (λ o. o ≡ text_among (words.pair log number) (opened words log number)
+        IfOk result (λ o. o ≡ text_among wanted.pair (opened words wanted.log wanted.number)
         (slots_in shape.now first.now ++ slots_in shape.now second.now)) }
 {
-    let pair = draws.pair(log, number);
-    let wanted = Wanted { log, number, pair };
     let first = earliest_in(alloc, shape, draws, wanted, first)?;
     let second = earliest_in(alloc, shape, draws, wanted, second)?;
     Ok(text_of(earlier(first, second)))
@@ -67,7 +77,7 @@ fn earliest_in<D: Draws>(
     requires number_in { wanted.number < turn_count shape.now }
     requires whole { length block.now ≡ width shape.now }
     ensures earliest { let words = words_of shape.now (D.book draws.now) in
-        IfOk result (λ o. option_map accepted_of o ≡ earliest (filter_map
+        IfOk result (λ o. o ≡ earliest (filter_map
         (accepted wanted.pair (opened words wanted.log wanted.number))
         (slots_in shape.now block.now))) }
 {
@@ -81,12 +91,11 @@ fn earliest_in<D: Draws>(
 
 /// The earlier of two that may be there, and of two at one position the first.
 fn earlier(one: Option<Accepted>, other: Option<Accepted>) -> Option<Accepted>
-    ensures { option_map accepted_of result
-        ≡ earlier_of_both (option_map accepted_of one) (option_map accepted_of other) }
+    ensures { result ≡ earlier_of_both one other }
 {
     match (one, other) {
         (Some(one), Some(other)) => {
-            if one.position <= other.position {
+            if one.0 <= other.0 {
                 Some(one)
             } else {
                 Some(other)
@@ -98,9 +107,9 @@ fn earlier(one: Option<Accepted>, other: Option<Accepted>) -> Option<Accepted>
 }
 
 fn text_of(accepted: Option<Accepted>) -> Option<Bytes>
-    ensures { result ≡ option_map (λ x. x.1) (option_map accepted_of accepted) }
+    ensures { result ≡ option_map (λ x. x.1) accepted }
 {
-    Some(accepted?.text)
+    Some(accepted?.1)
 }
 
 /// What a slot gives, if it is accepted: it isn't empty, its buckets are the pair, in order, and
@@ -117,8 +126,8 @@ fn accepted_in<D: Draws>(
     requires number_in { wanted.number < turn_count shape.now }
     requires whole { length slot.now ≡ slot_len shape.now }
     ensures accepted { let words = words_of shape.now (D.book draws.now) in
-        IfOk result (λ o. option_map accepted_of o ≡
-        accepted wanted.pair (opened words wanted.log wanted.number) (slot_from slot.now)) }
+        let opens = opened words wanted.log wanted.number in
+        IfOk result (λ o. o ≡ accepted wanted.pair opens (slot_from slot.now)) }
 {
     let position = u64_at(slot, 0);
     if position == 0 {
@@ -128,7 +137,7 @@ fn accepted_in<D: Draws>(
         return Ok(None);
     }
     match opened_text(alloc, shape, draws, wanted, &slot[16..])? {
-        Some(text) => Ok(Some(Accepted { position, text })),
+        Some(text) => Ok(Some((position, text))),
         None => Ok(None),
     }
 }
@@ -153,26 +162,4 @@ fn opened_text<D: Draws>(
         Some(len) => Ok(Some(Bytes::from_slice(alloc, &room[..len])?)),
         None => Ok(None),
     }
-}
-
-/// The number of the four bytes from a place on.
-fn u32_at(bytes: &[u8], place: usize) -> u32
-    requires { place + 4 ≤ length bytes.now }
-    ensures { result ≡ number_at place bytes.now }
-{
-    let (_, rest) = bytes.split_at(place);
-    let (number, _) = rest.split_at(4);
-    u32::from_be_bytes([number[0], number[1], number[2], number[3]])
-}
-
-/// The number of the eight bytes from a place on.
-fn u64_at(bytes: &[u8], place: usize) -> u64
-    requires { place + 8 ≤ length bytes.now }
-    ensures { result ≡ long_at place bytes.now }
-{
-    let (_, rest) = bytes.split_at(place);
-    let (number, _) = rest.split_at(8);
-    u64::from_be_bytes([
-        number[0], number[1], number[2], number[3], number[4], number[5], number[6], number[7],
-    ])
 }

@@ -3,7 +3,7 @@ use Rattle.std.proofs.Common.{◌≡◌, ◌∙◌, ◌++◌, ℕ, List, ap, sym
 use Rattle.std.specs.Prelude.{Ok, Err, OnOk, length, slice_index_or, slice_set}
 use Rattle.tk_words.specs.Words.{words_of}
 use Rattle.tk_frames.specs.declared.entry.Placed.{Placed}
-use Rattle.tk_client.specs.State.{ClientState}
+use Rattle.tk_client.specs.Client.{ClientState}
 use Rattle.tk_cli.specs.Clients.{client_wrote}
 use Rattle.tk_cli.specs.Entries.{write_at}
 use Rattle.tk_cli.proofs.EntriesLaws.{write-placed, mark-placed}

@@ -5,7 +5,7 @@ use Rattle.std.specs.Prelude.{slice_index_or}
 use Rattle.tk_shape.specs.declared.shape.Shape.{Shape}
 use Rattle.tk_shape.specs.Lengths.{turn_count}
 use Rattle.tk_words.specs.Words.{words_of}
-use Rattle.tk_client.specs.State.{ClientState}
+use Rattle.tk_client.specs.Client.{ClientState}
 use Rattle.tk_cli.specs.Clients.{client_wrote, client_before}
 use Rattle.tk_cli.specs.Exchange.{read_answered, bytes_of}
 use Rattle.tk_cli.specs.Servers.{AreServers}

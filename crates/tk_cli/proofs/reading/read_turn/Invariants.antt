@@ -3,7 +3,7 @@ use Rattle.std.proofs.Common.{◌≡◌, ◌<◌, ◌≤◌, ◌+◌, ℕ, List,
 use Rattle.std.specs.Prelude.{slice_index_or}
 use Rattle.tk_words.specs.Words.{words_of}
 use Rattle.tk_frames.specs.Order.{Record}
-use Rattle.tk_client.specs.State.{ClientState}
+use Rattle.tk_client.specs.Client.{ClientState}
 use Rattle.tk_cli.specs.Clients.{client_wrote, client_before}
 use Rattle.tk_cli.specs.Servers.{AreServers}
 use Rattle.tk_cli.specs.Turns.{IsReadable, seen_of_reads}

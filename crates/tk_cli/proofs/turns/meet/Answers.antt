@@ -6,7 +6,7 @@ use Rattle.std.proofs.lemmas.List.{with_items_is}
 use Rattle.tk_shape.specs.declared.shape.Shape.{Shape}
 use Rattle.tk_words.specs.Words.{words_of}
 use Rattle.tk_frames.specs.Order.{records}
-use Rattle.tk_client.proofs.AskingLaws.{on_ok_then}
+use Rattle.std.proofs.lemmas.Result.{on_ok_weaker}
 use Rattle.tk_cli.specs.Clients.{AreClients, client_before, client_said}
 use Rattle.tk_cli.specs.Entries.{write_at}
 use Rattle.tk_cli.specs.Sendable.{HasPositions}
@@ -104,7 +104,7 @@ returns g c =
     c.apply_each.ensures.next (records E) (shown_after [] [] E) c.requires.run.notices.are
     in
     record {
-      run = on_ok_then c.apply_each.result
+      run = on_ok_weaker c.apply_each.result
           (λ are. record {
             said = c.in_ok-run.ensures.said;
             clients = subst (AreClients S.shape.clients (client_before S words H (turn + 1)))

@@ -1,14 +1,20 @@
 -- Servers that answered the reads of a turn may take its entries, and then stand before the next.
 use Rattle.std.proofs.Common.{◌++◌, ℕ, []}
+use Rattle.std.specs.Prelude.{Result, Ok, Err, OnOk}
 use Rattle.std.specs.List.{flat_map}
 use Rattle.tk_words.specs.Words.{words_of}
 use Rattle.tk_frames.specs.Order.{records}
 use Rattle.tk_frames.specs.Spelling.{placed_frame}
-use Rattle.tk_client.proofs.AskingLaws.{on_ok_always, on_ok_then}
+use Rattle.std.proofs.lemmas.Result.{on_ok_weaker}
 use Rattle.tk_cli.specs.Servers.{nothing_seen, shown_after}
 use Rattle.tk_cli.specs.Turns.{placed_before, seen_of_reads}
 use Rattle.tk_cli.proofs.TurnLaws.{servers-next, turn-seen, turn-readable}
 use Rattle.tk_cli.proofs.turns.serve_turn.Goals as goal
+
+-- what holds in any case holds with an answer
+always : {T E P : Type 0} (r : Result T E) → P → OnOk r P
+always (Ok x) p = p
+always (Err e) p = tt
 
 pub apply_all-requires : goal.apply_all-requires
 apply_all-requires g c =
@@ -55,7 +61,7 @@ returns-clause-servers g c =
     let took =
     c.apply_all.ensures S.shape (records E) shown seen answered c.requires.turn.may
     in
-    on_ok_then c.apply_all.result
+    on_ok_weaker c.apply_all.result
     (λ are. turn-seen S book H turn c.args.placed.now c.apply_all.new.servers
     c.requires.turn.entries
     (servers-next S words H turn c.args.placed.now seen c.apply_all.new.servers
@@ -75,5 +81,5 @@ returns-clause-clients g c =
     turn-readable S words H c.args.turn c.args.placed.now c.args.notices.now c.requires.turn
     c.requires.notices
     in
-    on_ok_always c.apply_all.result
+    always c.apply_all.result
     (c.in_ok-read_turn.ensures.clients (records E) shown entries_seen saw readable)

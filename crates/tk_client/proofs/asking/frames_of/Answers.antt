@@ -7,7 +7,7 @@ use Rattle.tk_client.proofs.asking.frames_of.Goals as goal
 pub loop-server-preserved : goal.loop-server-preserved
 loop-server-preserved c =
     let size = vector_len c.args.shape.now in
-    frames_more c.args.turn c.args.client c.args.epoch
+    frames_more c.args.read.turn c.args.client c.args.read.epoch
     (all_pieces size c.args.first.now) (all_pieces size c.args.second.now)
     c.loop-server.frames.items c.push.new.self.items c.loop-server.server
     c.in_ok-vector_of.field-0 c.in_ok-vector_of-2.field-0 c.loop-server.auto.server

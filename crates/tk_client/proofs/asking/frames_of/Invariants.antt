@@ -10,5 +10,7 @@ abbrev pub invariant-loop-server : goal.invariant-loop-server
 invariant-loop-server l =
     let size = vector_len l.shape in
     l.frames.items
-    ≡ map (frame_with l.turn l.client l.epoch (all_pieces size l.first) (all_pieces size l.second))
+    ≡ map
+    (frame_with l.read.turn l.client l.read.epoch
+    (all_pieces size l.first) (all_pieces size l.second))
     (range_with_len 1 (l.server - 1))

@@ -1,9 +1,9 @@
 -- A text settles its log, whether the logs were new before or after.
 use Rattle.std.proofs.Common.{◌∙◌, ap, sym, List, ℕ, Option}
 use Rattle.std.specs.Prelude.{slice_set}
-use Rattle.tk_client.specs.Client.{follow_after}
-use Rattle.tk_client.specs.Client.{follow_in}
-use Rattle.tk_client.specs.Readers.{follows_anew}
+use Rattle.tk_client.specs.Reader.{follow_after}
+use Rattle.tk_client.specs.Reader.{follow_in}
+use Rattle.tk_client.specs.Searching.{follows_anew}
 use Rattle.tk_client.proofs.ReaderLaws.{settled-anew}
 use Rattle.tk_client.proofs.recording.record_answer.Goals as goal
 

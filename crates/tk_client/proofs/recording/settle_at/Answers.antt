@@ -2,8 +2,8 @@
 use Rattle.std.proofs.Common.{◌∙◌, ap, Some}
 use Rattle.std.specs.Prelude.{slice_set}
 use Rattle.std.proofs.lemmas.List.{get_or_default}
-use Rattle.tk_client.specs.Client.{Follow, new_follow, follow_after}
-use Rattle.tk_client.proofs.AskingLaws.{on_ok_then}
+use Rattle.tk_client.specs.Reader.{Follow, new_follow, follow_after}
+use Rattle.std.proofs.lemmas.Result.{on_ok_weaker}
 use Rattle.tk_client.proofs.recording.settle_at.Goals as goal
 
 pub returns-clause-settled : goal.returns-clause-settled
@@ -12,7 +12,7 @@ returns-clause-settled c =
     let place = c.args.place in
     let was = c.index-follows-place.result in
     let same = get_or_default follows place was (new_follow 0) c.requires.place_in in
-    on_ok_then c.settle.result
+    on_ok_weaker c.settle.result
     (λ settled shape. ap (slice_set follows place)
     (settled shape
     ∙ ap (λ (f : Follow). follow_after shape c.args.ahead (Some c.args.text) f) same))

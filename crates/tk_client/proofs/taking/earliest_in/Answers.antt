@@ -1,10 +1,8 @@
 -- The loop takes the slots from the front of the block, until none is left.
 use Rattle.std.proofs.Common.{◌<◌, ◌∙◌, length, arith}
-use Rattle.std.specs.Option.{option_map}
 use Rattle.std.specs.Slice.Iter.{chunks_exact_rest}
 use Rattle.tk_shape.specs.Lengths.{slot_len}
 use Rattle.tk_words.specs.Words.{words_of, opened}
-use Rattle.tk_client.specs.Taken.{accepted_of}
 use Rattle.tk_client.proofs.TakingLaws.{given-next, given-all}
 use Rattle.tk_client.proofs.taking.earliest_in.Goals as goal
 
@@ -21,8 +19,8 @@ loop-slot-preserved g c =
           given-next c.args.shape.now wanted.pair opens c.args.block.now
           (chunks_exact_rest c.loop-slot.slot-iterator) c.in-Some.slot.now
           (chunks_exact_rest c.next.new.self)
-          (option_map accepted_of c.loop-slot.earliest) (option_map accepted_of c.in_ok-next.next)
-          (option_map accepted_of c.earlier-earliest.result)
+          c.loop-slot.earliest c.in_ok-next.next
+          c.earlier-earliest.result
           split (long ∙ so_far.size) c.in_ok-next.ensures.accepted c.earlier-earliest.ensures
           so_far.whole;
     }
@@ -39,5 +37,5 @@ returns g c =
     record {
       earliest =
           given-all c.args.shape.now wanted.pair opens c.args.block.now rest
-          (option_map accepted_of c.loop-slot.earliest) c.requires.whole short so_far.whole;
+          c.loop-slot.earliest c.requires.whole short so_far.whole;
     }

@@ -1,7 +1,7 @@
 -- The logs that are followed are the shape's.
 use Rattle.std.proofs.Common.{◌<◌}
 use Rattle.std.proofs.lemmas.List.Elements.{All-map}
-use Rattle.tk_client.specs.Client.{Follow, new_follow}
+use Rattle.tk_client.specs.Reader.{Follow, new_follow}
 use Rattle.tk_client.proofs.client.Client.open.Goals as goal
 
 pub invariant_of-result : goal.invariant_of-result

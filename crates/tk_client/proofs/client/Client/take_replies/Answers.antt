@@ -1,6 +1,6 @@
 -- The logs that are followed stay the shape's.
 use Rattle.std.proofs.Common.{length}
-use Rattle.tk_client.proofs.StateLaws.{below-after, open-target}
+use Rattle.tk_client.proofs.ClientLaws.{below-after, open-target}
 use Rattle.tk_client.proofs.client.Client.take_replies.Goals as goal
 
 pub invariant_of-self-2 : goal.invariant_of-self-2

@@ -3,14 +3,15 @@ use Rattle.std.proofs.Common.{sym, ◌≤◌, arith}
 use Rattle.tk_shape.specs.Lengths.{turn_count}
 use Rattle.tk_words.specs.Words.{words_of}
 use Rattle.tk_client.specs.Asked.{shown_by}
-use Rattle.tk_client.specs.Client.{next_of}
+use Rattle.tk_client.specs.Reader.{next_of}
 use Rattle.tk_client.proofs.FollowLaws.{wanted-settled, next-by-view}
 use Rattle.tk_client.proofs.follow.Follow.wanted.Goals as goal
 
-pub returns-then-next-turns : goal.returns-then-next-turns
-returns-then-next-turns g c =
-    let shape = c.args.shape.now in
-    let shown = shown_by c.args.filter.now (words_of shape (g.D.Draws.book c.args.draws.now)) in
+pub returns-then-next-turns-clause-wanted : goal.returns-then-next-turns-clause-wanted
+returns-then-next-turns-clause-wanted g c =
+    let shape = c.args.sight.now.shape.now in
+    let book = g.D.Draws.book c.args.sight.now.draws.now in
+    let shown = shown_by c.args.sight.now.filter.now (words_of shape book) in
     let f = c.args.self.now in
     let was = c.self.inside in
     let same = next-by-view was.log was.got.items was.tried f c.self.view_is in
@@ -24,8 +25,4 @@ returns-then-next-turns g c =
       c.self.inside.got.ok.0,
     )
     in
-    record {
-      wanted = sym (wanted-settled shape shown c.args.anew f settled);
-      number_in = tt;
-      ahead_in = tt;
-    }
+    sym (wanted-settled shape shown c.args.anew f settled)

@@ -2,7 +2,7 @@
 use Rattle.std.proofs.Common.{◌≡◌, ◌∙◌, sym, ap, Some, None}
 use Rattle.std.specs.Prelude.{◌==◌, find}
 use Rattle.std.specs.Option.{option_copied}
-use Rattle.tk_client.specs.Client.{Follow}
+use Rattle.tk_client.specs.Reader.{Follow}
 use Rattle.tk_client.proofs.ReaderLaws.{got_by, got-found}
 use Rattle.tk_client.proofs.reader.Reader.got.Goals as goal
 

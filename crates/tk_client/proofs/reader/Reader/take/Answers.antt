@@ -1,9 +1,9 @@
 -- The logs are as the answer has them, and the cursor stands behind the place.
 use Rattle.std.proofs.Common.{◌≡◌, ◌∙◌, ap, ◌+◌, ◌%◌, arith, rules, List, length}
 use Rattle.std.specs.Prelude.{◌==◌, not, slice_set}
-use Rattle.tk_client.specs.Client.{Follow, Reader, follow_after}
-use Rattle.tk_client.specs.Client.{follow_in}
-use Rattle.tk_client.specs.Readers.{target_of, follows_anew}
+use Rattle.tk_client.specs.Reader.{Follow, Reader, follow_after}
+use Rattle.tk_client.specs.Reader.{follow_in}
+use Rattle.tk_client.specs.Searching.{follows_anew}
 use Rattle.tk_client.proofs.AskingLaws.{written_back}
 use Rattle.tk_client.proofs.ReaderLaws.{after-nothing, after-target}
 use Rattle.tk_client.proofs.reader.Reader.take.Goals as goal
@@ -56,6 +56,6 @@ returns-clause-taken c =
     }
     in
     rw (← c.self.view_is, c.in-Some.is)
-    (after-target c.args.shape.now c.args.epoch r (target_of t) c.args.answer _
+    (after-target c.args.shape.now c.args.epoch r t c.args.answer _
     (ap with recorded ∙ ap (λ n. record behind { cursor = (t.place + 1) % n })
     (c.len.ensures ∙ counted)))

@@ -3,23 +3,22 @@ use Rattle.std.proofs.Common.{◌≡◌, refl, sym, subst, cond, true, false}
 use Rattle.std.proofs.Common.{ℕ, ◌+◌, ◌<◌}
 use Rattle.std.proofs.Common.{Option, Some, None, List, length, map}
 use Rattle.std.specs.Prelude.{◌==◌}
-use Rattle.std.specs.Option.{option_map}
 use Rattle.std.proofs.lemmas.List.{length-map}
 use Rattle.std.proofs.lemmas.List.Elements.{All-map, All-set}
 use Rattle.tk_shape.specs.declared.shape.Shape.{Shape}
-use Rattle.tk_client.specs.declared.open_read.OpenRead.{OpenRead as KeptRead}
-use Rattle.tk_client.specs.Client.{Follow, Reader, Target, new_follow, untried}
-use Rattle.tk_client.specs.Client.{follow_after, follow_at}
-use Rattle.tk_client.specs.Client.{at_epoch, after_read}
-use Rattle.tk_client.specs.Readers.{target_of, AreBelow, IsTargetOrNone}
-use Rattle.tk_client.specs.State.{open_of, IsOpenOrNone}
+use Rattle.tk_client.specs.declared.open_read.OpenRead.{OpenRead}
+use Rattle.tk_client.specs.Reader.{Follow, Reader, Target, new_follow, untried}
+use Rattle.tk_client.specs.Reader.{follow_after, follow_at}
+use Rattle.tk_client.specs.Reader.{at_epoch, after_read}
+use Rattle.tk_client.specs.Searching.{AreBelow, IsTargetOrNone}
+use Rattle.tk_client.specs.Client.{IsOpenOrNone}
 
 -- what the read is for that is kept
-pub open-target : (shape : Shape) (count : ℕ) (kept : Option KeptRead) (o : KeptRead) →
-    kept ≡ Some o → IsOpenOrNone shape count (option_map open_of kept) →
-    IsTargetOrNone shape count (option_map target_of o.target)
+pub open-target : (shape : Shape) (count : ℕ) (kept : Option OpenRead) (o : OpenRead) →
+    kept ≡ Some o → IsOpenOrNone shape count kept →
+    IsTargetOrNone shape count o.target
 open-target shape count kept o is target =
-    subst (λ (k : Option KeptRead). IsOpenOrNone shape count (option_map open_of k)) is target
+    subst (λ (k : Option OpenRead). IsOpenOrNone shape count k) is target
 
 -- ---- the logs of a reader stay below
 

@@ -1,0 +1,28 @@
+-- What holds of all that a client asks over a book that serves its shape.
+use Rattle.std.specs.Prelude.{ℕ, ◌<◌, ◌≤◌, Option}
+use Rattle.std.specs.List.{AllByRecursion}
+use Rattle.tk_shape.specs.declared.shape.Shape.{Shape}
+use Rattle.tk_shape.specs.Lengths.{turn_count}
+use Rattle.tk_words.specs.Words.{WordBook, IsBook, words_of, fresh_vectors}
+use Rattle.tk_frames.specs.Ranges.{IsRead}
+use Rattle.tk_client.specs.Reader.{Target}
+use Rattle.tk_client.specs.Asked.{pair_for, asked, AreWhole, IsPair}
+
+-- whatever a read is for, its frames are in range where its client, turn and epoch are
+abbrev pub AskedAreInRange : Type 0
+AskedAreInRange =
+    (shape : Shape) (b : WordBook) (g c e : ℕ) (t : Option Target) → IsBook shape b →
+    g < turn_count shape → c < shape.clients → e ≤ shape.phases →
+    AllByRecursion (IsRead shape) (asked shape b g c e t)
+
+-- the two buckets of a read, whatever it is for, are buckets of the table
+abbrev pub PairsAreInRange : Type 0
+PairsAreInRange =
+    (shape : Shape) (b : WordBook) (g c : ℕ) (t : Option Target) →
+    IsPair shape (pair_for (words_of shape b) g c t)
+
+-- the vectors that are drawn for a read have a bit for each bucket
+abbrev pub VectorsAreWhole : Type 0
+VectorsAreWhole =
+    (shape : Shape) (b : WordBook) (g c : ℕ) → IsBook shape b → g < turn_count shape →
+    c < shape.clients → AreWhole shape (fresh_vectors shape b g c)
