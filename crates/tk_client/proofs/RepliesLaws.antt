@@ -10,7 +10,7 @@ use Rattle.tk_frames.specs.declared.reply_frame.ReplyFrame.{ReplyFrame}
 use Rattle.tk_frames.specs.Spelling.{reply_frame}
 use Rattle.tk_frames.specs.Fields.{reply_in}
 use Rattle.tk_frames.specs.Ranges.{IsReply}
-use Rattle.tk_frames.proofs.Frames.{reply-again}
+use Rattle.tk_frames.proofs.Offers.{reply-again}
 use Rattle.tk_client.specs.declared.take_error.TakeError.{TakeError}
 use Rattle.tk_frames.specs.declared.fault.FrameError.{FrameError}
 use Rattle.tk_frames.specs.declared.fault.FrameError.TheVariants as frame_fault
@@ -19,7 +19,7 @@ use Rattle.tk_kernel.specs.Pieces.{AllSized}
 use Rattle.tk_kernel.specs.Xor.{xor_all}
 use Rattle.tk_kernel.proofs.Offers.{length-xor_all}
 use Rattle.tk_client.specs.declared.take_error.TakeError.TheVariants as fault
-use Rattle.tk_client.specs.Replies.{frames_in, unread, first_unread, other_name, first_other}
+use Rattle.tk_client.specs.Replies.{frames_in, unread, first_unread, first_other}
 use Rattle.tk_client.specs.Replies.{refusal, IsRefusedForOrMemory, IsPlain}
 
 -- the first of faults, one reply further
@@ -32,33 +32,6 @@ first_unread-here shape (r ∷ rs) zero server reply within is =
     ap (λ x. option_or (unread shape server x) (first_unread shape (server + 1) rs)) (sym is)
 first_unread-here shape (r ∷ rs) (suc i) server reply within is =
     first_unread-here shape rs i server reply (omega (arith, within)) is
-
-pub first_other-here : (c g e : ℕ) (replies : List ReplyFrame) (i : ℕ) (server : ℕ)
-    (reply : ReplyFrame) → i < length replies → reply ≡ get_or replies i reply →
-    first_other c g e server (drop i replies)
-    ≡ option_or (other_name c g e server reply)
-    (first_other c g e (server + 1) (drop (suc i) replies))
-first_other-here c g e [] i server reply within is = absurd (omega (arith, within))
-first_other-here c g e (r ∷ rs) zero server reply within is =
-    ap (λ x. option_or (other_name c g e server x) (first_other c g e (server + 1) rs)) (sym is)
-first_other-here c g e (r ∷ rs) (suc i) server reply within is =
-    first_other-here c g e rs i server reply (omega (arith, within)) is
-
-pub first_unread-none : (shape : Shape) (server : ℕ) (replies : List (List ℕ)) (i : ℕ) →
-    length replies ≤ i → first_unread shape server (drop i replies) ≡ None
-first_unread-none shape server [] zero past = refl
-first_unread-none shape server [] (suc i) past = refl
-first_unread-none shape server (r ∷ rs) zero past = absurd (omega (arith, past))
-first_unread-none shape server (r ∷ rs) (suc i) past =
-    first_unread-none shape server rs i (omega (arith, past))
-
-pub first_other-none : (c g e server : ℕ) (replies : List ReplyFrame) (i : ℕ) →
-    length replies ≤ i → first_other c g e server (drop i replies) ≡ None
-first_other-none c g e server [] zero past = refl
-first_other-none c g e server [] (suc i) past = refl
-first_other-none c g e server (r ∷ rs) zero past = absurd (omega (arith, past))
-first_other-none c g e server (r ∷ rs) (suc i) past =
-    first_other-none c g e server rs i (omega (arith, past))
 
 -- a fault of one is the first, where those before have none
 pub refused-first : (x y : Option TakeError) (found : Option TakeError) (e : TakeError) →

@@ -126,6 +126,7 @@ fn words_of_a_tape(rt: HostRuntime) -> Result<(), Fail> {
     let mut block = [9; 24];
     assert_eq!(rt; draws.fresh_write(1, 0, &mut hits, &mut block), (2, 2));
     assert!(rt; hits == [18] && block == [0x12; 24]);
+    assert!(rt; draws.hits_key(0).is_none());
     assert!(rt; matches!(&Book::Drawn(draws), Book::Drawn(_)));
     Ok(())
 }
@@ -154,6 +155,7 @@ fn words_of_keys(rt: HostRuntime) -> Result<(), Fail> {
         vectors: [0x18, 0x94],
     };
     gives(&rt, &draws, &shape, &given);
+    assert!(rt; draws.hits_key(0) == Some(Handle::from_root(7, &SECRET).seed2));
     assert!(rt; matches!(&Book::Keyed(draws), Book::Keyed(_)));
     one_text_seals();
     Ok(())
