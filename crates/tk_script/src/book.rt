@@ -29,6 +29,8 @@ impl Script {
         ensures words { IfOk result (λ book. words_in book ≡ book_from self.now.keys tape) }
         ensures whole { IfOk result (λ book. self.now.keys ≡ None →
             IsWholeTape self.now.shape tape) }
+        ensures drawn { (want got : ℕ) → result ≡ Err (error.Tape want got) →
+            self.now.keys ≡ None }
         ensures other { (want got : ℕ) → result ≡ Err (error.Tape want got) →
             IsOtherTape self.now.shape tape want got }
     {
