@@ -6,7 +6,7 @@ ghost use Rattle.std.specs.Int.{is_power_of_two};
 ghost use Rattle.std.specs.List.{AllByRecursion};
 ghost use Rattle.tk_choice.specs.Choice.{keyed_pair, keyed_hits};
 
-use tk_handle::{Handle, word};
+use tk_handle::{Handle, remainders, word};
 
 /// The two buckets of a number of a log: the first words of the number's streams under the handle's two seeds.
 pub fn pair(handle: &Handle, number: u32, buckets: u32) -> (u32, u32)
@@ -29,10 +29,7 @@ pub fn hits(handle: &Handle, number: u32, bits: u32, out: &mut [u32])
     ensures hits { out.new ≡ keyed_hits bits (length out.old) handle.now number }
     ensures hits_in { AllByRecursion (λ h. h < bits) out.new }
 {
-    let stream = u64::from(number);
-    'hits: for i in 0..out.len() {
-        out[i] = word(&handle.seed2, stream, 1 + i as u64) % bits;
-    }
+    remainders(&handle.seed2, u64::from(number), 1, bits, out);
 }
 
 #[cfg(test)]

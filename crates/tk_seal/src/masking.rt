@@ -29,9 +29,12 @@ pub fn unmask(pad: &[u8], masked: &[u8], out: &mut [u8]) -> Option<usize>
     requires room { length out.old + 2 ≡ length pad.now }
     requires short { length pad.now ≤ LONGEST_PAD }
     ensures found { IfSome result (λ n. n ≤ length out.new) }
-    ensures text { IfSome result (λ n. IsPlainForm (xor_bytes pad.now masked.now) (take n out.new)) }
-    ensures padded { IfSome result (λ n. out.new ≡ take n out.new ++ replicate (length out.new - n) 0) }
-    ensures none { IfNone result ((text : List ℕ) → ¬ (IsPlainForm (xor_bytes pad.now masked.now) text)) }
+    ensures text { IfSome result (λ n.
+        IsPlainForm (xor_bytes pad.now masked.now) (take n out.new)) }
+    ensures padded { IfSome result (λ n.
+        out.new ≡ take n out.new ++ replicate (length out.new - n) 0) }
+    ensures none { IfNone result
+        ((text : List ℕ) → ¬ (IsPlainForm (xor_bytes pad.now masked.now) text)) }
     ensures zeros { IfNone result (out.new ≡ replicate (length out.new) 0) }
 {
     let mut room = [0; LONGEST_PAD];

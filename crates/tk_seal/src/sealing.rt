@@ -28,8 +28,10 @@ pub fn open(handle: &Handle, number: u32, block: &[u8], out: &mut [u8]) -> Optio
     requires high { length block.now ≤ 1024 }
     requires room { length out.old + 18 ≡ length block.now }
     ensures found { IfSome result (λ n. n ≤ length out.new) }
-    ensures text { IfSome result (λ n. keyed_opened handle.now number block.now ≡ Some (take n out.new)) }
-    ensures padded { IfSome result (λ n. out.new ≡ take n out.new ++ replicate (length out.new - n) 0) }
+    ensures text { IfSome result (λ n.
+        keyed_opened handle.now number block.now ≡ Some (take n out.new)) }
+    ensures padded { IfSome result (λ n.
+        out.new ≡ take n out.new ++ replicate (length out.new - n) 0) }
     ensures none { IfNone result (keyed_opened handle.now number block.now ≡ None) }
     ensures zeros { IfNone result (out.new ≡ replicate (length out.new) 0) }
 {

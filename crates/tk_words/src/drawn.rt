@@ -124,7 +124,8 @@ impl Draws for DrawnDraws {
 
     ghost serves = { λ draws. draws.whole };
 
-    ghost opens_what_seals = { λ draws. opens_what_seals draws.shape (drawn draws.tape) draws.whole };
+    ghost opens_what_seals = { λ draws.
+        opens_what_seals draws.shape (drawn draws.tape) draws.whole };
 
     ghost opens_sealed = { λ draws. opens_sealed draws.shape (drawn draws.tape) draws.whole };
 }

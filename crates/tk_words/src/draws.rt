@@ -42,7 +42,8 @@ pub trait Draws: Sync {
         requires room { length out.old ≡ (shape self.now).block }
         requires allowed { IsTrue (is_allowed text.now) }
         requires fits { length text.now + 18 ≤ (shape self.now).block }
-        ensures { out.new ≡ sealed (words_of (shape self.now) (book self.now)) log number text.now };
+        ensures { out.new
+            ≡ sealed (words_of (shape self.now) (book self.now)) log number text.now };
 
     /// The length of the text that seals to a block, if there is one: `out` has it, and zeros behind it. With none `out` is zeros.
     fn open(&self, log: u32, number: u32, block: &[u8], out: &mut [u8]) -> Option<usize>
@@ -51,9 +52,13 @@ pub trait Draws: Sync {
         requires whole { length block.now ≡ (shape self.now).block }
         requires room { length out.old + 18 ≡ (shape self.now).block }
         ensures found { IfSome result (λ n. n ≤ length out.new) }
-        ensures text { IfSome result (λ n. opened (words_of (shape self.now) (book self.now)) log number block.now ≡ Some (take n out.new)) }
-        ensures padded { IfSome result (λ n. out.new ≡ take n out.new ++ replicate (length out.new - n) 0) }
-        ensures none { IfNone result (opened (words_of (shape self.now) (book self.now)) log number block.now ≡ None) }
+        ensures text { IfSome result (λ n.
+            opened (words_of (shape self.now) (book self.now)) log number block.now
+            ≡ Some (take n out.new)) }
+        ensures padded { IfSome result (λ n.
+            out.new ≡ take n out.new ++ replicate (length out.new - n) 0) }
+        ensures none { IfNone result
+            (opened (words_of (shape self.now) (book self.now)) log number block.now ≡ None) }
         ensures zeros { IfNone result (out.new ≡ replicate (length out.new) 0) };
 
     /// The two buckets, the filter positions and the block of a write that holds no text.
@@ -62,10 +67,13 @@ pub trait Draws: Sync {
         requires turn_in { turn < turn_count (shape self.now) }
         requires hits_room { length hits.old ≡ (shape self.now).hits }
         requires block_room { length block.old ≡ (shape self.now).block }
-        ensures first { result.0 ≡ (fresh_write (shape self.now) (book self.now) turn client).first }
-        ensures second { result.1 ≡ (fresh_write (shape self.now) (book self.now) turn client).second }
+        ensures first { result.0
+            ≡ (fresh_write (shape self.now) (book self.now) turn client).first }
+        ensures second { result.1
+            ≡ (fresh_write (shape self.now) (book self.now) turn client).second }
         ensures hits { hits.new ≡ (fresh_write (shape self.now) (book self.now) turn client).hits }
-        ensures block { block.new ≡ (fresh_write (shape self.now) (book self.now) turn client).block }
+        ensures block { block.new
+            ≡ (fresh_write (shape self.now) (book self.now) turn client).block }
         ensures first_in { result.0 < (shape self.now).buckets }
         ensures second_in { result.1 < (shape self.now).buckets }
         ensures hits_in { AllByRecursion (λ h. h < (shape self.now).filter_bits) hits.new };
@@ -75,7 +83,8 @@ pub trait Draws: Sync {
     fn fresh_read(&self, client: u32, turn: u32, vectors: &mut [u8]) -> (u32, u32)
         requires client_in { client < (shape self.now).clients }
         requires turn_in { turn < turn_count (shape self.now) }
-        requires room { length vectors.old ≡ 2 * ((shape self.now).servers - 1) * vector_len (shape self.now) }
+        requires room { length vectors.old
+            ≡ 2 * ((shape self.now).servers - 1) * vector_len (shape self.now) }
         ensures pair { result ≡ fresh_pair (shape self.now) (book self.now) turn client }
         ensures vectors { vectors.new ≡ flat_map (λ v. v) (fresh_vectors (shape self.now) (book self.now) turn client).first
             ++ flat_map (λ v. v) (fresh_vectors (shape self.now) (book self.now) turn client).second }
@@ -86,8 +95,10 @@ pub trait Draws: Sync {
     ghost serves: { (draws : Self) → IsBook (shape draws) (book draws) };
 
     // A block opens to the text that is allowed, fits and seals to it, and to no other.
-    ghost opens_what_seals: { (draws : Self) → OpensWhatSeals (shape draws) (words_of (shape draws) (book draws)) };
+    ghost opens_what_seals: { (draws : Self)
+        → OpensWhatSeals (shape draws) (words_of (shape draws) (book draws)) };
 
     // What a text was sealed to opens to it.
-    ghost opens_sealed: { (draws : Self) → OpensSealed (shape draws) (words_of (shape draws) (book draws)) };
+    ghost opens_sealed: { (draws : Self)
+        → OpensSealed (shape draws) (words_of (shape draws) (book draws)) };
 }

@@ -1,9 +1,8 @@
-ghost use Rattle.std.specs.Prelude.{◌≡◌, ◌+◌, ◌*◌, ◌%◌, ◌<◌, ◌≤◌, length, map};
-ghost use Rattle.std.specs.List.{range_with_len, AllByRecursion};
+ghost use Rattle.std.specs.Prelude.{◌≡◌, ◌+◌, ◌*◌, ◌%◌, ◌<◌, ◌≤◌, length};
 ghost use Rattle.tk_handle.specs.Handle.{word};
 
 use crate::Draws;
-use tk_handle::{Handle, fill, word};
+use tk_handle::{Handle, fill, remainders};
 use tk_shape::Shape;
 
 /// The words of keys: each log's handle, and each client's seed.
@@ -85,7 +84,7 @@ impl Draws for KeyedDraws {
     ) -> (u32, u32) {
         let seed = self.seed(client);
         let stream = 2 * u64::from(turn);
-        write_hits(seed, stream, self.shape.filter_bits, hits);
+        remainders(seed, stream, 2, self.shape.filter_bits, hits);
         fill(seed, stream, 16, block);
         stream_pair(seed, stream, self.shape.buckets)
     }
@@ -99,9 +98,13 @@ impl Draws for KeyedDraws {
 
     ghost serves = { λ draws. (draws.handle_each, draws.seed_each) };
 
-    ghost opens_what_seals = { λ draws. opens_what_seals draws.shape (keyed draws.handles.items draws.seeds.items) (draws.handle_each, draws.seed_each) };
+    ghost opens_what_seals = { λ draws.
+        opens_what_seals draws.shape (keyed draws.handles.items draws.seeds.items)
+        (draws.handle_each, draws.seed_each) };
 
-    ghost opens_sealed = { λ draws. opens_sealed draws.shape (keyed draws.handles.items draws.seeds.items) (draws.handle_each, draws.seed_each) };
+    ghost opens_sealed = { λ draws.
+        opens_sealed draws.shape (keyed draws.handles.items draws.seeds.items)
+        (draws.handle_each, draws.seed_each) };
 }
 
 // The two buckets at the front of a stream.
@@ -111,20 +114,7 @@ fn stream_pair(seed: &[u8; 32], stream: u64, buckets: u32) -> (u32, u32)
     ensures first_in { result.0 < buckets }
     ensures second_in { result.1 < buckets }
 {
-    (
-        word(seed, stream, 0) % buckets,
-        word(seed, stream, 1) % buckets,
-    )
-}
-
-// The filter positions behind them.
-fn write_hits(seed: &[u8; 32], stream: u64, bits: u32, out: &mut [u32])
-    requires some { 0 < bits }
-    requires few { length out.old ≤ 4 }
-    ensures hits { out.new ≡ map (λ i. word seed.now stream i % bits) (range_with_len 2 (length out.old)) }
-    ensures hits_in { AllByRecursion (λ h. h < bits) out.new }
-{
-    'hits: for i in 0..out.len() {
-        out[i] = word(seed, stream, 2 + i as u64) % bits;
-    }
+    let mut pair = [0; 2];
+    remainders(seed, stream, 0, buckets, &mut pair);
+    (pair[0], pair[1])
 }

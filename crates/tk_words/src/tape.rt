@@ -28,7 +28,8 @@ impl Tape {
     pub fn from_bytes(shape: &Shape, bytes: Vec<u8>) -> Result<Tape, TapeError>
         ensures whole { IsOk result ↔ (length bytes.items ≡ tape_len shape.now) }
         ensures found { IfOk result (λ t. t ≡ bytes.items) }
-        ensures refused { IfErr result (λ e. (e.want ≡ tape_len shape.now) × (e.got ≡ length bytes.items)) }
+        ensures refused { IfErr result (λ e.
+            (e.want ≡ tape_len shape.now) × (e.got ≡ length bytes.items)) }
     {
         let want = shape.tape_len();
         let got = bytes.len() as u64;

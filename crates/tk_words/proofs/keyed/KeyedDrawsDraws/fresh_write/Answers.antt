@@ -17,7 +17,7 @@ returns-clause-second c =
 pub returns-clause-hits : goal.returns-clause-hits
 unfolding fresh_write
 returns-clause-hits c =
-    c.write_hits.ensures.hits
+    c.remainders.ensures.words
     ∙ ap (λ k. map (λ i. word c.seed-seed.result.now (2 * c.from-stream.result) i % c.args.self.now.shape.filter_bits) (range_with_len 2 k)) c.requires.hits_room
     ∙ ap₂ (λ s n. (keyed_write c.args.self.now.shape s n).hits) c.seed-seed.ensures c.from-stream.ensures
 
