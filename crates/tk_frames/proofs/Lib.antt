@@ -16,4 +16,3 @@ pub mod Spellings
 pub mod WriteFields
 pub mod Each
 pub mod Members
-pub mod Offers
