@@ -11,7 +11,7 @@ use Rattle.tk_schedule.specs.Schedule.{IsLegal, is_mark, marks_due, phases_over,
 use Rattle.tk_frames.specs.declared.write_frame.WriteFrame.{WriteFrame}
 use Rattle.tk_frames.specs.declared.entry.Placed.{Placed}
 use Rattle.tk_frames.specs.Order.{is_mark_entry, before}
-use Rattle.tk_frames.proofs.Marks.{before-settled}
+use Rattle.tk_frames.proofs.Offers.{before-settled}
 use Rattle.tk_schedule.specs.declared.item.Item.{Item}
 use Rattle.tk_schedule.specs.declared.item.Item.TheVariants.{Client, Publish}
 use Rattle.tk_cli.specs.Entries.{placed_after, entries_before}

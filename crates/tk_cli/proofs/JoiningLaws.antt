@@ -11,7 +11,7 @@ use Rattle.tk_kernel.specs.Xor.{xor_all}
 use Rattle.tk_kernel.specs.Pieces.{AllSized}
 use Rattle.tk_kernel.specs.Chosen.{chosen_sum}
 use Rattle.tk_bits.specs.Shares.{shares}
-use Rattle.tk_bits.proofs.Wanted.{answers_join}
+use Rattle.tk_bits.proofs.Offers.{answers_join}
 use Rattle.tk_words.specs.Words.{WordBook, words_of, fresh_vectors}
 use Rattle.tk_frames.specs.declared.reply_frame.ReplyFrame.{ReplyFrame}
 use Rattle.tk_frames.specs.Order.{Record}

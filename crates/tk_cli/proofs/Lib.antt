@@ -4,6 +4,7 @@ pub mod OrderLaws
 pub mod EntriesLaws
 pub mod WritingLaws
 pub mod SerialLaws
+pub mod ErrorLaws
 pub mod EndingLaws
 pub mod SayOrder
 pub mod CountLaws
@@ -21,6 +22,7 @@ pub mod TapLaws
 pub mod PlacedLaws
 pub mod RetainedLaws
 pub mod PassingOverLaws
+pub mod PlaceLaws
 pub mod PrivateReadLaws
 pub mod TurnLaws
 pub mod ReadingLaws

@@ -11,7 +11,7 @@ use Rattle.tk_frames.specs.declared.entry.Placed.{Placed}
 use Rattle.tk_frames.specs.declared.entry.Entry.{Entry}
 use Rattle.tk_frames.specs.declared.entry.Entry.TheVariants.{Write, Mark}
 use Rattle.tk_frames.specs.Order.{records, before, has_mark, is_mark_of, is_mark_entry}
-use Rattle.tk_frames.proofs.Marks.{before-settled, before-marked}
+use Rattle.tk_frames.proofs.Offers.{before-settled, before-marked}
 use Rattle.tk_cli.specs.Orders.{AreEnds, ArePlacedFrom}
 use Rattle.tk_cli.specs.Entries.{placed_from, placed_after}
 

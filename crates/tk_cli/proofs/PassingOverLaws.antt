@@ -39,29 +39,35 @@ use Rattle.tk_cli.proofs.RetainedLaws.{not_shown-not_retained, not_found-not_ret
 
 -- ---- the number that is wanted
 
--- a number from a on that passes, and none before it does
-record IsFirst (test : ℕ → Bool) (a j : ℕ) : Type 0 where
+-- of n numbers from a on, one that passes, and none before it does
+record IsFirst (test : ℕ → Bool) (a n j : ℕ) : Type 0 where
   passes : test j ≡ true
+  above : a ≤ j
+  within : j < a + n
   fail_before : (i : ℕ) → a ≤ i → i < j → test i ≡ false
 
 some_inj : {X : Type 0} (a b : X) → Some a ≡ Some b → a ≡ b
 some_inj a b e = cc e
 
 find-first : (test : ℕ → Bool) (a n j : ℕ) → find test (range_with_len a n) ≡ Some j →
-    IsFirst test a j
+    IsFirst test a n j
 find-first test a zero j e = absurd (cc e)
 find-first test a (suc n) j e =
     elim (test a)
     as (λ b. test a ≡ b → cond b (Some a) (find test (range_with_len (a + 1) n)) ≡ Some j →
-    IsFirst test a j) [
+    IsFirst test a (suc n) j) [
       | true ↦ λ hit here. let same = some_inj a j here in
           record {
             passes = subst (λ k. test k ≡ true) same hit;
+            above = omega (arith, same);
+            within = omega (arith, same);
             fail_before = λ i low high. absurd (omega (arith, low, high, same));
           }
       | false ↦ λ miss later. let behind = find-first test (a + 1) n j later in
           record {
             passes = behind.passes;
+            above = let above = behind.above in omega (arith, above);
+            within = let below = behind.within in omega (arith, below);
             fail_before = λ i low high. elim (cases_lt a i) [
               | inl above ↦ behind.fail_before i (omega (arith, above)) high
               | inr below ↦
@@ -71,9 +77,18 @@ find-first test a (suc n) j e =
           }
     ] refl e
 
--- the number is one of the run, and those before it were tried already or aren't shown
+-- a number that is found from tried on
+reached-ahead : (tried ahead j : ℕ) → tried ≤ j → j < tried + (ahead - tried) → 1 ≤ j → j < ahead
+reached-ahead tried ahead j low within some = elim (cases_lt tried ahead) [
+  | inl less ↦ omega (arith, less, within)
+  | inr past ↦ absurd (omega (arith, past, within, low))
+]
+
+-- the number is one of the run, the next one or one that reading ahead reaches, and those before it
+-- were tried already or aren't shown
 record IsWanted (shape : Shape) (shown : ℕ → ℕ → Bool) (f : Follow) (j : ℕ) : Type 0 where
   in_run : next_of f + j < turn_count shape
+  reached : 1 ≤ j → j < shape.ahead
   earlier : (i : ℕ) → i < j → (i < f.tried) ⊎ (shown f.log (next_of f + i) ≡ false)
 
 wanted-next : (n count j : ℕ) → cond (nat_lt n count) (Some 0) None ≡ Some j →
@@ -100,6 +115,7 @@ wanted-is shape shown f j e =
       | true ↦ λ next. let is = wanted-next n (turn_count shape) j next in
           record {
             in_run = omega (arith, is.0, is.1);
+            reached = λ some. absurd (omega (arith, some, is.1));
             earlier = λ i low. absurd (omega (arith, low, is.1));
           }
       | false ↦ λ found.
@@ -108,6 +124,7 @@ wanted-is shape shown f j e =
           let low = ltb-true (n + j) (turn_count shape) both.0 in
           record {
             in_run = low;
+            reached = reached-ahead f.tried shape.ahead j first.above first.within;
             earlier = λ i less. elim (cases_lt i f.tried) [
               | inl tried ↦ inl tried
               | inr not_tried ↦
@@ -210,6 +227,7 @@ passed-more S w H c log got more s p =
       in_run = p.in_run;
       reads = p.reads;
       not_retained = p.not_retained;
+      two_ahead = p.two_ahead;
     }
 
 -- ---- a log that is followed
@@ -284,6 +302,7 @@ record IsReadOf (S : Script) (w : BookWords) (H : History) (c g j : ℕ) (f : Fo
   of_log : target.log ≡ f.log
   of_number : target.number ≡ next_of f + j
   number_in : next_of f + j < turn_count S.shape
+  reached : 1 ≤ j → j < S.shape.ahead
   earlier : (i : ℕ) → i < j → IsNotRetained S w (read_over S w H g c) f.log (next_of f + i)
 
 -- a number before the one that was found is rightly passed over
@@ -311,6 +330,7 @@ passed-now S w H c g j i f text read found less =
         answer = found;
       };
       not_retained = read.earlier i less;
+      two_ahead = let low = read.reached (omega (arith, less)) in omega (arith, less, low);
     }
   where
     absent-at : (k : ℕ) → next_of f ≤ k → k < next_of f + j →
@@ -421,6 +441,7 @@ read-of S w H c g r t in_run asks is honest =
       of_log = is.of_log;
       of_number = is.of_number;
       number_in = wants.in_run;
+      reached = wants.reached;
       earlier = λ i less. elim (wants.earlier i less) [
         | inl tried ↦ honest.tried i tried
         | inr hidden ↦

@@ -17,7 +17,7 @@ use Rattle.tk_frames.specs.declared.entry.Placed.{Placed}
 use Rattle.tk_frames.specs.declared.entry.Entry.{Entry}
 use Rattle.tk_frames.specs.declared.entry.Entry.TheVariants.{Write, Mark}
 use Rattle.tk_frames.specs.Order.{Record, record_at, record_in, records, before, is_mark_entry}
-use Rattle.tk_frames.proofs.Marks.{before-none, before-settled, before-marked}
+use Rattle.tk_frames.proofs.Offers.{before-none, before-settled, before-marked}
 use Rattle.tk_table.specs.Ordered.{AscendFrom, HasBuckets, AreOrdered}
 use Rattle.tk_cli.specs.Entries.{placed_from, entries_before}
 use Rattle.tk_cli.specs.Orders.{AreEnds}

@@ -1,95 +1,38 @@
--- What taps gained, call after call, and what servers gave to them.
+-- What servers gave to their taps.
 use Rattle.std.proofs.Common.{◌≡◌, ◌≢◌, refl, ap, sym, subst, ◌∙◌, arith, inl, inr}
 use Rattle.std.proofs.Common.{ℕ, zero, suc, ◌+◌, ◌-◌, ◌<◌, ◌≤◌, ◌⊎◌}
 use Rattle.std.proofs.Common.{List, [], ◌∷◌, ◌++◌, length, take, set, append_assoc, append-nil}
 use Rattle.std.specs.Prelude.{Option, Some, None, slice_index_or}
 use Rattle.std.proofs.lemmas.Bool.{cases_lt}
 use Rattle.std.proofs.lemmas.Grind.{get_or-set_at}
-use Rattle.std.proofs.lemmas.List.{take_all, take-append-le, get_or-set_other, length-set}
+use Rattle.std.proofs.lemmas.List.{get_or-set_other, length-set}
 use Rattle.tk_shape.specs.declared.shape.Shape.{Shape}
 use Rattle.tk_frames.specs.Order.{Record}
 use Rattle.tk_io.specs.Content.{gained}
+use Rattle.tk_io.specs.Tapped.{GainsFront, TapsGain, TapsGainFronts}
+use Rattle.tk_io.proofs.Offers.{gained-nothing, front-of_all}
 use Rattle.tk_cli.specs.declared.server.Server.{Server}
 use Rattle.tk_cli.specs.Servers.{IsServer, AreServers, nothing_seen}
-use Rattle.tk_cli.specs.Tapped.{GainsFront, TapsGain, TapsGainFronts}
 
--- ---- one tap
-
-abbrev Tap : Type 0
-Tap = Option (List ℕ)
-
-pub gained-twice : (t : Tap) (a b : List ℕ) → gained (gained t a) b ≡ gained t (a ++ b)
-gained-twice None a b = refl
-gained-twice (Some held) a b = ap {B = Tap} Some (append_assoc held a b)
-
-pub gained-nothing : (t : Tap) → gained t [] ≡ t
-gained-nothing None = refl
-gained-nothing (Some held) = ap {B = Tap} Some (append-nil held)
-
--- all of it is a front of it
-pub front-of_all : (t u : Tap) (a : List ℕ) → u ≡ gained t a → GainsFront t u a
-front-of_all t u a all =
-    (length a, all ∙ ap (gained t) (sym (take_all (length a) a (omega arith))))
-
-front_longer : (n : ℕ) (a b : List ℕ) → (m : ℕ) × (take n a ≡ take m (a ++ b))
-front_longer n a b =
-    elim (cases_lt (length a) n) [
-      | inl past ↦ (
-        length a,
-        take_all n a (omega (arith, past)) ∙ sym (take_all (length a) a (omega arith))
-            ∙ sym (take-append-le (length a) a b (omega arith)),
-      )
-      | inr within ↦ (n, sym (take-append-le n a b within))
-    ]
-
--- a front of what comes first is a front of both
-pub front-of_first : (t u : Tap) (a b : List ℕ) → GainsFront t u a → GainsFront t u (a ++ b)
-front-of_first t u a b front =
-    let longer = front_longer front.0 a b in
-    (longer.0, front.1 ∙ ap (gained t) longer.1)
-
-take_past : (a : List ℕ) (m n : ℕ) (b : List ℕ) → m ≡ length a + n →
-    take m (a ++ b) ≡ a ++ take n b
-take_past [] m n b here = ap (λ (k : ℕ). take k b) (omega (arith, here))
-take_past (x ∷ a) zero n b here = absurd (omega (arith, here))
-take_past (x ∷ a) (suc m) n b here =
-    ap (λ (xs : List ℕ). x ∷ xs) (take_past a m n b (omega (arith, here)))
-
--- a front of what comes second, where the first is there
-pub front-of_second : (t u v : Tap) (a b : List ℕ) → u ≡ gained t a → GainsFront u v b →
-    GainsFront t v (a ++ b)
-front-of_second t u v a b first front =
-    let n = front.0 in (
-      length a + n,
-      front.1 ∙ ap (λ (w : Tap). gained w (take n b)) first
-          ∙ gained-twice t a (take n b)
-          ∙ ap (gained t) (sym (take_past a (length a + n) n b refl)),
-    )
-
--- ---- all taps
+-- ---- taps that gain nothing
 
 abbrev Bytes : Type 0
 Bytes = ℕ → List ℕ
 
+abbrev Tap : Type 0
+Tap = Option (List ℕ)
+
 abbrev AllTaps : Type 0
 AllTaps = ℕ → Tap
 
-pub taps-twice : (n : ℕ) (a b : Bytes) (t u v : AllTaps) → TapsGain n a t u → TapsGain n b u v →
-    TapsGain n (λ j. a j ++ b j) t v
-taps-twice n a b t u v first second j low high =
-    second j low high ∙ ap (λ (w : Tap). gained w (b j)) (first j low high)
-    ∙ gained-twice (t j) (a j) (b j)
+take_none : (bytes : List ℕ) → take 0 bytes ≡ []
+take_none [] = refl
+take_none (x ∷ bytes) = refl
 
-pub fronts-of_all : (n : ℕ) (a : Bytes) (t u : AllTaps) → TapsGain n a t u → TapsGainFronts n a t u
-fronts-of_all n a t u all j low high = front-of_all (t j) (u j) (a j) (all j low high)
-
--- what bytes give for the taps alone matters
-abbrev SameBytes : ℕ → Bytes → Bytes → Type 0
-SameBytes n a b = (j : ℕ) → 1 ≤ j → j ≤ n → a j ≡ b j
-
-pub taps-same : (n : ℕ) (a b : Bytes) (t u : AllTaps) → SameBytes n a b → TapsGain n a t u →
-    TapsGain n b t u
-taps-same n a b t u same all j low high = all j low high ∙ ap (gained (t j)) (same j low high)
+-- what taps as they were have is a front of whatever they may gain
+pub fronts-none : (n : ℕ) (a : Bytes) (t : AllTaps) → TapsGainFronts n a t t
+fronts-none n a t j low high =
+    (0, sym (ap (gained (t j)) (take_none (a j)) ∙ gained-nothing (t j)))
 
 -- ---- servers that give to their taps
 

@@ -40,9 +40,9 @@ use Rattle.tk_cli.proofs.EachLaws.{each-front, each-behind}
 use Rattle.tk_cli.proofs.ShownLaws.{ordered-front, records-append, shown-append}
 use Rattle.tk_cli.proofs.ShownLaws.{shown-front, shown-read}
 use Rattle.tk_io.specs.Content.{gained}
-use Rattle.tk_cli.specs.Tapped.{GainsFront, TapsGain, TapsGainFronts}
-use Rattle.tk_cli.proofs.TapLaws.{gained-nothing, taps-same, taps-twice}
-use Rattle.tk_cli.proofs.TapLaws.{front-of_first, front-of_second}
+use Rattle.tk_io.specs.Tapped.{GainsFront, TapsGain, TapsGainFronts}
+use Rattle.tk_io.proofs.Offers.{gained-nothing, taps-same, taps-twice}
+use Rattle.tk_io.proofs.Offers.{front-of_first, front-of_second}
 use Rattle.tk_cli.proofs.ListTests.{list_all-behind}
 
 -- ---- lists

@@ -11,7 +11,7 @@ use Rattle.tk_cli.specs.declared.run_error.RunError.TheVariants as run_error
 use Rattle.tk_cli.specs.declared.status.Status.{Status}
 use Rattle.tk_cli.specs.declared.status.Status.TheVariants as status
 use Rattle.tk_cli.specs.Serial.{RunsInto, HasOtherTape, TakesAll}
-use Rattle.tk_cli.specs.Tapped.{TapsKeep}
+use Rattle.tk_io.specs.Tapped.{TapsKeep}
 
 abbrev pub script_status : ScriptError → Status
 script_status (script_error.Line line c) = status.Script line c

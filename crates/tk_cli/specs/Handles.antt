@@ -3,6 +3,7 @@ use Rattle.std.specs.Prelude.{◌≡◌, ℕ, List, [], ◌∷◌, ◌++◌, tak
 use Rattle.hex.specs.Hex.{encode_lower}
 use Rattle.tk_io.specs.Content.{Rose, gained}
 use Rattle.tk_handle.specs.Handle.{handle_from, handle_bytes}
+use Rattle.tk_cli.specs.Untouched.{IsUntouched}
 use Rattle.tk_cli.specs.declared.status.Status.{Status}
 use Rattle.tk_cli.specs.declared.status.Status.TheVariants.{Done, Memory, Write}
 
@@ -16,5 +17,5 @@ abbrev pub Puts : Status → List ℕ → (held held' : Option (List ℕ)) → (
 Puts Done text held held' faults faults' = held' ≡ gained held text
 Puts Write text held held' faults faults' =
     ((n : ℕ) × (held' ≡ gained held (take n text))) × Rose faults faults'
-Puts Memory text held held' faults faults' = held' ≡ held
+Puts Memory text held held' faults faults' = IsUntouched held held' faults faults'
 Puts _ text held held' faults faults' = ⊥

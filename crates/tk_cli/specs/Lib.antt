@@ -1,6 +1,7 @@
 pub mod Sendable
 pub mod StatusLines
 pub mod Requests
+pub mod Untouched
 pub mod Handles
 pub mod Orders
 pub mod Queues
@@ -10,10 +11,10 @@ pub mod Exchange
 pub mod Clients
 pub mod Servers
 pub mod Notices
-pub mod Tapped
 pub mod Turns
 pub mod Runs
 pub mod Shown
 pub mod PassingOver
+pub mod Places
 pub mod Serial
 pub mod Endings

@@ -1,5 +1,5 @@
 -- What it means that a number of a log was rightly passed over.
-use Rattle.std.specs.Prelude.{◌≡◌, ℕ, ◌<◌, true, List, slice_get, Contains, Some}
+use Rattle.std.specs.Prelude.{◌≡◌, ℕ, ◌<◌, ◌≤◌, true, List, slice_get, Contains, Some}
 use Rattle.tk_shape.specs.Lengths.{turn_count}
 use Rattle.tk_schedule.specs.declared.history.History.{History}
 use Rattle.tk_schedule.specs.Schedule.{serial_history}
@@ -49,7 +49,8 @@ pub record IsNextText (got : List Got) (s n : ℕ) (text : List ℕ) : Type 0 wh
   pub between : (k : ℕ) → s < k → k < n → slice_get got k ≡ Some Absent
 
 -- The next number that the client did get was read in a turn of the run, in an epoch in which the
--- record of number s, if there is one, wasn't retained.
+-- record of number s, if there is one, wasn't retained; and the shape lets a client read ahead by two
+-- numbers or more.
 pub record IsRightlyPassed (S : Script) (w : BookWords) (H : History) (c log : ℕ) (got : List Got)
     (s : ℕ) : Type 0 where
   pub number : ℕ
@@ -59,6 +60,7 @@ pub record IsRightlyPassed (S : Script) (w : BookWords) (H : History) (c log : �
   pub in_run : turn < turn_count S.shape
   pub reads : Reads S w H c turn log number text
   pub not_retained : IsNotRetained S w (read_over S w H turn c) log s
+  pub two_ahead : 2 ≤ S.shape.ahead
 
 -- in whatever history, each number that a log didn't give to a client was rightly passed over
 abbrev pub HonestPassingOver : Type 0

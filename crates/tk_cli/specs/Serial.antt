@@ -9,7 +9,7 @@ use Rattle.tk_script.specs.Grammar.{Spells}
 use Rattle.tk_script.specs.Book.{book_of, IsWholeTape}
 use Rattle.tk_cli.specs.Report.{report}
 use Rattle.tk_cli.specs.Exchange.{exchange, bytes_of}
-use Rattle.tk_cli.specs.Tapped.{TapsGain, TapsGainFronts, TapsKeepBut}
+use Rattle.tk_io.specs.Tapped.{TapsGain, TapsGainFronts, TapsKeepBut}
 
 -- the report of an input's serial run, and what server j sees of it
 abbrev pub report_in : Input → List ℕ

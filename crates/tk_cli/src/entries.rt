@@ -54,9 +54,7 @@ pub(crate) fn write_turn<D: Draws>(
         (client_wrote script.now words history.now turn) clients.new) }
 {
     'items: for item in history.order(turn) {
-        let Ok(()) = write_item(alloc, script, draws, history, turn, item, clients, order) else {
-            return Err(Memory);
-        };
+        write_item(alloc, script, draws, history, turn, item, clients, order)?;
     }
     Ok(())
 }

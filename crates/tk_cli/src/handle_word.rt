@@ -1,6 +1,7 @@
 //! The word `handle`: the handle of a log, from its id and a root.
 ghost use Rattle.std.specs.Prelude.{◌≡◌, ◌≢◌, ◌≤◌, ℕ, IfOk};
 ghost use Rattle.tk_cli.specs.Handles.{Puts, handle_text};
+ghost use Rattle.tk_cli.specs.Untouched.{IsUntouched};
 
 use crate::status::Status;
 use std::alloc::Global;
@@ -17,7 +18,7 @@ pub(crate) fn run_handle<K: Sink>(alloc: Global, id: u64, root: &[u8; 32], sink:
     ensures too_long { result ≢ Status.TooLong }
     ensures later { (line : ℕ) → result ≢ Status.Later line }
     ensures quiet { result ≢ Status.Done → result ≢ Status.Write →
-        K.held sink.new ≡ K.held sink.old }
+        IsUntouched (K.held sink.old) (K.held sink.new) (K.faults sink.old) (K.faults sink.new) }
     ensures counts { K.faults sink.old ≤ K.faults sink.new }
 {
     let Ok(line) = handle_line(alloc, id, root) else {

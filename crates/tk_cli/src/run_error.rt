@@ -1,3 +1,8 @@
+ghost use Rattle.std.specs.Prelude.{◌≡◌};
+
+use tk_io::Failed;
+use tk_shape::Memory;
+
 /// Why a run ends early.
 #[derive(Clone, Copy, Debug, PartialEq, Eq)]
 pub(crate) enum RunError {
@@ -5,4 +10,24 @@ pub(crate) enum RunError {
     Taps,
     /// Want of memory.
     Memory,
+}
+
+impl From<Failed> for RunError {
+    ghost use Rattle.tk_cli.specs.declared.run_error.RunError.TheVariants as error;
+
+    ghost from_gives = { λ _ e. e ≡ error.Taps };
+
+    fn from(_e: Failed) -> RunError {
+        RunError::Taps
+    }
+}
+
+impl From<Memory> for RunError {
+    ghost use Rattle.tk_cli.specs.declared.run_error.RunError.TheVariants as error;
+
+    ghost from_gives = { λ _ e. e ≡ error.Memory };
+
+    fn from(_e: Memory) -> RunError {
+        RunError::Memory
+    }
 }

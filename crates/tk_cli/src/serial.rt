@@ -3,7 +3,7 @@ ghost use Rattle.tk_io.specs.Content.{Rose};
 ghost use Rattle.tk_schedule.specs.Schedule.{serial_history};
 ghost use Rattle.tk_cli.specs.Report.{report};
 ghost use Rattle.tk_cli.specs.Exchange.{exchange, bytes_of};
-ghost use Rattle.tk_cli.specs.Tapped.{TapsGain, TapsGainFronts, TapsKeepBut};
+ghost use Rattle.tk_io.specs.Tapped.{TapsGain, TapsGainFronts, TapsKeepBut};
 
 use crate::report::push_report;
 use crate::run_error::RunError;
@@ -37,16 +37,9 @@ pub(crate) fn serial<D: Draws, T: Taps>(
         → Rose (T.faults taps.old) (T.faults taps.new)) }
     ensures counts { T.faults taps.old ≤ T.faults taps.new }
 {
-    let Ok(history) = History::serial(alloc, &script.shape) else {
-        return Err(RunError::Memory);
-    };
-    let clients = match take_turns(alloc, script, draws, &history, taps) {
-        Ok(clients) => clients,
-        Err(error) => return Err(error),
-    };
+    let history = History::serial(alloc, &script.shape)?;
+    let clients = take_turns(alloc, script, draws, &history, taps)?;
     let mut out = Vec::new(alloc);
-    let Ok(()) = push_report(alloc, script, &history, clients.as_slice(), &mut out) else {
-        return Err(RunError::Memory);
-    };
+    push_report(alloc, script, &history, clients.as_slice(), &mut out)?;
     Ok(out)
 }

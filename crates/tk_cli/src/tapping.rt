@@ -3,7 +3,7 @@ ghost use Rattle.tk_io.specs.Content.{Rose, gained};
 ghost use Rattle.tk_shape.specs.declared.shape.Shape.{Shape};
 ghost use Rattle.tk_frames.specs.Order.{Record};
 ghost use Rattle.tk_cli.specs.Servers.{IsServer, AreServers, nothing_seen};
-ghost use Rattle.tk_cli.specs.Tapped.{GainsFront, TapsGain, TapsGainFronts, TapsKeepBut};
+ghost use Rattle.tk_io.specs.Tapped.{GainsFront, TapsGain, TapsGainFronts, TapsKeepBut};
 
 use crate::server::Server;
 use tk_io::{Failed, Taps};
@@ -25,9 +25,7 @@ pub(crate) fn give_all<T: Taps>(servers: &mut [Server], taps: &mut T) -> Result<
     ensures counts { T.faults taps.old ≤ T.faults taps.new }
 {
     'giving: for (i, server) in servers.iter_mut().enumerate() {
-        let Ok(()) = give(server, i as u32 + 1, taps) else {
-            return Err(Failed);
-        };
+        give(server, i as u32 + 1, taps)?;
     }
     Ok(())
 }

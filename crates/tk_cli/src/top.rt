@@ -2,10 +2,11 @@ ghost use Rattle.std.specs.Prelude.{◌≡◌, ◌≢◌, ◌≤◌, ◌↔◌, 
 ghost use Rattle.tk_script.specs.declared.cause.Cause.{Cause};
 ghost use Rattle.tk_io.specs.Content.{Rose, TakesUpTo};
 ghost use Rattle.tk_cli.specs.Handles.{Puts, handle_text};
-ghost use Rattle.tk_cli.specs.Requests.{AsksHandle, AsksLater, AsksNothing, AsksSerial, AsksSomeHandle};
+ghost use Rattle.tk_cli.specs.Requests.{AsksHandle, AsksLater, AsksNothing, AsksSerial};
 ghost use Rattle.tk_cli.specs.Serial.{RunsTo, Reports, ReportsFront, TapsFronts};
 ghost use Rattle.tk_cli.specs.Endings.{EndsWith, RefusesLine, RefusesTape, run_status, script_status};
-ghost use Rattle.tk_cli.specs.Tapped.{TapsKeep};
+ghost use Rattle.tk_io.specs.Tapped.{TapsKeep};
+ghost use Rattle.tk_cli.specs.Untouched.{AsksNoInput, IsUntouched, AreTapsUntouched};
 
 use crate::draws::{drawn_draws, keyed_draws};
 use crate::handle_word::run_handle;
@@ -41,7 +42,8 @@ pub fn talek<R: Threads + Wait + Sync, S: Source, K: Sink, T: Taps, G: Gate>(
         (ReportsFront (S.left source.old) (S.left source.new) (K.held sink.old) (K.held sink.new)
         (T.tap taps.old) (T.tap taps.new) × Rose (K.faults sink.old) (K.faults sink.new))
         ⊎ (TapsFronts (S.left source.old) (S.left source.new) (T.tap taps.old) (T.tap taps.new)
-        × (K.held sink.new ≡ K.held sink.old) × Rose (T.faults taps.old) (T.faults taps.new)) }
+        × IsUntouched (K.held sink.old) (K.held sink.new) (K.faults sink.old) (K.faults sink.new)
+        × Rose (T.faults taps.old) (T.faults taps.new)) }
     ensures memory { result ≡ Status.Memory →
         TapsFronts (S.left source.old) (S.left source.new) (T.tap taps.old) (T.tap taps.new)
         ⊎ TapsKeep (T.tap taps.old) (T.tap taps.new) }
@@ -55,18 +57,18 @@ pub fn talek<R: Threads + Wait + Sync, S: Source, K: Sink, T: Taps, G: Gate>(
     ensures no_line { (line : ℕ) → result ≡ Status.Later line → line ≡ 0 }
     ensures tape { (want got : ℕ) → result ≡ Status.Tape want got →
         RefusesTape (S.left source.old) (S.left source.new) want got }
-    ensures unread { AsksNothing words.now ⊎ AsksLater words.now ⊎ AsksSomeHandle words.now →
-        S.left source.new ≡ S.left source.old }
-    ensures untapped { AsksNothing words.now ⊎ AsksLater words.now ⊎ AsksSomeHandle words.now →
-        TapsKeep (T.tap taps.old) (T.tap taps.new) }
+    ensures unread { AsksNoInput words.now → IsUntouched (S.left source.old) (S.left source.new)
+        (S.faults source.old) (S.faults source.new) }
+    ensures untapped { AsksNoInput words.now → AreTapsUntouched (T.tap taps.old) (T.tap taps.new)
+        (T.faults taps.old) (T.faults taps.new) }
     ensures read { result ≡ Status.Read → Rose (S.faults source.old) (S.faults source.new) }
     ensures taken { let too_long = result ≡ Status.TooLong in (taken : List ℕ)
         × TakesUpTo INPUT_LIMIT (S.left source.old) (S.left source.new) too_long taken }
     ensures source_faults { S.faults source.old ≤ S.faults source.new }
     ensures quiet { result ≢ Status.Done → result ≢ Status.Write
-        → K.held sink.new ≡ K.held sink.old }
+        → IsUntouched (K.held sink.old) (K.held sink.new) (K.faults sink.old) (K.faults sink.new) }
     ensures quiet_taps { result ≢ Status.Done → result ≢ Status.Write → result ≢ Status.Memory
-        → TapsKeep (T.tap taps.old) (T.tap taps.new) }
+        → AreTapsUntouched (T.tap taps.old) (T.tap taps.new) (T.faults taps.old) (T.faults taps.new) }
     ensures sink_faults { K.faults sink.old ≤ K.faults sink.new }
     ensures taps_faults { T.faults taps.old ≤ T.faults taps.new }
 {
@@ -92,7 +94,8 @@ fn run_serial<S: Source, K: Sink, T: Taps>(
         (ReportsFront (S.left source.old) (S.left source.new) (K.held sink.old) (K.held sink.new)
         (T.tap taps.old) (T.tap taps.new) × Rose (K.faults sink.old) (K.faults sink.new))
         ⊎ (TapsFronts (S.left source.old) (S.left source.new) (T.tap taps.old) (T.tap taps.new)
-        × (K.held sink.new ≡ K.held sink.old) × Rose (T.faults taps.old) (T.faults taps.new)) }
+        × IsUntouched (K.held sink.old) (K.held sink.new) (K.faults sink.old) (K.faults sink.new)
+        × Rose (T.faults taps.old) (T.faults taps.new)) }
     ensures memory { result ≡ Status.Memory →
         TapsFronts (S.left source.old) (S.left source.new) (T.tap taps.old) (T.tap taps.new)
         ⊎ TapsKeep (T.tap taps.old) (T.tap taps.new) }
@@ -107,9 +110,9 @@ fn run_serial<S: Source, K: Sink, T: Taps>(
         × TakesUpTo INPUT_LIMIT (S.left source.old) (S.left source.new) too_long taken }
     ensures source_faults { S.faults source.old ≤ S.faults source.new }
     ensures quiet { result ≢ Status.Done → result ≢ Status.Write
-        → K.held sink.new ≡ K.held sink.old }
+        → IsUntouched (K.held sink.old) (K.held sink.new) (K.faults sink.old) (K.faults sink.new) }
     ensures quiet_taps { result ≢ Status.Done → result ≢ Status.Write → result ≢ Status.Memory
-        → TapsKeep (T.tap taps.old) (T.tap taps.new) }
+        → AreTapsUntouched (T.tap taps.old) (T.tap taps.new) (T.faults taps.old) (T.faults taps.new) }
     ensures sink_faults { K.faults sink.old ≤ K.faults sink.new }
     ensures taps_faults { T.faults taps.old ≤ T.faults taps.new }
 {
@@ -138,6 +141,8 @@ fn report_of<T: Taps>(alloc: Global, text: &[u8], taps: &mut T) -> Result<Vec<u8
         EndsWith status text.now (T.tap taps.old) (T.tap taps.new)) }
     ensures rose { IfErr result (λ status. status ≡ Status.Write
         → Rose (T.faults taps.old) (T.faults taps.new)) }
+    ensures quiet { IfErr result (λ status. status ≢ Status.Write → status ≢ Status.Memory
+        → T.faults taps.new ≡ T.faults taps.old) }
     ensures counts { T.faults taps.old ≤ T.faults taps.new }
 {
     let Input {

@@ -8,7 +8,7 @@ ghost use Rattle.tk_cli.specs.Clients.{AreClients, client_before, client_wrote};
 ghost use Rattle.tk_cli.specs.Exchange.{exchange, bytes_of};
 ghost use Rattle.tk_cli.specs.Runs.{IsRunBefore, AreNoticesBefore};
 ghost use Rattle.tk_cli.specs.Servers.{nothing_seen};
-ghost use Rattle.tk_cli.specs.Tapped.{TapsGain, TapsGainFronts, TapsKeepBut};
+ghost use Rattle.tk_io.specs.Tapped.{TapsGain, TapsGainFronts, TapsKeepBut};
 ghost use Rattle.tk_cli.specs.Turns.{AreServersBefore, IsTurnOf, turn_seen};
 
 use crate::clients::open_clients;
@@ -57,13 +57,9 @@ pub(crate) fn take_turns<D: Draws, T: Taps>(
         → Rose (T.faults taps.old) (T.faults taps.new)) }
     ensures counts { T.faults taps.old ≤ T.faults taps.new }
 {
-    let Ok(mut run) = open_run(alloc, script) else {
-        return Err(RunError::Memory);
-    };
-    match take_all_turns(alloc, script, draws, history, &mut run, taps) {
-        Ok(()) => Ok(run.clients),
-        Err(error) => Err(error),
-    }
+    let mut run = open_run(alloc, script)?;
+    take_all_turns(alloc, script, draws, history, &mut run, taps)?;
+    Ok(run.clients)
 }
 
 /// A run before its first turn.
@@ -107,10 +103,7 @@ fn take_all_turns<D: Draws, T: Taps>(
     ensures counts { T.faults taps.old ≤ T.faults taps.new }
 {
     'turns: for turn in 0..script.shape.turns() {
-        match take_turn(alloc, script, draws, history, turn, run, taps) {
-            Ok(()) => {}
-            Err(error) => return Err(error),
-        }
+        take_turn(alloc, script, draws, history, turn, run, taps)?;
     }
     Ok(())
 }
@@ -143,13 +136,9 @@ fn take_turn<D: Draws, T: Taps>(
         → Rose (T.faults taps.old) (T.faults taps.new)) }
     ensures counts { T.faults taps.old ≤ T.faults taps.new }
 {
-    let Ok(()) = meet(alloc, script, draws, history, turn, run) else {
-        return Err(RunError::Memory);
-    };
-    match give_all(run.servers.as_mut_slice(), taps) {
-        Ok(()) => Ok(()),
-        Err(_) => Err(RunError::Taps),
-    }
+    meet(alloc, script, draws, history, turn, run)?;
+    give_all(run.servers.as_mut_slice(), taps)?;
+    Ok(())
 }
 
 /// What clients and servers do in a turn: texts are said, each client writes, and then the servers are asked.

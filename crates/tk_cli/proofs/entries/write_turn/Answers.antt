@@ -61,18 +61,18 @@ items-preserved g c =
     in
     let here = get_or_default items i (Client 0) x c.items-test.true in
     record {
-      order = c.in-Ok.ensures.order;
+      order = c.in_ok-write_item.ensures.order;
       shape = c.write_item.ensures.shape;
       entries =
           next-item (write c.args.turn) E items i (Client 0) c.items.order.placed.items
           c.write_item.new.order.placed.items c.items-test.true so_far.entries
-          c.in-Ok.ensures.placed;
+          c.in_ok-write_item.ensures.placed;
       items = so_far.items;
       clients =
           after-item S words c.args.history.now c.args.turn items i x c.items.clients
           c.write_item.new.clients c.items-test.true here
           (list_all-at (is_within S.shape.clients) items i (Client 0) c.items-test.true all)
-          c.in-Ok.ensures.wrote c.in-Ok.ensures.marked so_far.clients;
+          c.in_ok-write_item.ensures.wrote c.in_ok-write_item.ensures.marked so_far.clients;
     }
 
 pub returns-clause-entries : goal.returns-clause-entries

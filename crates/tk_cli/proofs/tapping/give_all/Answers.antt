@@ -2,21 +2,23 @@
 use Rattle.std.proofs.Common.{◌≡◌, ◌<◌, ◌∙◌, ap, length, length-set, arith}
 use Rattle.std.specs.Prelude.{slice_index_or}
 use Rattle.tk_cli.specs.declared.server.Server.{Server}
+use Rattle.tk_cli.proofs.ErrorLaws.{on_err}
 use Rattle.tk_cli.proofs.TapLaws.{gave-more, gave-servers, gave-taps, gave-fronts}
 use Rattle.tk_cli.proofs.tapping.give_all.Goals as goal
 
-pub returns-in_default-clause-err : goal.returns-in_default-clause-err
-returns-in_default-clause-err g c shape R shown seen are =
+pub returns-in_err-give-clause-err : goal.returns-in_err-give-clause-err
+returns-in_err-give-clause-err g c shape R shown seen are =
     let at = λ (d : Server). slice_index_or c.giving.servers c.giving.i d in
     let server = at c.index-servers-i.result in
     let here : server ≡ at server = ap at c.index-servers-i.is in
     let within : c.giving.i < length c.giving.servers =
     omega (arith, c.giving-test.true, c.giving.invariant.counted)
     in
-    gave-fronts c.giving.i c.args.servers.now c.giving.servers
+    on_err _ c.from_residual.result
+    (gave-fronts c.giving.i c.args.servers.now c.giving.servers
     (g.T.Taps.tap c.args.taps.now) (g.T.Taps.tap c.giving.taps) (g.T.Taps.tap c.give.new.taps)
     server c.giving.invariant.gave within here
-    c.in_default.ensures.err c.give.ensures.others shape R shown seen are
+    c.in_err-give.ensures.err c.give.ensures.others shape R shown seen are)
 
 pub giving-preserved : goal.giving-preserved
 giving-preserved g c =
@@ -33,7 +35,7 @@ giving-preserved g c =
           gave-more c.giving.i c.args.servers.now c.giving.servers (g.T.Taps.tap c.args.taps.now)
           (g.T.Taps.tap c.giving.taps) (g.T.Taps.tap c.give.new.taps)
           server c.give.new.server c.giving.invariant.gave within here
-          c.in-Ok.ensures.server c.in-Ok.ensures.ok c.give.ensures.others;
+          c.in_ok-give.ensures.server c.in_ok-give.ensures.ok c.give.ensures.others;
       counts = omega (arith, c.giving.invariant.counts, c.give.ensures.counts);
     }
 

@@ -3,6 +3,7 @@ use Rattle.std.proofs.Common.{◌≡◌, ◌∙◌, arith, refl, subst, le_trans
 use Rattle.tk_shape.specs.Lengths.{turn_count}
 use Rattle.tk_cli.specs.Runs.{IsRunBefore}
 use Rattle.tk_cli.specs.Servers.{nothing_seen}
+use Rattle.tk_cli.proofs.ErrorLaws.{on_err}
 use Rattle.tk_cli.proofs.TurnLaws.{taps-first, taps-next, taps-all}
 use Rattle.tk_cli.proofs.TurnLaws.{fronts-next}
 use Rattle.tk_cli.proofs.turns.take_all_turns.Goals as goal
@@ -19,14 +20,15 @@ turns-init g c =
       counts = omega arith;
     }
 
-pub returns-in-Err-clause-err : goal.returns-in-Err-clause-err
-returns-in-Err-clause-err g c =
+pub returns-in_err-take_turn-clause-err : goal.returns-in_err-take_turn-clause-err
+returns-in_err-take_turn-clause-err g c =
     let S = c.args.script.now in
     let tap = g.T.Taps.tap in
-    fronts-next S (g.D.Draws.book c.args.draws.now) c.args.history.now c.turns.turn
+    on_err _ c.from_residual.result
+    (fronts-next S (g.D.Draws.book c.args.draws.now) c.args.history.now c.turns.turn
     (tap c.args.taps.now) (tap c.turns.taps) (tap c.take_turn.new.taps)
     (omega (arith, c.turns-test.true))
-    c.turns.invariant.taps c.in-Err.ensures.err
+    c.turns.invariant.taps c.in_err-take_turn.ensures.err)
 
 pub returns-clause-ok : goal.returns-clause-ok
 returns-clause-ok g c =
@@ -41,7 +43,7 @@ turns-preserved g c =
     let S = c.args.script.now in
     let tap = g.T.Taps.tap in
     let is = c.turns.invariant in
-    let took = c.in-Ok.ensures in
+    let took = c.in_ok-take_turn.ensures in
     record {
       run = took.run;
       taps = taps-next S (g.D.Draws.book c.args.draws.now) c.args.history.now c.turns.turn

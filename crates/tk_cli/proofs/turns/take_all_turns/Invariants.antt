@@ -2,7 +2,7 @@
 use Rattle.std.proofs.Common.{◌≤◌}
 use Rattle.tk_cli.specs.Runs.{IsRunBefore}
 use Rattle.tk_cli.specs.Servers.{nothing_seen}
-use Rattle.tk_cli.specs.Tapped.{TapsGain, TapsKeepBut}
+use Rattle.tk_io.specs.Tapped.{TapsGain, TapsKeepBut}
 use Rattle.tk_cli.specs.Turns.{seen_before}
 use Rattle.tk_cli.proofs.turns.take_all_turns.Given as goal
 
