@@ -1,95 +1,95 @@
-use crate::{Cause, Input, ScriptError, numbers_sent_once, one_input, parse, plain_number};
+use crate::{Cause, Input, ScriptError, one_input, parse, plain_number};
 use std::alloc::Global;
 use std::test::Fail;
 use tk_shape::Field;
 
-/// The front of a script of drawn words.
-const HEAD: &[u8] = b"talek 1\nshape 2 8 4 4 24 64 1 0 2 2 1 1\ndrawn\n";
+const SCRIPT: &[u8] =
+    b"talek 1\nshape 2 8 4 4 24 64 1 0 2 2 1 1\ndrawn\nlog 0 1\nsay 1 1 0 hi you\nend\n";
 
-/// The rest of it.
-const SCRIPT: &[u8] = b"log 0 1\nsay 1 1 0 hi you\nend\n";
+const TAPE: &[u8] = b"tape\nfill 11 252\nx aB0c\nfill fF 2\nend\n";
 
-/// The front of a script of keys, of one log and one client.
-const KEYED: &[u8] = b"talek 1\nshape 8 8 4 4 24 64 1 0 1 2 1 1\nkeyed\nlog 0\n";
-
-/// The input that three parts of a text spell.
-fn parsed(alloc: Global, parts: [&[u8]; 3]) -> Result<Input, ScriptError> {
+/// The input that a script and a tape spell.
+fn parsed(alloc: Global, script: &[u8], tape: &[u8]) -> Result<Input, ScriptError> {
     let mut text = Vec::new(alloc);
-    for part in parts {
-        text.extend_from_slice(part)?;
-    }
+    text.extend_from_slice(script)?;
+    text.extend_from_slice(tape)?;
     parse(alloc, text.as_slice())
 }
 
-/// The lines of a handle, of so many words of 16 digits, and of a seed.
-fn key_lines(alloc: Global, words: usize) -> Result<Vec<u8>, ScriptError> {
-    let mut lines = Vec::from_slice(alloc, b"handle ".as_slice())?;
-    for _ in 0..words {
-        lines.extend_from_slice(b"00000000000000aB")?;
-    }
-    lines.extend_from_slice(b"\nseed ")?;
-    for _ in 0..4 {
-        lines.extend_from_slice(b"0123456789abcDEF")?;
-    }
-    Ok(lines)
-}
-
 #[test]
-fn inputs_read(rt: HostRuntime) -> Result<(), Fail> {
-    one_input();
-    numbers_sent_once();
-    let alloc = rt.alloc();
-    let tape = b"tape\nfill 11 252\nx aB0c\nfill fF 2\nend\n";
-    let Input {
-        first: script,
-        tape,
-    } = parsed(alloc, [HEAD, SCRIPT, tape])?;
+fn drawn_input(rt: HostRuntime) -> Result<(), Fail> {
+    let input = parsed(rt.alloc(), SCRIPT, TAPE)?;
+    let script = input.first;
     assert_eq!(rt;
         script.shape.numbers(),
         [2, 8, 4, 4, 24, 64, 1, 0, 2, 2, 1, 1]
     );
     assert!(rt; script.keys.is_none());
-    assert_eq!(rt; script.role(0).writer, 0);
-    assert_eq!(rt; script.role(0).followers.as_slice(), [1].as_slice());
+    assert_eq!(rt; script.roles.as_slice().len(), 1);
+    for role in script.roles.as_slice() {
+        assert_eq!(rt; role.writer, 0);
+        assert_eq!(rt; role.followers.as_slice(), [1].as_slice());
+    }
     assert_eq!(rt; script.says.as_slice().len(), 1);
-    let say = script.says.as_slice().first().expect(&rt, "a text");
-    assert_eq!(rt; (say.phase, say.tick, say.log), (1, 1, 0));
-    assert_eq!(rt; say.text.as_slice(), b"hi you".as_slice());
-    let tape = tape.expect(&rt, "a tape");
+    for say in script.says.as_slice() {
+        assert_eq!(rt; (say.phase, say.tick, say.log), (1, 1, 0));
+        assert_eq!(rt; say.text.as_slice(), b"hi you".as_slice());
+    }
+    let tape = input.tape.expect(&rt, "a tape");
     assert_eq!(rt; tape.got, 256);
+    let bytes = tape.bytes.as_slice();
     assert_eq!(rt;
-        tape.bytes.as_slice().get(251..),
+        bytes.get(251..),
         Some([0x11, 0xab, 0x0c, 0xff, 0xff].as_slice())
     );
-    let lines = key_lines(alloc, 13)?;
-    let Input {
-        first: script,
-        tape,
-    } = parsed(
-        alloc,
-        [KEYED, lines.as_slice(), b"\nsay 2 1 0 \nend\n".as_slice()],
-    )?;
-    assert!(rt; tape.is_none());
+    Ok(())
+}
+
+/// The input of a keyed script of one log and one client, whose handle has so many words of 16 digits.
+fn keyed(alloc: Global, words: usize, end: &[u8]) -> Result<Input, ScriptError> {
+    let mut text = Vec::new(alloc);
+    text.extend_from_slice(b"talek 1\nshape 8 8 4 4 24 64 1 0 1 2 1 1\nkeyed\nlog 0\nhandle ")?;
+    for _ in 0..words {
+        text.extend_from_slice(b"00000000000000aB")?;
+    }
+    text.extend_from_slice(b"\nseed ")?;
+    for _ in 0..4 {
+        text.extend_from_slice(b"0123456789abcDEF")?;
+    }
+    text.extend_from_slice(end)?;
+    parse(alloc, text.as_slice())
+}
+
+/// That a line is refused, for a cause.
+fn refused(line: u64, cause: Cause) -> Option<ScriptError> {
+    Some(ScriptError::Line { line, cause })
+}
+
+#[test]
+fn keyed_input(rt: HostRuntime) -> Result<(), Fail> {
+    let alloc = rt.alloc();
+    let input = keyed(alloc, 13, b"\nsay 2 1 0 \nend\n")?;
+    assert!(rt; input.tape.is_none());
+    let script = input.first;
     let keys = script.keys.expect(&rt, "keys");
-    assert_eq!(rt;
-        keys.handles.as_slice().first().map(|handle| handle.id),
-        Some(0xab)
-    );
     assert_eq!(rt; keys.handles.as_slice().len(), 1);
+    for handle in keys.handles.as_slice() {
+        assert_eq!(rt; handle.id, 0xab);
+    }
     assert_eq!(rt; keys.seeds.as_slice().len(), 1);
-    for (text, number) in [
-        (b"0".as_slice(), Some(0)),
-        (b"18446744073709551615".as_slice(), Some(u64::MAX)),
-        (b"18446744073709551616".as_slice(), None),
-        (b"+1".as_slice(), None),
+    for (words, end, line, cause) in [
+        (12, b"\nend\n".as_slice(), 5, Cause::Form),
+        (13, b" \nend\n".as_slice(), 6, Cause::Form),
+        (13, b"\nend\ntape\nend\n".as_slice(), 8, Cause::After),
+        (13, b"\n".as_slice(), 7, Cause::Early),
     ] {
-        assert_eq!(rt; plain_number(text), number);
+        assert_eq!(rt; keyed(alloc, words, end).err(), refused(line, cause));
     }
     Ok(())
 }
 
 #[test]
-fn tapes_counted(rt: HostRuntime) -> Result<(), Fail> {
+fn ends_and_lengths(rt: HostRuntime) -> Result<(), Fail> {
     for (tape, got) in [
         (b"tape\nfill 11 256\nend".as_slice(), 256),
         (b"tape\nend\n".as_slice(), 0),
@@ -98,9 +98,7 @@ fn tapes_counted(rt: HostRuntime) -> Result<(), Fail> {
             4194304,
         ),
     ] {
-        let tape = parsed(rt.alloc(), [HEAD, SCRIPT, tape])?
-            .tape
-            .expect(&rt, "a tape");
+        let tape = parsed(rt.alloc(), SCRIPT, tape)?.tape.expect(&rt, "a tape");
         assert_eq!(rt; tape.got, got);
         assert!(rt; tape.bytes.as_slice().len() <= 256);
     }
@@ -108,10 +106,69 @@ fn tapes_counted(rt: HostRuntime) -> Result<(), Fail> {
 }
 
 #[test]
-fn lines_refused(rt: HostRuntime) -> Result<(), Fail> {
-    let alloc = rt.alloc();
-    let short = key_lines(alloc, 12)?;
-    let keys = key_lines(alloc, 13)?;
+fn refused_tapes(rt: HostRuntime) {
+    for (tape, line, cause) in [
+        (b"".as_slice(), 7, Cause::Early),
+        (b"tape\nfill 11 256\n".as_slice(), 9, Cause::Early),
+        (b"tape\nfill 11 256\nend\n\n".as_slice(), 10, Cause::After),
+        (
+            b"tape\nfill 11 0\nfill 11 256\nend\n".as_slice(),
+            8,
+            Cause::Number { value: 0 },
+        ),
+        (b"tape\nfill 1 256\nend\n".as_slice(), 8, Cause::Form),
+        (b"tape\nfill 11 256 \nend\n".as_slice(), 8, Cause::Form),
+        (b"tape\nx \nfill 11 256\nend\n".as_slice(), 8, Cause::Form),
+        (
+            b"tape\nfill 11 255\nx 123\nend\n".as_slice(),
+            9,
+            Cause::Form,
+        ),
+    ] {
+        assert_eq!(rt;
+            parsed(rt.alloc(), SCRIPT, tape).err(),
+            refused(line, cause)
+        );
+    }
+}
+
+const HEAD: &[u8] = b"talek 1\nshape 2 8 4 4 24 64 1 0 2 2 1 1\ndrawn\n";
+
+#[test]
+fn refused_lines(rt: HostRuntime) {
+    for (lines, line, cause) in [
+        (b"log 0 4294967296\n".as_slice(), 4, Cause::Form),
+        (b"log 0 01\n".as_slice(), 4, Cause::Form),
+        (b"log 0 2\n".as_slice(), 4, Cause::Number { value: 2 }),
+        (b"log 0 1 0\n".as_slice(), 4, Cause::Order),
+        (
+            b"log 0 1\nsay 3 1 0 a\n".as_slice(),
+            5,
+            Cause::Number { value: 3 },
+        ),
+        (
+            b"log 0 1\nsay 2 1 0 a\nsay 1 1 0 b\nend\n".as_slice(),
+            6,
+            Cause::Order,
+        ),
+        (
+            b"log 0 1\nsay 1 1 0 abcdefg\n".as_slice(),
+            5,
+            Cause::Room { room: 6 },
+        ),
+        (
+            b"log 0 1\nsay 1 1 0 ab\tc\n".as_slice(),
+            5,
+            Cause::Text { at: 2 },
+        ),
+        (b"log 0 1\nsay 1 1 0\nend\n".as_slice(), 5, Cause::Form),
+    ] {
+        assert_eq!(rt; parsed(rt.alloc(), HEAD, lines).err(), refused(line, cause));
+    }
+}
+
+#[test]
+fn refused_shapes(rt: HostRuntime) {
     let servers = Cause::Shape {
         field: Field::Servers,
         value: 9,
@@ -120,162 +177,46 @@ fn lines_refused(rt: HostRuntime) -> Result<(), Fail> {
         field: Field::Retained,
         value: 33,
     };
-    let shape = b"talek 1\nshape ".as_slice();
-    for (front, rest, line, cause) in [
-        (SCRIPT, b"".as_slice(), 7, Cause::Early),
-        (SCRIPT, b"tape\nfill 11 256\n".as_slice(), 9, Cause::Early),
+    for (numbers, line, cause) in [
         (
-            SCRIPT,
-            b"tape\nfill 11 256\nend\n\n".as_slice(),
-            10,
-            Cause::After,
-        ),
-        (
-            SCRIPT,
-            b"tape\nfill 11 0\nfill 11 256\nend\n".as_slice(),
-            8,
-            Cause::Number { value: 0 },
-        ),
-        (
-            SCRIPT,
-            b"tape\nfill 1 256\nend\n".as_slice(),
-            8,
-            Cause::Form,
-        ),
-        (
-            SCRIPT,
-            b"tape\nfill 11 256 \nend\n".as_slice(),
-            8,
-            Cause::Form,
-        ),
-        (
-            SCRIPT,
-            b"tape\nx \nfill 11 256\nend\n".as_slice(),
-            8,
-            Cause::Form,
-        ),
-        (
-            SCRIPT,
-            b"tape\nfill 11 255\nx 123\nend\n".as_slice(),
-            9,
-            Cause::Form,
-        ),
-        (
-            b"log 0 4294967296\n".as_slice(),
-            b"".as_slice(),
-            4,
-            Cause::Form,
-        ),
-        (b"log 0 01\n".as_slice(), b"".as_slice(), 4, Cause::Form),
-        (
-            b"log 0 2\n".as_slice(),
-            b"".as_slice(),
-            4,
-            Cause::Number { value: 2 },
-        ),
-        (b"log 0 1 0\n".as_slice(), b"".as_slice(), 4, Cause::Order),
-        (
-            b"log 0 1\n".as_slice(),
-            b"say 3 1 0 a\n".as_slice(),
-            5,
-            Cause::Number { value: 3 },
-        ),
-        (
-            b"log 0 1\nsay 2 1 0 a\n".as_slice(),
-            b"say 1 1 0 b\nend\n".as_slice(),
-            6,
-            Cause::Order,
-        ),
-        (
-            b"log 0 1\n".as_slice(),
-            b"say 1 1 0 abcdefg\n".as_slice(),
-            5,
-            Cause::Room { room: 6 },
-        ),
-        (
-            b"log 0 1\n".as_slice(),
-            b"say 1 1 0 ab\tc\n".as_slice(),
-            5,
-            Cause::Text { at: 2 },
-        ),
-        (
-            b"log 0 1\n".as_slice(),
-            b"say 1 1 0\nend\n".as_slice(),
-            5,
-            Cause::Form,
-        ),
-    ] {
-        let error = parsed(alloc, [HEAD, front, rest]).err();
-        assert_eq!(rt; error, Some(ScriptError::Line { line, cause }));
-    }
-    for (front, middle, rest, line, cause) in [
-        (
-            KEYED,
-            short.as_slice(),
-            b"\nend\n".as_slice(),
-            5,
-            Cause::Form,
-        ),
-        (
-            KEYED,
-            keys.as_slice(),
-            b" \nend\n".as_slice(),
-            6,
-            Cause::Form,
-        ),
-        (
-            KEYED,
-            keys.as_slice(),
-            b"\nend\ntape\nend\n".as_slice(),
-            8,
-            Cause::After,
-        ),
-        (KEYED, keys.as_slice(), b"\n".as_slice(), 7, Cause::Early),
-        (
-            shape,
-            b"2 8 4 4 24 64 1 0 2 2 1".as_slice(),
-            b"\ndrawn\n".as_slice(),
+            b"2 8 4 4 24 64 1 0 2 2 1\ndrawn\n".as_slice(),
             2,
             Cause::Form,
         ),
+        (b"9 8 4 5 24 64 1 9 2 2 1 1\ndrawn\n".as_slice(), 2, servers),
         (
-            shape,
-            b"9 8 4 5 24 64 1 9 2 2 1 1".as_slice(),
-            b"\ndrawn\n".as_slice(),
-            2,
-            servers,
-        ),
-        (
-            shape,
-            b"2 8 4 33 24 64 1 1 2 2 1 1".as_slice(),
-            b"\ndrawn\n".as_slice(),
+            b"2 8 4 33 24 64 1 1 2 2 1 1\ndrawn\n".as_slice(),
             2,
             retained,
         ),
         (
-            shape,
-            b"2 8 4 32 24 64 1 0 2 2 1 1".as_slice(),
-            b"\ndrawn\n".as_slice(),
+            b"2 8 4 32 24 64 1 0 2 2 1 1\ndrawn\n".as_slice(),
             4,
             Cause::Early,
         ),
         (
-            shape,
-            b"2 8 4 4 24 64 1 8 2 2 1 1".as_slice(),
-            b"\ndrawn\n".as_slice(),
+            b"2 8 4 4 24 64 1 8 2 2 1 1\ndrawn\n".as_slice(),
             4,
             Cause::Early,
         ),
         (
-            shape,
-            b"2 8 4 4 24 64 1 0 2 2 1 1".as_slice(),
-            b"\ndrown\n".as_slice(),
+            b"2 8 4 4 24 64 1 0 2 2 1 1\ndrown\n".as_slice(),
             3,
             Cause::Form,
         ),
     ] {
-        let error = parsed(alloc, [front, middle, rest]).err();
-        assert_eq!(rt; error, Some(ScriptError::Line { line, cause }));
+        assert_eq!(rt;
+            parsed(rt.alloc(), b"talek 1\nshape ", numbers).err(),
+            refused(line, cause)
+        );
     }
-    Ok(())
+}
+
+#[test]
+fn plain_numbers(rt: HostRuntime) {
+    one_input();
+    assert_eq!(rt; plain_number(b"0"), Some(0));
+    assert_eq!(rt; plain_number(b"18446744073709551615"), Some(u64::MAX));
+    assert_eq!(rt; plain_number(b"18446744073709551616"), None);
+    assert_eq!(rt; plain_number(b"+1"), None);
 }
