@@ -1,77 +1,76 @@
-use crate::testing::{ONE_TEXT, REPORT, run, source_of};
-use crate::{INPUT_LIMIT, Status};
+use crate::Status;
+use crate::testing::{ONE_TEXT, REPORT, joined, run_tapped, source_of, taps_of};
 use std::test::Fail;
 use tk_io::{MemSink, MemSource};
 use tk_script::Cause;
 
+/// How the source is cut and its call that fails, the same of the sink, and the taps' call that
+/// fails, 0 for none; and then the status, what is left, what the sink has, and how many bytes each
+/// of two taps has.
+const FAULTS: [(
+    (usize, u32),
+    (usize, u32),
+    u32,
+    Status,
+    usize,
+    &str,
+    (usize, usize),
+); 7] = [
+    (
+        (4096, 0),
+        (4096, 0),
+        0,
+        Status::Done,
+        0,
+        WRITTEN,
+        (1644, 1644),
+    ),
+    ((50, 2), (4096, 0), 0, Status::Read, 140, "", (0, 0)),
+    ((50, 0), (10, 3), 0, Status::Write, 0, FRONT, (1644, 1644)),
+    ((50, 0), (4096, 1), 0, Status::Write, 0, "", (1644, 1644)),
+    ((50, 0), (4096, 0), 1, Status::Write, 0, "", (0, 0)),
+    ((50, 0), (4096, 0), 3, Status::Write, 0, "", (822, 822)),
+    ((50, 0), (4096, 0), 4, Status::Write, 0, "", (1644, 822)),
+];
+
+const WRITTEN: &str = "report
+order 1 1 0 1 mark
+reads 1 1 0 0
+order 2 1 0 1 mark
+reads 2 1 1 1
+log 0 1 1
+text 0 hi
+unsent 0 0
+unsent 1 0
+end
+";
+
+const FRONT: &str = "report\norder 1 1 0 1";
+
+// an object that failed goes on where it stood
 #[test]
-fn faults(rt: HostRuntime) -> Result<(), Fail> {
+fn faults_and_calls_after_them(rt: HostRuntime) -> Result<(), Fail> {
     let alloc = rt.alloc();
-    let mut source = source_of(alloc, ONE_TEXT)?;
-    let mut sink = MemSink::new(alloc, 10, vec![in alloc; 3]?);
-    assert_eq!(rt;
-        run(&rt, &["serial"], &mut source, &mut sink)?,
-        Status::Write
-    );
-    assert_eq!(rt; sink.bytes(), b"report\norder 1 1 0 1".as_slice());
+    for (from, into, call, status, left, held, (first, second)) in FAULTS {
+        let mut source = MemSource::new(ONE_TEXT.to_vec(alloc)?, from.0, vec![in alloc; from.1]?);
+        let mut sink = MemSink::new(alloc, into.0, vec![in alloc; into.1]?);
+        let mut taps = taps_of(alloc, vec![in alloc; call]?)?;
+        let words = &["serial"];
+        let ended = run_tapped(&rt, words, &mut source, &mut sink, &mut taps)?;
+        assert_eq!(rt; ended, status);
+        assert_eq!(rt; source.left().len(), left);
+        assert_eq!(rt; sink.bytes(), held.as_bytes());
+        assert_eq!(rt; (taps.bytes(1).len(), taps.bytes(2).len()), (first, second));
 
-    let mut source = MemSource::new(ONE_TEXT.to_vec(alloc)?, 50, vec![in alloc; 2]?);
-    let mut sink = MemSink::new(alloc, 4096, Vec::new(alloc));
-    assert_eq!(rt;
-        run(&rt, &["serial"], &mut source, &mut sink)?,
-        Status::Read
-    );
-    assert_eq!(rt; sink.bytes().len(), 0);
-
-    let mut source = source_of(alloc, ONE_TEXT)?;
-    assert_eq!(rt;
-        run(&rt, &["serial"], &mut source, &mut sink)?,
-        Status::Done
-    );
-    assert_eq!(rt; sink.bytes(), REPORT);
-
-    let many = vec![in alloc; 0u8; INPUT_LIMIT + 1]?;
-    let mut source = MemSource::new(many, INPUT_LIMIT, Vec::new(alloc));
-    assert_eq!(rt;
-        run(&rt, &["serial"], &mut source, &mut sink)?,
-        Status::TooLong
-    );
-    assert_eq!(rt; sink.bytes(), REPORT);
-    Ok(())
-}
-
-// a source and a sink that failed go on where they stood
-#[test]
-fn calls_after_faults(rt: HostRuntime) -> Result<(), Fail> {
-    let alloc = rt.alloc();
-    let mut source = MemSource::new(ONE_TEXT.to_vec(alloc)?, 50, vec![in alloc; 2]?);
-    let mut sink = MemSink::new(alloc, 10, vec![in alloc; 3]?);
-    assert_eq!(rt;
-        run(&rt, &["serial"], &mut source, &mut sink)?,
-        Status::Read
-    );
-    assert_eq!(rt; Some(source.left()), ONE_TEXT.get(50..));
-    assert_eq!(rt;
-        run(&rt, &["serial"], &mut source, &mut sink)?,
-        Status::Script {
-            line: 1,
-            cause: Cause::Form
-        }
-    );
-    assert_eq!(rt; source.left().len(), 0);
-
-    let mut source = source_of(alloc, ONE_TEXT)?;
-    assert_eq!(rt;
-        run(&rt, &["serial"], &mut source, &mut sink)?,
-        Status::Write
-    );
-    let mut source = source_of(alloc, ONE_TEXT)?;
-    assert_eq!(rt;
-        run(&rt, &["serial"], &mut source, &mut sink)?,
-        Status::Done
-    );
-    let mut written = Vec::from_slice(alloc, b"report\norder 1 1 0 1")?;
-    written.extend_from_slice(REPORT)?;
-    assert_eq!(rt; sink.bytes(), written.as_slice());
+        let ended = run_tapped(&rt, words, &mut source, &mut sink, &mut taps)?;
+        let cause = if left == 0 { Cause::Early } else { Cause::Form };
+        assert_eq!(rt; ended, Status::Script { line: 1, cause });
+        let mut source = source_of(alloc, ONE_TEXT)?;
+        let ended = run_tapped(&rt, words, &mut source, &mut sink, &mut taps)?;
+        assert_eq!(rt; ended, Status::Done);
+        let both = joined(alloc, &[held.as_bytes(), REPORT])?;
+        assert_eq!(rt; sink.bytes(), both.as_slice());
+        assert_eq!(rt; taps.bytes(1).len(), first + 1644);
+    }
     Ok(())
 }

@@ -32,15 +32,13 @@ pub use status::{Status, status_line};
 pub use top::{INPUT_LIMIT, talek};
 
 #[cfg(test)]
-mod ahead_tests;
-#[cfg(test)]
 mod fault_tests;
 #[cfg(test)]
-mod keyed_tests;
+mod group_tests;
 #[cfg(test)]
 mod refusal_tests;
 #[cfg(test)]
-mod run_tests;
+mod report_tests;
 #[cfg(test)]
 mod status_tests;
 #[cfg(test)]

@@ -1,10 +1,9 @@
 use crate::Status;
-use crate::run_tests::LARGER_REPORT;
-use crate::testing::{ONE_TEXT, REPORT, run_tapped, source_of};
+use crate::report_tests::LARGER_REPORT;
+use crate::testing::{ONE_TEXT, REPORT, run_tapped, source_of, taps_of};
 use std::alloc::{AllocError, Global};
 use std::test::Fail;
-use tk_io::{MemSink, MemTaps};
-use tk_shape::Memory;
+use tk_io::MemSink;
 
 /// What the first server sees of the run of one text, in hexadecimal: in each of two turns two records and a mark, and
 /// then for each client its read and the reply.
@@ -94,58 +93,6 @@ fn digits_of(alloc: Global, lines: &str) -> Result<Vec<u8>, AllocError> {
     Ok(digits)
 }
 
-fn taps_of(alloc: Global, fails: Vec<u32>) -> Result<MemTaps, Memory> {
-    let Ok(taps) = MemTaps::new(alloc, 8, fails) else {
-        return Err(Memory);
-    };
-    Ok(taps)
-}
-
-#[test]
-fn ordinary_taps(rt: HostRuntime) -> Result<(), Fail> {
-    let alloc = rt.alloc();
-    let mut source = source_of(alloc, ONE_TEXT)?;
-    let mut sink = MemSink::new(alloc, 4096, Vec::new(alloc));
-    let mut taps = taps_of(alloc, Vec::new(alloc))?;
-    assert_eq!(rt;
-        run_tapped(&rt, &["serial"], &mut source, &mut sink, &mut taps)?,
-        Status::Done
-    );
-    for (server, seen) in [(1, FIRST), (2, SECOND)] {
-        let digits = hex::encode(alloc, taps.bytes(server))?;
-        assert_eq!(rt; digits.as_bytes(), digits_of(alloc, seen)?.as_slice());
-    }
-    assert_eq!(rt; taps.bytes(3).len(), 0);
-    Ok(())
-}
-
-// a tap that fails at its first call, or at the second turn's first, and the run that follows
-#[test]
-fn failing_taps(rt: HostRuntime) -> Result<(), Fail> {
-    let alloc = rt.alloc();
-    for (call, first, second) in [(1, 0, 0), (3, 822, 822), (4, 1644, 822)] {
-        let mut source = source_of(alloc, ONE_TEXT)?;
-        let mut sink = MemSink::new(alloc, 4096, Vec::new(alloc));
-        let mut taps = taps_of(alloc, vec![in alloc; call]?)?;
-        assert_eq!(rt;
-            run_tapped(&rt, &["serial"], &mut source, &mut sink, &mut taps)?,
-            Status::Write
-        );
-        assert_eq!(rt; sink.bytes().len(), 0);
-        assert_eq!(rt; taps.bytes(1).len(), first);
-        assert_eq!(rt; taps.bytes(2).len(), second);
-
-        let mut source = source_of(alloc, ONE_TEXT)?;
-        assert_eq!(rt;
-            run_tapped(&rt, &["serial"], &mut source, &mut sink, &mut taps)?,
-            Status::Done
-        );
-        assert_eq!(rt; sink.bytes(), REPORT);
-        assert_eq!(rt; taps.bytes(1).len(), first + 1644);
-    }
-    Ok(())
-}
-
 /// Eight servers, three clients and three logs, as in the larger run of two servers.
 const EIGHT: &[u8] = b"talek 1
 shape 8 8 2 2 24 64 1 0 3 2 2 3
@@ -174,27 +121,6 @@ fill 38 36
 fill 39 144
 end
 ";
-
-#[test]
-fn eight_servers(rt: HostRuntime) -> Result<(), Fail> {
-    let alloc = rt.alloc();
-    let mut source = source_of(alloc, EIGHT)?;
-    let mut sink = MemSink::new(alloc, 4096, Vec::new(alloc));
-    let mut taps = taps_of(alloc, Vec::new(alloc))?;
-    assert_eq!(rt;
-        run_tapped(&rt, &["serial"], &mut source, &mut sink, &mut taps)?,
-        Status::Done
-    );
-    assert_eq!(rt; sink.bytes(), LARGER_REPORT);
-    for server in 1..9 {
-        // twelve records of 54 bytes, two marks, and twelve reads of 16 with replies of 174
-        assert_eq!(rt;
-            taps.bytes(server).len(),
-            12 * 54 + 2 * 14 + 12 * (16 + 174)
-        );
-    }
-    Ok(())
-}
 
 /// Three servers, and a tape of bytes that are not alike.
 const MIXED: &[u8] = b"talek 1
@@ -279,38 +205,34 @@ ae68c47613f68753b8a5c670
 
 // each server gets its own vectors, those of the first bucket before those of the second
 #[test]
-fn three_servers(rt: HostRuntime) -> Result<(), Fail> {
+fn what_taps_get(rt: HostRuntime) -> Result<(), Fail> {
     let alloc = rt.alloc();
-    let mut source = source_of(alloc, MIXED)?;
+    for (input, report, all_seen) in [
+        (ONE_TEXT, REPORT, [FIRST, SECOND, ""]),
+        (MIXED, MIXED_REPORT, MIXED_SEEN),
+    ] {
+        let mut source = source_of(alloc, input)?;
+        let mut sink = MemSink::new(alloc, 4096, Vec::new(alloc));
+        let mut taps = taps_of(alloc, Vec::new(alloc))?;
+        let ended = run_tapped(&rt, &["serial"], &mut source, &mut sink, &mut taps)?;
+        assert_eq!(rt; ended, Status::Done);
+        assert_eq!(rt; sink.bytes(), report);
+        for (server, seen) in [(1, all_seen[0]), (2, all_seen[1]), (3, all_seen[2])] {
+            let digits = hex::encode(alloc, taps.bytes(server))?;
+            assert_eq!(rt; digits.as_bytes(), digits_of(alloc, seen)?.as_slice());
+        }
+    }
+
+    let mut source = source_of(alloc, EIGHT)?;
     let mut sink = MemSink::new(alloc, 4096, Vec::new(alloc));
     let mut taps = taps_of(alloc, Vec::new(alloc))?;
-    assert_eq!(rt;
-        run_tapped(&rt, &["serial"], &mut source, &mut sink, &mut taps)?,
-        Status::Done
-    );
-    assert_eq!(rt; sink.bytes(), MIXED_REPORT);
-    for (server, seen) in [(1, MIXED_SEEN[0]), (2, MIXED_SEEN[1]), (3, MIXED_SEEN[2])] {
-        let digits = hex::encode(alloc, taps.bytes(server))?;
-        assert_eq!(rt; digits.as_bytes(), digits_of(alloc, seen)?.as_slice());
-    }
-    Ok(())
-}
-
-// the taps have all where the sink fails at its first call
-#[test]
-fn failing_sink(rt: HostRuntime) -> Result<(), Fail> {
-    let alloc = rt.alloc();
-    let mut source = source_of(alloc, ONE_TEXT)?;
-    let mut sink = MemSink::new(alloc, 4096, vec![in alloc; 1]?);
-    let mut taps = taps_of(alloc, Vec::new(alloc))?;
-    assert_eq!(rt;
-        run_tapped(&rt, &["serial"], &mut source, &mut sink, &mut taps)?,
-        Status::Write
-    );
-    assert_eq!(rt; sink.bytes().len(), 0);
-    for (server, seen) in [(1, FIRST), (2, SECOND)] {
-        let digits = hex::encode(alloc, taps.bytes(server))?;
-        assert_eq!(rt; digits.as_bytes(), digits_of(alloc, seen)?.as_slice());
+    let ended = run_tapped(&rt, &["serial"], &mut source, &mut sink, &mut taps)?;
+    assert_eq!(rt; ended, Status::Done);
+    assert_eq!(rt; sink.bytes(), LARGER_REPORT);
+    for server in 1..9 {
+        // twelve records of 54 bytes, two marks, and twelve reads of 16 with replies of 174
+        let count = 12 * 54 + 2 * 14 + 12 * (16 + 174);
+        assert_eq!(rt; taps.bytes(server).len(), count);
     }
     Ok(())
 }

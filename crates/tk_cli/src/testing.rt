@@ -47,9 +47,7 @@ pub(crate) fn run<R: AllocGlobal + Threads + Wait + Sync>(
     sink: &mut MemSink,
 ) -> Result<Status, Memory> {
     let alloc = rt.alloc();
-    let Ok(mut taps) = MemTaps::new(alloc, 8, Vec::new(alloc)) else {
-        return Err(Memory);
-    };
+    let mut taps = taps_of(alloc, Vec::new(alloc))?;
     run_tapped(rt, words, source, sink, &mut taps)
 }
 
@@ -67,6 +65,14 @@ pub(crate) fn run_tapped<R: AllocGlobal + Threads + Wait + Sync>(
         bytes.push(Bytes::from_slice(alloc, word.as_bytes())?)?;
     }
     Ok(talek(rt, alloc, bytes.as_slice(), source, sink, taps, &OpenGate))
+}
+
+/// Eight taps, which fail at chosen calls.
+pub(crate) fn taps_of(alloc: Global, fails: Vec<u32>) -> Result<MemTaps, Memory> {
+    let Ok(taps) = MemTaps::new(alloc, 8, fails) else {
+        return Err(Memory);
+    };
+    Ok(taps)
 }
 
 pub(crate) fn source_of(alloc: Global, text: &[u8]) -> Result<MemSource, AllocError> {

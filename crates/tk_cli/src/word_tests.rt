@@ -1,96 +1,87 @@
 use crate::Status;
 use crate::testing::{ONE_TEXT, run, source_of};
 use std::test::Fail;
+use tk_handle::Handle;
 use tk_io::MemSink;
+use tk_seal::{allowed, open, seal};
+
+const ZERO_ROOT: &str = "0000000000000000000000000000000000000000000000000000000000000000";
+
+const LOWER_ROOT: &str = "00000000000000000000000000000000000000000000000000000000000000ff";
+
+const UPPER_ROOT: &str = "00000000000000000000000000000000000000000000000000000000000000FF";
+
+/// The handle of log 0 under the zero root: its id, and 96 bytes of the zero key's stream (RFC 8439, A.1).
+const ZERO_HANDLE: &str =
+    "000000000000000076b8e0ada0f13d90405d6ae55386bd28bdd219b8a08ded1aa836efcc8b770dc7da41597c5157488d7724e03fb8d84a376a43b8f41518a11cc387b669b2ee65869f07e7be5551387a98ba977c732d080dcb0f29a048e3656912c6533e32ee7aed\n";
+
+/// The handle of the last log under the other root.
+const LAST_HANDLE: &str =
+    "ffffffffffffffffd38182be1f535393a263c6a0e10aeb4ebc5ec5828811fbd48c04dc688de8076664152ec6eb28e14587bb1b91ce94c365fc28de39fe1d91180643834a309b2fef47d45de2d54a3d6eed1fa0ef040ac7b8af1ed6cf37b6e09a85721d88f52c387a\n";
+
+const LATER: Status = Status::Later { line: 0 };
 
 #[test]
 fn words(rt: HostRuntime) -> Result<(), Fail> {
     let alloc = rt.alloc();
-    for words in [
-        ["run"].as_slice(),
-        &["view", "4294967295"],
-        &["mirror", "0"],
+    for (words, status, written) in [
+        (["run"].as_slice(), LATER, ""),
+        (&["view", "4294967295"], LATER, ""),
+        (&["mirror", "0"], LATER, ""),
+        (&[], Status::Usage, ""),
+        (&["run", "65"], Status::Usage, ""),
+        (&["run", "1"], Status::Usage, ""),
+        (&["run", "0"], Status::Usage, ""),
+        (&["run", "065"], Status::Usage, ""),
+        (&["mirror"], Status::Usage, ""),
+        (&["view", "01"], Status::Usage, ""),
+        (&["view", "4294967296"], Status::Usage, ""),
+        (&["handle", "0"], Status::Usage, ""),
+        (&["handle", "0", &ZERO_ROOT[1..]], Status::Usage, ""),
+        (
+            &["handle", "18446744073709551616", ZERO_ROOT],
+            Status::Usage,
+            "",
+        ),
+        (&["handle", "00", ZERO_ROOT], Status::Usage, ""),
+        (&["handle", ZERO_ROOT, "0"], Status::Usage, ""),
+        (&["Serial"], Status::Usage, ""),
+        (&["serial", "1"], Status::Usage, ""),
+        (&["handle", "0", ZERO_ROOT], Status::Done, ZERO_HANDLE),
+        (
+            &["handle", "18446744073709551615", LOWER_ROOT],
+            Status::Done,
+            LAST_HANDLE,
+        ),
+        (
+            &["handle", "18446744073709551615", UPPER_ROOT],
+            Status::Done,
+            LAST_HANDLE,
+        ),
     ] {
         let mut source = source_of(alloc, ONE_TEXT)?;
-        let mut sink = MemSink::new(alloc, 4096, Vec::new(alloc));
-        assert_eq!(rt;
-            run(&rt, words, &mut source, &mut sink)?,
-            Status::Later { line: 0 }
-        );
-        assert_eq!(rt; source.left(), ONE_TEXT);
-    }
-    for words in [
-        [].as_slice(),
-        &["run", "1"],
-        &["run", "0"],
-        &["run", "065"],
-        &["mirror"],
-        &["view", "01"],
-        &["view", "4294967296"],
-        &["handle", "0"],
-        &["handle", "0", &ZERO_ROOT[1..]],
-        &["handle", "18446744073709551616", ZERO_ROOT],
-        &["handle", "00", ZERO_ROOT],
-        &["handle", ZERO_ROOT, "0"],
-        &["Serial"],
-        &["serial", "1"],
-    ] {
-        let mut source = source_of(alloc, ONE_TEXT)?;
-        let mut sink = MemSink::new(alloc, 4096, Vec::new(alloc));
-        assert_eq!(rt; run(&rt, words, &mut source, &mut sink)?, Status::Usage);
+        let mut sink = MemSink::new(alloc, 100, Vec::new(alloc));
+        assert_eq!(rt; run(&rt, words, &mut source, &mut sink)?, status);
+        assert_eq!(rt; sink.bytes(), written.as_bytes());
         assert_eq!(rt; source.left(), ONE_TEXT);
     }
     Ok(())
 }
 
-const ZERO_ROOT: &str = "0000000000000000000000000000000000000000000000000000000000000000";
-
-/// The handle of log 0 under the zero root: its id, and 96 bytes of the zero key's stream (RFC 8439, A.1).
-const ZERO_HANDLE: [&str; 4] = [
-    "0000000000000000",
-    "76b8e0ada0f13d90405d6ae55386bd28bdd219b8a08ded1aa836efcc8b770dc7",
-    "da41597c5157488d7724e03fb8d84a376a43b8f41518a11cc387b669b2ee6586",
-    "9f07e7be5551387a98ba977c732d080dcb0f29a048e3656912c6533e32ee7aed",
-];
-
 #[test]
-fn handles(rt: HostRuntime) -> Result<(), Fail> {
-    let alloc = rt.alloc();
-    let mut line = Vec::new(alloc);
-    for part in ZERO_HANDLE {
-        line.extend_from_slice(part.as_bytes())?;
-    }
-    line.push(b'\n')?;
-    let mut source = source_of(alloc, ONE_TEXT)?;
-    let mut sink = MemSink::new(alloc, 100, Vec::new(alloc));
-    assert_eq!(rt;
-        run(&rt, &["handle", "0", ZERO_ROOT], &mut source, &mut sink)?,
-        Status::Done
-    );
-    assert_eq!(rt; sink.bytes(), line.as_slice());
-    assert_eq!(rt; source.left(), ONE_TEXT);
-    Ok(())
-}
-
-#[test]
-fn digits_of_a_root_in_either_case(rt: HostRuntime) -> Result<(), Fail> {
-    let alloc = rt.alloc();
-    let largest = "18446744073709551615";
-    let lower = "00000000000000000000000000000000000000000000000000000000000000ff";
-    let upper = "00000000000000000000000000000000000000000000000000000000000000FF";
-    let mut source = source_of(alloc, ONE_TEXT)?;
-    let mut sink = MemSink::new(alloc, 4096, Vec::new(alloc));
-    assert_eq!(rt;
-        run(&rt, &["handle", largest, lower], &mut source, &mut sink)?,
-        Status::Done
-    );
-    assert_eq!(rt;
-        run(&rt, &["handle", largest, upper], &mut source, &mut sink)?,
-        Status::Done
-    );
-    let both = sink.bytes();
-    assert_eq!(rt; both.len(), 418);
-    assert_eq!(rt; both.get(..16), Some(b"ffffffffffffffff".as_slice()));
-    assert_eq!(rt; both.get(..209), both.get(209..));
+fn handle_of_zero_bytes(rt: HostRuntime) -> Result<(), Fail> {
+    assert!(rt; Handle::from_bytes(&[0; 103]).is_none());
+    let handle = Handle::from_bytes(&[0; 104]).ok_or("104 bytes")?;
+    assert_eq!(rt; handle.to_bytes().as_slice(), [0; 104].as_slice());
+    let text = b"hi";
+    assert!(rt; allowed(text).is_none());
+    let mut block = [0; 24];
+    seal(&handle, 0, text, &mut block);
+    assert_eq!(rt; &block[..8], b"\x9f\x05\x8f\xd7\x55\x51\x38\x7a".as_slice());
+    let mut out = [9; 6];
+    assert_eq!(rt; open(&handle, 0, &block, &mut out), Some(2));
+    assert_eq!(rt; &out[..2], text.as_slice());
+    block[23] ^= 1;
+    assert_eq!(rt; open(&handle, 0, &block, &mut out), None);
     Ok(())
 }

@@ -4,68 +4,6 @@ use std::alloc::Global;
 use std::test::Fail;
 use tk_shape::Memory;
 
-/// A keyed script of two clients that both follow one log, and say nothing.
-const KEYED: &[u8] = b"talek 1
-shape 8 1024 1 1 24 64 2 0 2 2 2 1
-keyed
-log 1 0 1
-handle e3a637c30e59b7b420cfdb25fe79b0ab5122befab04c5d6622f8c1475e9b1dcfa59831c867e13722b288885d351f6fc417078f6f5473348c7e0405cb37a48f5ecbde976d0a3a2682509fa5d06b91d9df36cfe45254c5402957c6a6f5312852400ce8eacaa9e06916
-seed 7c81120cb978f72480902a2b4a0d5afdfeac82ff6b495cd916561a3d75ba307e
-seed 1a18c3bf516760312a0ada0350b38a1448a4b38c5029c49ff49b6965d716b2b4
-end
-";
-
-const KEYED_REPORT: &[u8] = b"report
-order 1 1 0 1
-order 1 2 0 1 mark
-reads 1 2 0 0
-order 2 1 0 1
-order 2 2 0 1 mark
-reads 2 2 1 1
-log 0 0 0
-log 0 1 0
-unsent 0 0
-unsent 1 0
-end
-";
-
-/// A keyed script with a text, over three servers.
-const KEYED_TEXT: &[u8] = b"talek 1
-shape 3 16 2 2 24 64 2 0 2 2 1 1
-keyed
-log 1 0
-handle e3a637c30e59b7b420cfdb25fe79b0ab5122befab04c5d6622f8c1475e9b1dcfa59831c867e13722b288885d351f6fc417078f6f5473348c7e0405cb37a48f5ecbde976d0a3a2682509fa5d06b91d9df36cfe45254c5402957c6a6f5312852400ce8eacaa9e06916
-seed 7c81120cb978f72480902a2b4a0d5afdfeac82ff6b495cd916561a3d75ba307e
-seed 1a18c3bf516760312a0ada0350b38a1448a4b38c5029c49ff49b6965d716b2b4
-say 1 1 0 n\xc3\xa9
-end
-";
-
-const KEYED_TEXT_REPORT: &[u8] = b"report
-order 1 1 0 1 mark
-reads 1 1 0 0
-order 2 1 0 1 mark
-reads 2 1 1 1
-log 0 0 1
-text 0 n\xc3\xa9
-unsent 0 0
-unsent 1 0
-end
-";
-
-#[test]
-fn keyed_runs(rt: HostRuntime) -> Result<(), Fail> {
-    for (name, input, report) in [
-        ("nothing said", KEYED, KEYED_REPORT),
-        ("three servers", KEYED_TEXT, KEYED_TEXT_REPORT),
-    ] {
-        let (status, written) = run_serially(&rt, input)?;
-        assert_eq!(rt; status, Status::Done, "at {name}");
-        assert_eq!(rt; written.as_slice(), report, "at {name}");
-    }
-    Ok(())
-}
-
 /// The front of a script of a realistic group: three servers, and twelve clients, three to a log.
 const GROUP: &[u8] = b"talek 1
 shape 3 256 4 512 256 4096 3 4 12 8 4 4
