@@ -10,7 +10,7 @@ use Rattle.tk_frames.specs.declared.entry.Placed.{Placed}
 use Rattle.tk_frames.specs.declared.entry.Entry.TheVariants.{Write, Mark}
 use Rattle.tk_frames.specs.Order.{is_mark_entry}
 use Rattle.tk_cli.specs.Entries.{placed_from, placed_after, entries_before}
-use Rattle.tk_cli.proofs.OrderLaws.{entry_of, placed_after-append}
+use Rattle.tk_cli.proofs.ItemLaws.{entry_of, placed_after-append}
 
 pub no-item : (write : ℕ → WriteFrame) (E : List Placed) → E ++ placed_after write E [] ≡ E
 unfolding placed_from

@@ -10,13 +10,11 @@ use Rattle.tk_schedule.specs.declared.history.History.{History}
 use Rattle.tk_schedule.specs.Schedule.{IsLegal, is_mark, marks_due, phases_over, order_at}
 use Rattle.tk_frames.specs.declared.write_frame.WriteFrame.{WriteFrame}
 use Rattle.tk_frames.specs.declared.entry.Placed.{Placed}
-use Rattle.tk_frames.specs.Order.{is_mark_entry, before}
-use Rattle.tk_frames.proofs.Offers.{before-settled}
+use Rattle.tk_frames.specs.Order.{is_mark_entry}
 use Rattle.tk_schedule.specs.declared.item.Item.{Item}
 use Rattle.tk_schedule.specs.declared.item.Item.TheVariants.{Client, Publish}
 use Rattle.tk_cli.specs.Entries.{placed_after, entries_before}
-use Rattle.tk_cli.specs.Orders.{AreEnds}
-use Rattle.tk_cli.proofs.OrderLaws.{is_publish, marks-placed_from}
+use Rattle.tk_cli.proofs.ItemLaws.{is_publish, marks-placed_from}
 
 -- a test of what an item is, told twice
 same_test : (x : Item) → is_publish x ≡ is_mark x
@@ -26,13 +24,13 @@ same_test Publish = refl
 abbrev one_if : Bool → ℕ
 one_if b = cond b 1 0
 
-same_count : (xs : List Item) → count_by is_publish xs ≡ count_by is_mark xs
+pub same_count : (xs : List Item) → count_by is_publish xs ≡ count_by is_mark xs
 same_count [] = refl
 same_count (x ∷ xs) =
     omega (arith, sum_by-cons (λ y. cond (is_publish y) 1 0) x xs, sum_by-cons (λ y. cond (is_mark y) 1 0) x xs, same_count xs, ap one_if (same_test x))
 
 -- a turn behind turn g, in a phase of t turns
-next_in_phase : (t g : ℕ) → 0 < t → (g + 1) / t ≡ g / t + cond ((g + 1) % t == 0) 1 0
+pub next_in_phase : (t g : ℕ) → 0 < t → (g + 1) / t ≡ g / t + cond ((g + 1) % t == 0) 1 0
 next_in_phase t g some =
     let split : g / t * t + g % t ≡ g = div-add-mod' g t in
     let low : g % t < t = mod-lt g some in
@@ -78,10 +76,10 @@ marks-before shape write H legal (suc g) within =
     sum_by-append (λ q. cond (is_mark_entry q) 1 0) E turn
     ∙ omega (arith, before, here, next, ap (λ n. n / shape.ticks) (add-one g))
 
--- ---- what stands before a mark that stands already
+-- ---- what stands at the front
 
 -- the entries of the first turns are the front of those of more turns
-entries-front : (write : ℕ → ℕ → WriteFrame) (H : History) (g k : ℕ) →
+pub entries-front : (write : ℕ → ℕ → WriteFrame) (H : History) (g k : ℕ) →
     (rest : List Placed) × (entries_before write H (k + g) ≡ entries_before write H g ++ rest)
 unfolding entries_before
 entries-front write H g zero =
@@ -95,15 +93,3 @@ entries-front write H g (suc k) =
       front.0 ++ turn,
       ap (entries_before write H) more ∙ ap (λ (F : List Placed). F ++ turn) front.1 ∙ append_assoc (entries_before write H g) front.0 turn,
     )
-
--- what stands before a mark of the turns before stays so
-pub before-stays : (write : ℕ → ℕ → WriteFrame) (H : History) (g n e : ℕ) (ends : List ℕ) → g ≤ n → AreEnds (entries_before write H g) ends →
-    e < length ends → before (entries_before write H n) e ≡ before (entries_before write H g) e
-unfolding before
-before-stays write H g n zero ends later are within = refl
-before-stays write H g n (suc e) ends later are within =
-    let front = entries-front write H g (n - g) in
-    let whole : n - g + g ≡ n = omega (arith, later) in
-    ap (λ m. before (entries_before write H m) (suc e)) (sym whole)
-    ∙ ap (λ (F : List Placed). before F (suc e)) front.1
-    ∙ before-settled (entries_before write H g) front.0 (suc e) (are.marked (suc e) (omega arith) within)

@@ -1,6 +1,6 @@
 pub mod ListTests
 pub mod EachLaws
-pub mod OrderLaws
+pub mod ItemLaws
 pub mod EntriesLaws
 pub mod WritingLaws
 pub mod SerialLaws
@@ -16,6 +16,7 @@ pub mod AskingLaws
 pub mod JoiningLaws
 pub mod EpochLaws
 pub mod ShownLaws
+pub mod ComingLaws
 pub mod ServersLaws
 pub mod NoticesLaws
 pub mod TapLaws

@@ -18,7 +18,6 @@ use Rattle.tk_table.specs.Table.{window}
 use Rattle.tk_table.specs.Shown.{pushes_of, is_shown}
 use Rattle.tk_cli.specs.declared.notices.Notices.{Notices}
 use Rattle.tk_cli.specs.Notices.{AreNotices, kept_of}
-use Rattle.tk_cli.specs.Sendable.{HasPositions}
 use Rattle.tk_cli.specs.Servers.{shown_with, shown_after}
 use Rattle.tk_cli.proofs.ServersLaws.{records-more, shown-more}
 
@@ -121,23 +120,3 @@ taken-next R shown placed i p n low at are =
     subst (λ rs. AreNotices (R ++ records (take (i + 1) placed)) rs n)
     (shown-more R shown placed i p low at)
     (subst (λ rs. AreNotices rs then n) (records-more R placed i p low at) are)
-
--- what holds of the records of all entries holds of those of the first, and of the others'
-each-parted : (P : Record → Type 0) (first : Option Record) (rs : List Record) →
-    AllByRecursion P (cons_option first rs) →
-    AllByRecursion P (cons_option first []) × AllByRecursion P rs
-each-parted P None rs all = (tt, all)
-each-parted P (Some r) rs all = ((all.0, tt), all.1)
-
--- each entry has its positions if all have
-pub positions-at : (shape : Shape) (placed : List Placed) (i : ℕ) (p : Placed) →
-    i < length placed → p ≡ slice_index_or placed i p →
-    AllByRecursion (HasPositions shape) (records placed) →
-    AllByRecursion (HasPositions shape) (records (p ∷ []))
-positions-at shape [] i p low at all = absurd (omega (arith, low))
-positions-at shape (x ∷ xs) zero p low at all =
-    subst (λ (q : Placed). AllByRecursion (HasPositions shape) (records (q ∷ []))) (sym at)
-    (each-parted (HasPositions shape) (record_in x) (records xs) all).0
-positions-at shape (x ∷ xs) (suc i) p low at all =
-    positions-at shape xs i p (omega (arith, low)) at
-    (each-parted (HasPositions shape) (record_in x) (records xs) all).1

@@ -34,11 +34,10 @@ use Rattle.tk_client.specs.Writes.{write_of}
 use Rattle.tk_cli.specs.Queues.{waiting_of}
 use Rattle.tk_cli.specs.Entries.{write_at, placed_from, placed_after, entries_before}
 use Rattle.tk_cli.specs.Entries.{entries}
-use Rattle.tk_cli.specs.Orders.{ArePlacedFrom}
 use Rattle.tk_cli.specs.PassingOver.{IsRecordOf, IsNotRetained, RecordsAreShown}
 use Rattle.tk_frames.specs.Slots.{text_in}
 use Rattle.tk_cli.specs.Report.{lookup}
-use Rattle.tk_cli.proofs.PlacedLaws.{ascend-entry}
+use Rattle.tk_cli.proofs.PlacedLaws.{ArePlacedFrom, ascend-entry}
 use Rattle.tk_script.proofs.Offers.{sent-sealable}
 
 -- ---- the records before a mark are in order

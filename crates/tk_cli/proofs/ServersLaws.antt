@@ -1,10 +1,10 @@
 -- What entries do to a server, and to several.
 use Rattle.std.proofs.Common.{◌≡◌, ◌≢◌, ℕ, zero, suc, ◌+◌, ◌-◌, ◌<◌, ◌≤◌, refl, ap, sym, ◌∙◌}
 use Rattle.std.proofs.Common.{subst, arith, List, [], ◌∷◌, ◌++◌, length, take, drop, map, set}
-use Rattle.std.proofs.Common.{IsTrue, append-nil, append_assoc, get_or-set_other, get_or-set_same}
+use Rattle.std.proofs.Common.{append-nil, append_assoc, get_or-set_other, get_or-set_same}
 use Rattle.std.proofs.Common.{length-append, length-set, flat_map, inl, inr, take-append-drop}
-use Rattle.std.specs.Prelude.{slice_index_or}
-use Rattle.std.specs.List.{All, cons_option}
+use Rattle.std.specs.Prelude.{slice_index_or, Option, Some, None}
+use Rattle.std.specs.List.{All, AllByRecursion, cons_option}
 use Rattle.std.proofs.lemmas.List.{take_more, get_or_default}
 use Rattle.std.proofs.lemmas.Bool.{cases_lt}
 use Rattle.std.proofs.lemmas.List.Elements.{All-nil, All-cons, All-head, All-tail, All-push}
@@ -15,7 +15,7 @@ use Rattle.tk_frames.specs.declared.write_frame.WriteFrame.{WriteFrame}
 use Rattle.tk_frames.specs.declared.entry.Placed.{Placed}
 use Rattle.tk_frames.specs.declared.entry.Entry.{Entry}
 use Rattle.tk_frames.specs.declared.entry.Entry.TheVariants.{Write}
-use Rattle.tk_frames.specs.Order.{Record, record_at, records}
+use Rattle.tk_frames.specs.Order.{Record, record_at, record_in, records}
 use Rattle.tk_table.specs.declared.recent.Recent.{Recent}
 use Rattle.tk_table.specs.Ordered.{AscendFrom, HasBuckets, AreOrdered}
 use Rattle.tk_table.specs.Table.{layout, blocks_of}
@@ -23,11 +23,10 @@ use Rattle.tk_table.specs.Stands.{Kept, recent_of, TableStandsFor, IsPair, IsWri
 use Rattle.tk_table.proofs.Offers.{ascend-last}
 use Rattle.tk_frames.proofs.Offers.{each-split}
 use Rattle.tk_cli.specs.declared.server.Server.{Server}
-use Rattle.tk_cli.specs.Sendable.{placed_has_block}
 use Rattle.tk_cli.specs.Servers.{IsServer, AreServers, MayFollow, MayTakeAll, MayApply}
-use Rattle.tk_cli.specs.Servers.{shown_with, shown_after}
-use Rattle.tk_cli.proofs.ListTests.{list_all-at, list_all-push}
-use Rattle.tk_cli.proofs.ShownLaws.{ordered-front, records-append, shown-append}
+use Rattle.tk_cli.specs.Servers.{HasWrite, shown_with, shown_after}
+use Rattle.tk_frames.proofs.Offers.{records-append}
+use Rattle.tk_cli.proofs.ShownLaws.{ordered-front, shown-append}
 
 -- ---- a write comes into the table
 
@@ -166,6 +165,25 @@ shown-more R shown placed i p low at =
     sym (shown-append R shown (take i placed) (p ∷ []))
     ∙ ap (λ ps. shown_after R shown ps) (sym (take_next placed i p low at))
 
+-- what holds of the records of all entries holds of those of the first, and of the others'
+each-parted : (P : Record → Type 0) (first : Option Record) (rs : List Record) →
+    AllByRecursion P (cons_option first rs) →
+    AllByRecursion P (cons_option first []) × AllByRecursion P rs
+each-parted P None rs all = (tt, all)
+each-parted P (Some r) rs all = ((all.0, tt), all.1)
+
+-- what holds of the record of each entry holds of that of an entry
+pub record-at : (P : Record → Type 0) (placed : List Placed) (i : ℕ) (p : Placed) →
+    i < length placed → p ≡ slice_index_or placed i p → AllByRecursion P (records placed) →
+    AllByRecursion P (records (p ∷ []))
+record-at P [] i p low at all = absurd (omega (arith, low))
+record-at P (x ∷ xs) zero p low at all =
+    subst (λ (q : Placed). AllByRecursion P (records (q ∷ []))) (sym at)
+    (each-parted P (record_in x) (records xs) all).0
+record-at P (x ∷ xs) (suc i) p low at all =
+    record-at P xs i p (omega (arith, low)) at
+    (each-parted P (record_in x) (records xs) all).1
+
 -- an entry behind those before it
 pub follow-next : (shape : Shape) (R : List Record) (placed : List Placed) (i : ℕ) (p : Placed) →
     i < length placed → p ≡ slice_index_or placed i p → MayFollow shape R placed →
@@ -182,13 +200,9 @@ follow-next shape R placed i p low at may =
     ordered-front shape (R ++ records front) (records rest)
     (subst (λ rs. AreOrdered shape rs) split may.ordered)
     in
-    let fits = placed_has_block shape.block in
-    let here : IsTrue (fits p) =
-    subst (λ q. IsTrue (fits q)) (sym at) (list_all-at fits placed i p low may.blocks)
-    in
     record {
       ordered = subst (λ rs. AreOrdered shape rs) (sym (records-more R placed i p low at)) ordered;
-      blocks = list_all-push fits [] p refl here;
+      writes = record-at (HasWrite shape) placed i p low at may.writes;
     }
 
 -- what becomes of a server at the first entries, if it may take all

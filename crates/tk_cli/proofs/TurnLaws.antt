@@ -4,7 +4,7 @@ use Rattle.std.proofs.Common.{ℕ, zero, suc, ◌+◌, ◌<◌, ◌≤◌, List,
 use Rattle.std.proofs.Common.{flat_map, append_assoc, append-nil, zero-add, add-one}
 use Rattle.std.proofs.Common.{get_or, drop, length-append, IsTrue, Option, ◌-◌}
 use Rattle.std.specs.Prelude.{slice_index}
-use Rattle.std.specs.List.{AllByRecursion, range_with_len, list_all}
+use Rattle.std.specs.List.{AllByRecursion, range_with_len}
 use Rattle.std.proofs.lemmas.List.{map-id, get_or-replicate}
 use Rattle.std.proofs.lemmas.List.FromFn.{map-range_with_len_more, get_or-map-range_with_len}
 use Rattle.std.proofs.lemmas.Grind.{flat_map-append}
@@ -25,25 +25,23 @@ use Rattle.tk_table.specs.Ordered.{AreOrdered}
 use Rattle.tk_table.specs.Laws.{IsStorable}
 use Rattle.tk_cli.specs.Entries.{write_at, entries, entries_at, entries_before}
 use Rattle.tk_cli.specs.Exchange.{turn_frames, frames_before, read_answered, exchange, bytes_of}
-use Rattle.tk_cli.specs.Servers.{AreServers, nothing_seen, shown_after}
+use Rattle.tk_cli.specs.Servers.{AreServers, HasWrite, nothing_seen, shown_after}
 use Rattle.tk_cli.specs.Turns.{turn_seen, seen_before, seen_of_reads, placed_before}
 use Rattle.tk_cli.specs.Turns.{AreReadOver, AreServersBefore, IsReadable, IsTurnOf}
 use Rattle.tk_cli.specs.declared.notices.Notices.{Notices}
 use Rattle.tk_table.specs.Shown.{is_shown}
 use Rattle.tk_cli.specs.Notices.{AreNotices}
 use Rattle.tk_cli.specs.Runs.{AreNoticesBefore}
-use Rattle.tk_cli.specs.Sendable.{placed_has_block, HasPositions}
-use Rattle.tk_cli.specs.Orders.{IsOrder}
-use Rattle.tk_cli.specs.declared.order.Order.{Order}
-use Rattle.tk_cli.proofs.PlacedLaws.{order-ordered}
+use Rattle.tk_frames.specs.InOrder.{IsOrder}
+use Rattle.tk_frames.proofs.Offers.{records-append, order-front, order-records}
+use Rattle.tk_cli.proofs.PlacedLaws.{order-ordered, order-storable}
 use Rattle.tk_cli.proofs.EachLaws.{each-front, each-behind}
-use Rattle.tk_cli.proofs.ShownLaws.{ordered-front, records-append, shown-append}
+use Rattle.tk_cli.proofs.ShownLaws.{ordered-front, shown-append}
 use Rattle.tk_cli.proofs.ShownLaws.{shown-front, shown-read}
 use Rattle.tk_io.specs.Content.{gained}
 use Rattle.tk_io.specs.Tapped.{GainsFront, TapsGain, TapsGainFronts}
 use Rattle.tk_io.proofs.Offers.{gained-nothing, taps-same, taps-twice}
 use Rattle.tk_io.proofs.Offers.{front-of_first, front-of_second}
-use Rattle.tk_cli.proofs.ListTests.{list_all-behind}
 
 -- ---- lists
 
@@ -162,14 +160,15 @@ epoch-serial shape g c turn_in client_in =
 -- all of it is over what was shown before the turn
 pub read_over-serial : (S : Script) (w : BookWords) (H : History) (g : ℕ) → IsLegal S.shape H →
     H ≡ serial_history S.shape → g < turn_count S.shape →
+    IsOrder S.shape (placed_before S w H g) →
     AreReadOver S w H g (shown_after [] [] (placed_before S w H g))
-read_over-serial S w H g legal serial turn_in c client_in =
+read_over-serial S w H g legal serial turn_in order c client_in =
     let epoch : epoch_at H g c ≡ phases_over S.shape g =
     ap (λ (h : History). epoch_at h g c) serial ∙ epoch-serial S.shape g c turn_in client_in
     in
     ap (before (entries S w H)) epoch
     ∙ shown-read (write_at S w) S.shape H legal g (turn_count S.shape) (omega (arith, turn_in))
-    (omega arith)
+    (omega arith) order
 
 -- ---- entries
 
@@ -256,50 +255,36 @@ shown-storable shape E storable =
     (subst (AllByRecursion (IsStorable shape)) front.1 storable)
 
 -- what stands behind the entries before a turn is a turn of the run
-pub turn-of_order : (S : Script) (w : BookWords) (H : History) (g : ℕ) (old : List Placed)
-    (o : Order) (start : ℕ) (placed : List Placed) → old ≡ placed_before S w H g →
-    start ≡ length old → placed ≡ drop start o.placed.items → IsOrder o → o.shape ≡ S.shape →
-    o.placed.items ≡ placed_before S w H (g + 1) → IsLegal S.shape H →
+pub turn-of_order : (S : Script) (w : BookWords) (H : History) (g : ℕ) (old all : List Placed)
+    (start : ℕ) (placed : List Placed) → old ≡ placed_before S w H g →
+    start ≡ length old → placed ≡ drop start all → IsOrder S.shape all →
+    all ≡ placed_before S w H (g + 1) → IsLegal S.shape H →
     H ≡ serial_history S.shape → g < turn_count S.shape → IsTurnOf S w H g placed
-turn-of_order S w H g old o start placed old_is start_is placed_is order shape new_is legal serial
+turn-of_order S w H g old all start placed old_is start_is placed_is order all_is legal serial
     turn_in =
     let E = placed_before S w H g in
     let entries_are : placed ≡ entries_at (write_at S w) H g =
-    placed_is ∙ ap (λ (n : ℕ). drop n o.placed.items) start_is
-    ∙ entries-added (write_at S w) H g old o.placed.items old_is new_is
+    placed_is ∙ ap (λ (n : ℕ). drop n all) start_is
+    ∙ entries-added (write_at S w) H g old all old_is all_is
     in
-    let whole : o.placed.items ≡ E ++ placed =
-    new_is ∙ entries-next (write_at S w) H g ∙ ap (λ (xs : List Placed). E ++ xs) (sym entries_are)
+    let whole : all ≡ E ++ placed =
+    all_is ∙ entries-next (write_at S w) H g ∙ ap (λ (xs : List Placed). E ++ xs) (sym entries_are)
     in
-    let writes : records o.placed.items ≡ records E ++ records placed =
-    ap records whole ∙ records-append E placed
-    in
-    let ordered : AreOrdered S.shape (records E ++ records placed) =
-    subst (AreOrdered S.shape) writes
-    (subst (λ s. AreOrdered s (records o.placed.items)) shape (order-ordered o order))
-    in
-    let storable : AllByRecursion (IsStorable S.shape) (records E ++ records placed) =
-    subst (AllByRecursion (IsStorable S.shape)) writes
-    (subst (λ s. AllByRecursion (IsStorable s) (records o.placed.items)) shape order.storable)
-    in
-    let positions : AllByRecursion (HasPositions S.shape) (records E ++ records placed) =
-    subst (AllByRecursion (HasPositions S.shape)) writes
-    (subst (λ s. AllByRecursion (HasPositions s) (records o.placed.items)) shape order.positions)
-    in
-    let blocks : IsTrue (list_all (placed_has_block S.shape.block) (E ++ placed)) =
-    subst (λ xs. IsTrue (list_all (placed_has_block S.shape.block) xs)) whole
-    (subst (λ s. IsTrue (list_all (placed_has_block (Shape.block s)) o.placed.items)) shape
-    order.blocks)
+    let both : IsOrder S.shape (E ++ placed) = subst (IsOrder S.shape) whole order in
+    let before : IsOrder S.shape E = order-front S.shape E placed both in
+    let writes : records (E ++ placed) ≡ records E ++ records placed = records-append E placed in
+    let written : AllByRecursion (HasWrite S.shape) (records E ++ records placed) =
+    subst (AllByRecursion (HasWrite S.shape)) writes (order-records S.shape (E ++ placed) both)
     in
     record {
       entries = entries_are;
       may = record {
-        ordered = ordered;
-        blocks = list_all-behind (placed_has_block S.shape.block) E placed blocks;
+        ordered =
+            subst (AreOrdered S.shape) writes (order-ordered S.shape (E ++ placed) both);
+        writes = each-behind (HasWrite S.shape) (records E) (records placed) written;
       };
-      storable = each-front (IsStorable S.shape) (records E) (records placed) storable;
-      positions = each-behind (HasPositions S.shape) (records E) (records placed) positions;
-      over = read_over-serial S w H g legal serial turn_in;
+      storable = order-storable S.shape E before;
+      over = read_over-serial S w H g legal serial turn_in before;
     }
 
 -- what is shown before a turn can be read in it

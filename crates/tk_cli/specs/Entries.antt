@@ -1,18 +1,20 @@
 -- The order that a history gives.
-use Rattle.std.specs.Prelude.{ℕ, zero, suc, ◌+◌, List, [], ◌∷◌, ◌++◌, length, count_by, option_map}
+use Rattle.std.specs.Prelude.{◌≡◌, ◌<◌, ◌≤◌, ◌*◌, ℕ, zero, suc, ◌+◌, List, [], ◌∷◌, ◌++◌, length, count_by, option_map}
 use Rattle.tk_schedule.specs.declared.item.Item.{Item}
 use Rattle.tk_schedule.specs.declared.item.Item.TheVariants.{Client, Publish}
 use Rattle.tk_schedule.specs.declared.history.History.{History}
 use Rattle.tk_script.specs.declared.script.Script.{Script}
+use Rattle.tk_shape.specs.declared.shape.Shape.{Shape}
 use Rattle.tk_frames.specs.declared.write_frame.WriteFrame.{WriteFrame}
 use Rattle.tk_frames.specs.declared.entry.Placed.{Placed}
 use Rattle.tk_frames.specs.declared.entry.Entry.TheVariants.{Write, Mark}
 use Rattle.tk_shape.specs.Lengths.{turn_count}
-use Rattle.tk_schedule.specs.Schedule.{order_at}
+use Rattle.tk_schedule.specs.Schedule.{order_at, phase_of}
 use Rattle.tk_words.specs.Words.{BookWords}
 use Rattle.tk_client.specs.Writes.{write_of}
 use Rattle.tk_cli.specs.Queues.{waiting_of}
-use Rattle.tk_frames.specs.Order.{is_mark_entry}
+use Rattle.tk_frames.specs.Order.{is_mark_entry, records}
+use Rattle.tk_frames.specs.InOrder.{mark_count}
 use Rattle.tk_script.specs.Sent.{sent}
 
 -- what a client writes in a turn
@@ -48,3 +50,10 @@ entries_at write H g = placed_after (write g) (entries_before write H g) (order_
 -- the whole order of a run
 abbrev pub entries : Script → BookWords → History → List Placed
 entries S w H = entries_before (write_at S w) H (turn_count S.shape)
+
+-- An item of turn g may come behind these entries: a write, where a run has more of them; or the
+-- mark that closes the turn's phase.
+abbrev pub MayCome : Shape → ℕ → List Placed → Item → Type 0
+MayCome shape g E (Client c) = length (records E) < shape.clients * turn_count shape
+MayCome shape g E Publish =
+    (length (records E) ≤ shape.clients * turn_count shape) × (mark_count E + 1 ≡ phase_of shape g)

@@ -1,9 +1,7 @@
-pub mod Sendable
 pub mod StatusLines
 pub mod Requests
 pub mod Untouched
 pub mod Handles
-pub mod Orders
 pub mod Queues
 pub mod Entries
 pub mod Report

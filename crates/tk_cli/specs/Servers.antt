@@ -1,20 +1,18 @@
 -- What a server's table stands for, what it shows, and what it saw.
 use Rattle.std.specs.Prelude.{◌≡◌, ℕ, ◌+◌, ◌-◌, ◌<◌, List, [], ◌∷◌, ◌++◌, length, map, slice_index_or}
-use Rattle.std.specs.Prelude.{IsTrue}
-use Rattle.std.specs.List.{list_all, AllByRecursion}
+use Rattle.std.specs.List.{AllByRecursion}
 use Rattle.tk_shape.specs.declared.shape.Shape.{Shape}
 use Rattle.tk_shape.specs.Lengths.{width}
 use Rattle.tk_frames.specs.declared.entry.Entry.{Entry}
 use Rattle.tk_frames.specs.declared.entry.Entry.TheVariants.{Write, Mark}
 use Rattle.tk_frames.specs.declared.entry.Placed.{Placed}
 use Rattle.tk_frames.specs.declared.read_frame.ReadFrame.{ReadFrame}
-use Rattle.tk_frames.specs.Ranges.{IsRead}
+use Rattle.tk_frames.specs.Ranges.{IsWrite, IsRead}
 use Rattle.tk_frames.specs.Spelling.{read_frame}
 use Rattle.tk_frames.specs.Order.{Record, records}
 use Rattle.tk_table.specs.Ordered.{AreOrdered}
 use Rattle.tk_table.specs.Table.{layout, blocks_of}
 use Rattle.tk_table.specs.Stands.{TableStandsFor}
-use Rattle.tk_cli.specs.Sendable.{placed_has_block}
 use Rattle.tk_cli.specs.Exchange.{bytes_of, with_reply}
 use Rattle.tk_cli.specs.declared.server.Server.{Server}
 
@@ -55,11 +53,14 @@ shown_after R shown [] = shown
 shown_after R shown (p ∷ ps) =
     shown_after (R ++ records (p ∷ [])) (shown_with R shown p.entry) ps
 
--- entries that a table of the writes R may take: behind R they are in order, and their blocks have
--- the shape's length
+-- a record has a write that is in range
+abbrev pub HasWrite : Shape → Record → Type 0
+HasWrite shape r = IsWrite shape r.write
+
+-- entries that a table of the writes R may take: behind R they are in order, and in range
 pub record MayFollow (shape : Shape) (R : List Record) (placed : List Placed) : Type 0 where
   pub ordered : AreOrdered shape (R ++ records placed)
-  pub blocks : IsTrue (list_all (placed_has_block shape.block) placed)
+  pub writes : AllByRecursion (HasWrite shape) (records placed)
 
 -- a server that may take these entries
 pub record MayTakeAll (placed : List Placed) (s : Server) : Type 0 where

@@ -15,7 +15,6 @@ use Rattle.tk_cli.specs.declared.server.Server.{Server}
 use Rattle.tk_cli.specs.Entries.{write_at, entries_before, entries_at}
 use Rattle.tk_cli.specs.Exchange.{turn_frames, frames_before, read_answered, bytes_of}
 use Rattle.tk_cli.specs.Report.{read_over}
-use Rattle.tk_cli.specs.Sendable.{HasPositions}
 use Rattle.tk_cli.specs.Servers.{AreServers, MayFollow, shown_after}
 
 -- the clients' reads of a turn are all over these writes
@@ -64,5 +63,4 @@ pub record IsTurnOf (S : Script) (w : BookWords) (H : History) (g : ℕ) (placed
   pub entries : placed ≡ entries_at (write_at S w) H g
   pub may : MayFollow S.shape (records (placed_before S w H g)) placed
   pub storable : AllByRecursion (IsStorable S.shape) (records (placed_before S w H g))
-  pub positions : AllByRecursion (HasPositions S.shape) (records placed)
   pub over : AreReadOver S w H g (shown_after [] [] (placed_before S w H g))

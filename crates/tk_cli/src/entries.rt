@@ -6,19 +6,18 @@ ghost use Rattle.tk_schedule.specs.declared.item.Item.TheVariants.{Client as Wri
 ghost use Rattle.tk_schedule.specs.Schedule.{IsLegal, is_within};
 ghost use Rattle.tk_words.specs.Words.{words_of};
 ghost use Rattle.tk_frames.specs.Ranges.{IsWrite};
+ghost use Rattle.tk_frames.specs.InOrder.{IsOrder};
 ghost use Rattle.tk_client.specs.Client.{ClientState};
 ghost use Rattle.tk_client.specs.Writing.{first_waiting, after_write};
 ghost use Rattle.tk_client.specs.Writes.{write_of};
 ghost use Rattle.tk_cli.specs.Clients.{AreClients, client_said, client_wrote};
-ghost use Rattle.tk_cli.specs.Entries.{entries_before, placed_after, write_at};
-ghost use Rattle.tk_cli.specs.Orders.{IsOrder};
+ghost use Rattle.tk_cli.specs.Entries.{MayCome, entries_before, placed_after, write_at};
 
-use crate::order::Order;
-use crate::ordering::{mark, put};
+use crate::ordering::append;
 use std::alloc::Global;
 use tk_client::Client;
-use tk_frames::{WriteFrame, decode_write};
-use tk_schedule::{History, Item};
+use tk_frames::{Entry, Placed, WriteFrame, decode_write};
+use tk_schedule::{History, Item, place};
 use tk_script::Script;
 use tk_shape::{Memory, Shape};
 use tk_words::Draws;
@@ -32,22 +31,20 @@ pub(crate) fn write_turn<D: Draws>(
     history: &History,
     turn: u32,
     clients: &mut [Client],
-    order: &mut Order,
+    order: &mut Vec<Placed>,
 ) -> Result<(), Memory>
     requires one_shape { D.shape draws.now ≡ script.now.shape }
     requires legal { IsLegal script.now.shape history.now }
     requires turn_in { turn < turn_count script.now.shape }
-    requires order { IsOrder order.old }
-    requires shape { order.old.shape ≡ script.now.shape }
+    requires order { IsOrder script.now.shape order.old.items }
     requires before { let words = words_of script.now.shape (D.book draws.now) in
-        order.old.placed.items ≡ entries_before (write_at script.now words) history.now turn }
+        order.old.items ≡ entries_before (write_at script.now words) history.now turn }
     requires clients { let words = words_of script.now.shape (D.book draws.now) in
         AreClients script.now.shape.clients (client_said script.now words history.now turn)
         clients.old }
-    ensures order { OnOk result (IsOrder order.new) }
-    ensures shape { order.new.shape ≡ script.now.shape }
+    ensures order { OnOk result (IsOrder script.now.shape order.new.items) }
     ensures entries { let words = words_of script.now.shape (D.book draws.now) in
-        OnOk result (order.new.placed.items
+        OnOk result (order.new.items
         ≡ entries_before (write_at script.now words) history.now (turn + 1)) }
     ensures clients { let words = words_of script.now.shape (D.book draws.now) in
         OnOk result (AreClients script.now.shape.clients
@@ -68,22 +65,21 @@ fn write_item<D: Draws>(
     turn: u32,
     item: &Item,
     clients: &mut [Client],
-    order: &mut Order,
+    order: &mut Vec<Placed>,
 ) -> Result<(), Memory>
     requires one_shape { D.shape draws.now ≡ script.now.shape }
     requires turn_in { turn < turn_count script.now.shape }
     requires item { IsTrue (is_within script.now.shape.clients item.now) }
-    requires order { IsOrder order.old }
-    requires shape { order.old.shape ≡ script.now.shape }
+    requires order { IsOrder script.now.shape order.old.items }
+    requires may_come { MayCome script.now.shape turn order.old.items item.now }
     requires counted { length clients.old ≡ script.now.shape.clients }
     requires due { let words = words_of script.now.shape (D.book draws.now) in
         (c : ℕ) (d : ClientState) → item.now ≡ Writes c
         → slice_index_or clients.old c d ≡ client_said script.now words history.now turn c }
-    ensures order { OnOk result (IsOrder order.new) }
-    ensures shape { order.new.shape ≡ script.now.shape }
+    ensures order { OnOk result (IsOrder script.now.shape order.new.items) }
     ensures placed { let words = words_of script.now.shape (D.book draws.now) in
-        let before = order.old.placed.items in
-        OnOk result (order.new.placed.items
+        let before = order.old.items in
+        OnOk result (order.new.items
         ≡ before ++ placed_after (write_at script.now words turn) before (item.now ∷ [])) }
     ensures wrote { let words = words_of script.now.shape (D.book draws.now) in
         (c : ℕ) → item.now ≡ Writes c → OnOk result (clients.new
@@ -94,9 +90,12 @@ fn write_item<D: Draws>(
         Item::Client(client) => {
             let client = &mut clients[*client as usize];
             let frame = frame_of(alloc, &script.shape, draws, turn, client)?;
-            put(order, frame)
+            append(order, Entry::Write(frame))
         }
-        Item::Publish => mark(order),
+        Item::Publish => {
+            let (phase, _) = place(&script.shape, turn);
+            append(order, Entry::Mark(phase))
+        }
     }
 }
 

@@ -9,7 +9,6 @@ mod history_text;
 mod laws;
 mod log_text;
 mod notices;
-mod order;
 mod ordering;
 mod private_read;
 mod reading;

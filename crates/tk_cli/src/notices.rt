@@ -21,8 +21,7 @@ impl Notices {
     ghost use Rattle.std.specs.List.{AllByRecursion};
     ghost use Rattle.tk_frames.specs.Order.{Record, records};
     ghost use Rattle.tk_cli.specs.Notices.{AreNotices};
-    ghost use Rattle.tk_cli.specs.Sendable.{HasPositions};
-    ghost use Rattle.tk_cli.specs.Servers.{shown_with, shown_after};
+    ghost use Rattle.tk_cli.specs.Servers.{HasWrite, shown_with, shown_after};
 
     /// Nothing is worth reading yet.
     pub(crate) fn open(alloc: Global, shape: &Shape) -> Result<Notices, Memory>
@@ -45,7 +44,7 @@ impl Notices {
     /// Takes an entry behind all that came before it: a write's positions go into the window, and at a mark its filter
     /// is shown.
     pub(crate) fn apply(&mut self, alloc: Global, placed: &Placed) -> Result<(), Memory>
-        requires { AllByRecursion (HasPositions self.old.shape) (records (placed.now ∷ [])) }
+        requires { AllByRecursion (HasWrite self.old.shape) (records (placed.now ∷ [])) }
         ensures shape { self.new.shape ≡ self.old.shape }
         ensures next { (R shown : List Record) → AreNotices R shown self.old
             → OnOk result (AreNotices (R ++ records (placed.now ∷ []))
@@ -65,7 +64,7 @@ impl Notices {
 
     /// Takes these entries, one after the other.
     pub(crate) fn apply_each(&mut self, alloc: Global, placed: &[Placed]) -> Result<(), Memory>
-        requires { AllByRecursion (HasPositions self.old.shape) (records placed.now) }
+        requires { AllByRecursion (HasWrite self.old.shape) (records placed.now) }
         ensures shape { self.new.shape ≡ self.old.shape }
         ensures next { (R shown : List Record) → AreNotices R shown self.old
             → OnOk result (AreNotices (R ++ records placed.now)

@@ -1,7 +1,7 @@
 use crate::notices::Notices;
-use crate::order::Order;
 use crate::server::Server;
 use tk_client::Client;
+use tk_frames::Placed;
 
 /// A run as it stands between two turns.
 #[derive(Drop)]
@@ -11,7 +11,7 @@ pub(crate) struct Run {
     /// The clients, by number.
     pub clients: Vec<Client>,
     /// The entries so far.
-    pub order: Order,
+    pub order: Vec<Placed>,
     /// The servers, server 1 first.
     pub servers: Vec<Server>,
     pub notices: Notices,

@@ -14,8 +14,6 @@ ghost use Rattle.tk_cli.specs.Turns.{AreServersBefore, IsTurnOf, turn_seen};
 use crate::clients::open_clients;
 use crate::entries::write_turn;
 use crate::notices::Notices;
-use crate::order::Order;
-use crate::ordering::empty_order;
 use crate::reading::read_turn;
 use crate::run::Run;
 use crate::run_error::RunError;
@@ -70,7 +68,7 @@ fn open_run(alloc: Global, script: &Script) -> Result<Run, Memory>
     Ok(Run {
         said: 0,
         clients: open_clients(alloc, script)?,
-        order: empty_order(alloc, &script.shape)?,
+        order: Vec::new(alloc),
         servers: open_servers(alloc, &script.shape)?,
         notices: Notices::open(alloc, &script.shape)?,
     })
@@ -160,10 +158,10 @@ fn meet<D: Draws>(
         (IsRunBefore script.now (D.book draws.now) history.now (turn + 1) seen run.new) }
 {
     run.said = say_turn(alloc, script, turn, run.said, run.clients.as_mut_slice())?;
-    let start = run.order.placed.len();
+    let start = run.order.len();
     let clients = run.clients.as_mut_slice();
     write_turn(alloc, script, draws, history, turn, clients, &mut run.order)?;
-    let placed = entries_from(&run.order, start);
+    let placed = entries_from(run.order.as_slice(), start);
     let servers = run.servers.as_mut_slice();
     serve_turn(
         alloc,
@@ -180,11 +178,11 @@ fn meet<D: Draws>(
 }
 
 /// The entries of an order from a place on.
-fn entries_from(order: &Order, start: usize) -> &[Placed]
-    requires { start ≤ length order.now.placed.items }
-    ensures { result.now ≡ drop start order.now.placed.items }
+fn entries_from(order: &[Placed], start: usize) -> &[Placed]
+    requires { start ≤ length order.now }
+    ensures { result.now ≡ drop start order.now }
 {
-    let (_, rest) = order.placed.as_slice().split_at(start);
+    let (_, rest) = order.split_at(start);
     rest
 }
 

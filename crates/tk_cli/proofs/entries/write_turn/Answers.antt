@@ -7,6 +7,7 @@ use Rattle.tk_schedule.specs.Schedule.{is_of, is_within}
 use Rattle.tk_words.specs.Words.{words_of}
 use Rattle.tk_cli.specs.Entries.{entries_before, write_at}
 use Rattle.tk_cli.proofs.ListTests.{list_all-at}
+use Rattle.tk_cli.proofs.ComingLaws.{item-may_come}
 use Rattle.tk_cli.proofs.EntriesLaws.{no-item, next-item, next-turn}
 use Rattle.tk_cli.proofs.WritingLaws.{after-none, after-next, after-all, after-item, client-below}
 use Rattle.tk_cli.proofs.entries.write_turn.Goals as goal
@@ -19,7 +20,6 @@ items-init g c =
     let E = entries_before write c.args.history.now c.args.turn in
     record {
       order = c.requires.order;
-      shape = c.requires.shape;
       entries = c.requires.before ∙ sym (no-item (write c.args.turn) E);
       items = c.order-item-items.ensures.order;
       clients =
@@ -46,6 +46,14 @@ write_item-requires-clause-due g c κs within = λ k e is.
     after-next S words c.args.history.now c.args.turn items i k (Client 0) c.items.clients e
     once c.items-test.true is (omega (arith, low, so_far.clients.counted)) so_far.clients
 
+pub write_item-requires-clause-may_come : goal.write_item-requires-clause-may_come
+write_item-requires-clause-may_come g c κs within =
+    let S = c.args.script.now in
+    let words = words_of S.shape (g.D.Draws.book c.args.draws.now) in
+    item-may_come S.shape (write_at S words) c.args.history.now c.args.turn c.items.item-index
+    c.order-item-items.result.now (Client 0) c.items.order.items c.requires.legal
+    c.requires.turn_in c.items.invariant.items c.items-test.true c.items.invariant.entries
+
 pub items-preserved : goal.items-preserved
 items-preserved g c =
     let S = c.args.script.now in
@@ -62,10 +70,9 @@ items-preserved g c =
     let here = get_or_default items i (Client 0) x c.items-test.true in
     record {
       order = c.in_ok-write_item.ensures.order;
-      shape = c.write_item.ensures.shape;
       entries =
-          next-item (write c.args.turn) E items i (Client 0) c.items.order.placed.items
-          c.write_item.new.order.placed.items c.items-test.true so_far.entries
+          next-item (write c.args.turn) E items i (Client 0) c.items.order.items
+          c.write_item.new.order.items c.items-test.true so_far.entries
           c.in_ok-write_item.ensures.placed;
       items = so_far.items;
       clients =
@@ -80,7 +87,7 @@ returns-clause-entries g c =
     let S = c.args.script.now in
     let write = write_at S (words_of S.shape (g.D.Draws.book c.args.draws.now)) in
     next-turn write c.args.history.now c.args.turn c.order-item-items.result.now
-    c.items.item-index c.items.order.placed.items (omega (arith, c.items-test.false))
+    c.items.item-index c.items.order.items (omega (arith, c.items-test.false))
     c.items.invariant.items c.items.invariant.entries
 
 pub returns-clause-clients : goal.returns-clause-clients

@@ -1,5 +1,5 @@
 -- What a turn adds stands behind what stood before, and is a turn of the run.
-use Rattle.std.proofs.Common.{arith, ◌≡◌, ◌∙◌, ◌+◌, [], sym, subst, length}
+use Rattle.std.proofs.Common.{arith, ap, drop, ◌≡◌, ◌∙◌, ◌+◌, [], sym, subst, length}
 use Rattle.std.specs.List.{AllByRecursion}
 use Rattle.std.specs.Vec.{with_items}
 use Rattle.std.proofs.lemmas.List.{with_items_is}
@@ -9,8 +9,7 @@ use Rattle.tk_frames.specs.Order.{records}
 use Rattle.std.proofs.lemmas.Result.{on_ok_weaker}
 use Rattle.tk_cli.specs.Clients.{AreClients, client_before, client_said}
 use Rattle.tk_cli.specs.Entries.{write_at}
-use Rattle.tk_cli.specs.Sendable.{HasPositions}
-use Rattle.tk_cli.specs.Servers.{shown_after}
+use Rattle.tk_cli.specs.Servers.{HasWrite, shown_after}
 use Rattle.tk_cli.specs.Turns.{AreServersBefore, placed_before, turn_seen}
 use Rattle.tk_cli.proofs.TurnLaws.{entries-grow, turn-of_order, notices-next}
 use Rattle.tk_cli.proofs.turns.meet.Goals as goal
@@ -20,10 +19,10 @@ entries_from-placed-requires g c =
     let S = c.args.script.now in
     let words = words_of S.shape (g.D.Draws.book c.args.draws.now) in
     let grown = entries-grow (write_at S words) c.args.history.now c.args.turn
-    c.args.run.now.order.placed.items c.write_turn.new.order.placed.items c.requires.run.entries
+    c.args.run.now.order.items c.write_turn.new.order.items c.requires.run.entries
     c.in_ok-write_turn.ensures.entries
     in
-    omega (arith, grown, c.len-start.ensures)
+    omega (arith, grown, c.len-start.ensures, ap length c.as_slice.ensures)
 
 pub write_turn-requires-clause-clients : goal.write_turn-requires-clause-clients
 write_turn-requires-clause-clients g c κs within =
@@ -49,10 +48,10 @@ serve_turn-requires-clause-turn g c κs within =
     let S = c.args.script.now in
     let words = words_of S.shape (g.D.Draws.book c.args.draws.now) in
     let wrote = c.in_ok-write_turn.ensures in
-    turn-of_order S words c.args.history.now c.args.turn c.args.run.now.order.placed.items
-    c.write_turn.new.order c.len-start.result c.entries_from-placed.result.now
-    c.requires.run.entries (omega (arith, c.len-start.ensures)) c.entries_from-placed.ensures
-    wrote.order wrote.shape wrote.entries c.requires.legal c.requires.serial c.requires.turn_in
+    turn-of_order S words c.args.history.now c.args.turn c.args.run.now.order.items
+    c.write_turn.new.order.items c.len-start.result c.entries_from-placed.result.now
+    c.requires.run.entries (omega (arith, c.len-start.ensures)) (c.entries_from-placed.ensures ∙ ap (drop c.len-start.result) c.as_slice.ensures)
+    wrote.order wrote.entries c.requires.legal c.requires.serial c.requires.turn_in
 
 pub apply_each-requires : goal.apply_each-requires
 apply_each-requires g c =
@@ -61,13 +60,13 @@ apply_each-requires g c =
     let wrote = c.in_ok-write_turn.ensures in
     let placed = c.entries_from-placed.result.now in
     let turn =
-    turn-of_order S words c.args.history.now c.args.turn c.args.run.now.order.placed.items
-    c.write_turn.new.order c.len-start.result placed
-    c.requires.run.entries (omega (arith, c.len-start.ensures)) c.entries_from-placed.ensures
-    wrote.order wrote.shape wrote.entries c.requires.legal c.requires.serial c.requires.turn_in
+    turn-of_order S words c.args.history.now c.args.turn c.args.run.now.order.items
+    c.write_turn.new.order.items c.len-start.result placed
+    c.requires.run.entries (omega (arith, c.len-start.ensures)) (c.entries_from-placed.ensures ∙ ap (drop c.len-start.result) c.as_slice.ensures)
+    wrote.order wrote.entries c.requires.legal c.requires.serial c.requires.turn_in
     in
-    subst (λ (shape : Shape). AllByRecursion (HasPositions shape) (records placed))
-    (sym c.requires.run.notices.same) turn.positions
+    subst (λ (shape : Shape). AllByRecursion (HasWrite shape) (records placed))
+    (sym c.requires.run.notices.same) turn.may.writes
 
 pub returns : goal.returns
 returns g c =
@@ -96,9 +95,9 @@ returns g c =
     omega (arith, c.serve_turn.auto.servers, c.as_mut_slice-servers.ensures.len)
     in
     let turn_is =
-    turn-of_order S words H turn run.order.placed.items c.write_turn.new.order c.len-start.result
-    placed c.requires.run.entries (omega (arith, c.len-start.ensures)) c.entries_from-placed.ensures
-    wrote.order wrote.shape wrote.entries c.requires.legal c.requires.serial c.requires.turn_in
+    turn-of_order S words H turn run.order.items c.write_turn.new.order.items c.len-start.result
+    placed c.requires.run.entries (omega (arith, c.len-start.ensures)) (c.entries_from-placed.ensures ∙ ap (drop c.len-start.result) c.as_slice.ensures)
+    wrote.order wrote.entries c.requires.legal c.requires.serial c.requires.turn_in
     in
     let took =
     c.apply_each.ensures.next (records E) (shown_after [] [] E) c.requires.run.notices.are
@@ -110,7 +109,6 @@ returns g c =
             clients = subst (AreClients S.shape.clients (client_before S words H (turn + 1)))
                 (sym (with_items_is said clients clients_counted)) served.clients;
             order = wrote.order;
-            shape = wrote.shape;
             entries = wrote.entries;
             servers = subst (AreServersBefore S words H (turn + 1) (turn_seen S book H turn))
                 (sym (with_items_is run.servers servers servers_counted)) served.servers;

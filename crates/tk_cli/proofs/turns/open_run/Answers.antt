@@ -1,6 +1,7 @@
 -- Each part of a run is opened as it is before the first turn.
-use Rattle.std.proofs.Common.{◌∙◌, sym}
+use Rattle.std.proofs.Common.{sym}
 use Rattle.tk_words.specs.Words.{words_of}
+use Rattle.tk_frames.proofs.Offers.{order-none}
 use Rattle.tk_cli.proofs.SayOrder.{said-none}
 use Rattle.tk_cli.proofs.TurnLaws.{placed-first, servers-first, notices-first}
 use Rattle.tk_cli.proofs.turns.open_run.Goals as goal
@@ -12,9 +13,8 @@ returns c b H =
     record {
       said = sym (said-none S);
       clients = c.in_ok-open_clients.ensures words H;
-      order = c.in_ok-empty_order.ensures.order;
-      shape = c.in_ok-empty_order.ensures.shape;
-      entries = c.in_ok-empty_order.ensures.placed ∙ sym (placed-first S words H);
+      order = order-none S.shape;
+      entries = sym (placed-first S words H);
       servers = servers-first S words H c.in_ok-open_servers.field-0.items c.in_ok-open_servers.ensures;
       notices = notices-first S words H c.in_ok-open.field-0 c.in_ok-open.ensures.shape
           c.in_ok-open.ensures.none;

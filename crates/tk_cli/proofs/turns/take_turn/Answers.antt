@@ -60,7 +60,6 @@ returns-clause-run g c =
       said = met.said;
       clients = met.clients;
       order = met.order;
-      shape = met.shape;
       entries = met.entries;
       servers = subst (AreServers S.shape (records E) (shown_after [] [] E) nothing_seen)
           (sym (with_items_is servers given counted)) gave;

@@ -4,9 +4,9 @@ use Rattle.std.specs.List.{AllByRecursion}
 use Rattle.std.proofs.lemmas.List.{take_all}
 use Rattle.tk_frames.specs.Order.{records}
 use Rattle.tk_cli.specs.Notices.{AreNotices}
-use Rattle.tk_cli.specs.Sendable.{HasPositions}
-use Rattle.tk_cli.specs.Servers.{shown_after}
-use Rattle.tk_cli.proofs.NoticesLaws.{taken-none, taken-next, positions-at}
+use Rattle.tk_cli.specs.Servers.{HasWrite, shown_after}
+use Rattle.tk_cli.proofs.NoticesLaws.{taken-none, taken-next}
+use Rattle.tk_cli.proofs.ServersLaws.{record-at}
 use Rattle.tk_cli.proofs.notices.Notices.apply_each.Goals as goal
 
 pub loop-entry-init : goal.loop-entry-init
@@ -17,9 +17,9 @@ pub apply-requires : goal.apply-requires
 apply-requires c =
     let placed = c.args.placed.now in
     let entry = c.entry-item in
-    subst (λ shape. AllByRecursion (HasPositions shape) (records (entry.result ∷ [])))
+    subst (λ shape. AllByRecursion (HasWrite shape) (records (entry.result ∷ [])))
     (sym c.loop-entry.invariant.shape)
-    (positions-at c.args.self.now.shape placed c.loop-entry.entry-index entry.result
+    (record-at (HasWrite c.args.self.now.shape) placed c.loop-entry.entry-index entry.result
     c.loop-entry-test.true entry.is c.requires)
 
 pub loop-entry-preserved : goal.loop-entry-preserved
