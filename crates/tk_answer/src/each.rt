@@ -2,12 +2,13 @@ ghost use Rattle.std.specs.Prelude.{◌≡◌, ◌*◌, length, map, IfOk};
 ghost use Rattle.std.specs.List.{All};
 ghost use Rattle.tk_kernel.specs.Chosen.{chosen_sum};
 
-use crate::{Blocks, answer};
+use crate::Blocks;
+use crate::tiles::summed;
 use std::alloc::Global;
 use tk_shape::{Bytes, Memory};
 
 /// The answers to many vectors, in their order: for each the sum, without carries, of the blocks that it chooses. Each
-/// vector has one bit for each block, counted as `answer` counts them.
+/// vector has one bit for each block, counted as `answer` counts them. All are made in one pass over the blocks.
 pub fn answer_each<B: Blocks>(
     alloc: Global,
     blocks: &B,
@@ -17,19 +18,31 @@ pub fn answer_each<B: Blocks>(
     ensures { IfOk result (λ sums. sums.items
         ≡ map (chosen_sum (B.width blocks.now) (B.blocks blocks.now)) vectors.now) }
 {
-    let mut sums = Vec::new(alloc);
-    for vector in vectors {
-        sums.push(answer_one(alloc, blocks, vector.as_slice())?)?;
+    if vectors.is_empty() {
+        return Ok(Vec::new(alloc));
     }
-    Ok(sums)
+    let rows = rows_of(alloc, vectors)?;
+    let sums = summed(alloc, blocks, rows.as_slice())?;
+    bytes_of(alloc, sums.as_slice())
 }
 
-fn answer_one<B: Blocks>(alloc: Global, blocks: &B, vector: &[u8]) -> Result<Bytes, Memory>
-    requires { 8 * length vector.now ≡ length (B.blocks blocks.now) }
-    ensures { IfOk result (λ sum.
-        sum ≡ chosen_sum (B.width blocks.now) (B.blocks blocks.now) vector.now) }
+// The vectors' bytes.
+fn rows_of(alloc: Global, vectors: &[Bytes]) -> Result<Vec<Vec<u8>>, Memory>
+    ensures { IfOk result (λ rows. map (λ row. row.items) rows.items ≡ vectors.now) }
 {
-    let mut sum = vec![in alloc; 0u8; blocks.width() as usize]?;
-    answer(blocks, vector, sum.as_mut_slice());
-    Ok(Bytes::from_vec(sum))
+    let mut rows = Vec::new(alloc);
+    for vector in vectors {
+        rows.push(Vec::from_slice(alloc, vector.as_slice())?)?;
+    }
+    Ok(rows)
+}
+
+fn bytes_of(alloc: Global, rows: &[Vec<u8>]) -> Result<Vec<Bytes>, Memory>
+    ensures { IfOk result (λ out. out.items ≡ map (λ row. row.items) rows.now) }
+{
+    let mut out = Vec::new(alloc);
+    for row in rows {
+        out.push(Bytes::from_slice(alloc, row.as_slice())?)?;
+    }
+    Ok(out)
 }

@@ -5,6 +5,7 @@ mod blocks;
 mod each;
 mod laws;
 mod sum;
+mod tiles;
 
 pub use blocks::Blocks;
 pub use each::answer_each;

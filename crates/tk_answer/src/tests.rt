@@ -1,9 +1,11 @@
-ghost use Rattle.std.specs.Prelude.{◌<◌, ◌≤◌};
+ghost use Rattle.std.specs.Prelude.{◌≡◌, ◌<◌, ◌≤◌, length, IfOk};
+ghost use Rattle.std.specs.List.{All};
 ghost use Rattle.tk_kernel.specs.Pieces.{all_pieces};
 
 use crate::{Blocks, answer, answer_each, parts_are_runs};
+use std::alloc::Global;
 use std::test::Fail;
-use tk_shape::Bytes;
+use tk_shape::{Bytes, Memory};
 
 /// Eight blocks of 41 bytes, of which those of a page are said to lie together.
 #[derive(Drop)]
@@ -52,6 +54,18 @@ fn runs_of_any_length(rt: HostRuntime) {
     parts_are_runs();
 }
 
+/// Vectors over eight blocks, three that take turns.
+fn in_turn(alloc: Global, count: usize) -> Result<Vec<Bytes>, Memory>
+    ensures { IfOk result (λ vs. All (λ v. length v ≡ 1) vs.items) }
+{
+    let mut vectors = Vec::new(alloc);
+    for i in 0..count {
+        let vector = [[0xa5, 0x00, 0x80][i % 3]];
+        vectors.push(Bytes::from_slice(alloc, &vector)?)?;
+    }
+    Ok(vectors)
+}
+
 #[test]
 fn each_vector_answered(rt: HostRuntime) -> Result<(), Fail> {
     let alloc = rt.alloc();
@@ -59,16 +73,16 @@ fn each_vector_answered(rt: HostRuntime) -> Result<(), Fail> {
     for (i, byte) in bytes.iter_mut().enumerate() {
         *byte = (i / 41) as u8 + 1;
     }
-    let blocks = Paged { bytes, page: 3 };
-    let mut vectors = Vec::new(alloc);
-    assert!(rt; answer_each(alloc, &blocks, vectors.as_slice())?.is_empty());
-    for vector in [0xa5, 0x00, 0x80] {
-        vectors.push(Bytes::from_slice(alloc, &[vector])?)?;
-    }
-    let sums = answer_each(alloc, &blocks, vectors.as_slice())?;
-    assert_eq!(rt; sums.len(), 3);
-    for (sum, want) in sums.iter().zip([0x0c, 0x00, 0x08]) {
-        assert_eq!(rt; sum.as_slice(), [want; 41].as_slice());
+    // none, few and many vectors, over pages and over all blocks together
+    for (page, count) in [(8, 0), (3, 3), (8, 3), (3, 27)] {
+        let blocks = Paged { bytes, page };
+        let vectors = in_turn(alloc, count)?;
+        let sums = answer_each(alloc, &blocks, vectors.as_slice())?;
+        assert_eq!(rt; sums.len(), count);
+        for (i, sum) in sums.iter().enumerate() {
+            let want = [0x0c, 0x00, 0x08][i % 3];
+            assert_eq!(rt; sum.as_slice(), [want; 41].as_slice());
+        }
     }
     Ok(())
 }

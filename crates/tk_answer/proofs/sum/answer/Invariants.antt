@@ -1,5 +1,5 @@
 use Rattle.std.proofs.Common.{◌-◌}
-use Rattle.tk_answer.proofs.Runs.{IsSumming}
+use Rattle.tk_answer.specs.Summing.{IsSumming}
 use Rattle.tk_answer.proofs.sum.answer.Given as goal
 
 abbrev pub invariant-loop-done : goal.invariant-loop-done
