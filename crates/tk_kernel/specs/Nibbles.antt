@@ -15,21 +15,29 @@ table n a b c d =
     let ocd = xor_bytes c od in
     let obcd = xor_bytes b ocd in
     o ∷ xor_bytes a o ∷ ob ∷ xor_bytes a ob ∷ oc ∷ xor_bytes a oc ∷ obc ∷ xor_bytes a obc
-    ∷ od ∷ xor_bytes a od ∷ obd ∷ xor_bytes a obd ∷ ocd ∷ xor_bytes a ocd ∷ obcd ∷ xor_bytes a obcd ∷ []
+    ∷ od ∷ xor_bytes a od ∷ obd ∷ xor_bytes a obd
+    ∷ ocd ∷ xor_bytes a ocd ∷ obcd ∷ xor_bytes a obcd ∷ []
 
 -- a sum, and added to it for each byte an entry of each of two tables
 abbrev pub added : List (List (List ℕ)) → List ℕ → List ℕ → List ℕ
 added tables sum [] = sum
 added [] sum (x ∷ xs) = sum
 added (t ∷ []) sum (x ∷ xs) = sum
-added (t ∷ u ∷ ts) sum (x ∷ xs) = added ts (xor_bytes sum (xor_bytes (slice_index_or t (x % 16) []) (slice_index_or u (x / 16) []))) xs
+added (t ∷ u ∷ ts) sum (x ∷ xs) =
+    let entries = xor_bytes (slice_index_or t (x % 16) []) (slice_index_or u (x / 16) []) in
+    added ts (xor_bytes sum entries) xs
 
 -- the table of the n bytes from number i on of four blocks, the first of them number at
 abbrev pub table_at : ℕ → ℕ → ℕ → List ℕ → ℕ → List (List ℕ)
 table_at n size i blocks at =
-    table n (chunk (at * size + i) n blocks) (chunk ((at + 1) * size + i) n blocks) (chunk ((at + 2) * size + i) n blocks) (chunk ((at + 3) * size + i) n blocks)
+    table n
+    (chunk (at * size + i) n blocks)
+    (chunk ((at + 1) * size + i) n blocks)
+    (chunk ((at + 2) * size + i) n blocks)
+    (chunk ((at + 3) * size + i) n blocks)
 
 -- count of these tables, the first of them number h
 abbrev pub tables_of : ℕ → ℕ → ℕ → List ℕ → ℕ → ℕ → List (List (List ℕ))
 tables_of n size i blocks h zero = []
-tables_of n size i blocks h (suc count) = table_at n size i blocks (4 * h) ∷ tables_of n size i blocks (h + 1) count
+tables_of n size i blocks h (suc count) =
+    table_at n size i blocks (4 * h) ∷ tables_of n size i blocks (h + 1) count

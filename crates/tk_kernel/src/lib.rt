@@ -3,6 +3,7 @@
 #![tactic(auto)]
 
 mod choose;
+mod columns;
 mod each;
 mod into;
 mod laws;
