@@ -3,18 +3,17 @@
 
 mod buckets;
 mod memory;
-mod numbers;
 mod packed;
-mod place;
 mod sizes;
 mod slot;
 mod slots;
+mod step2;
 
 pub use buckets::Buckets;
 pub use memory::Memory;
 pub use packed::Packed;
-pub use place::Place;
 pub use slot::SlotRef;
+pub use step2::Step2;
 
 #[cfg(test)]
 mod tests;

@@ -6,9 +6,9 @@ ghost use Rattle.tk_bucket.specs.Packing.{IsWhole, IsPlace, table_of};
 
 use crate::sizes::Sizes;
 use crate::slot::{put_slot, read_slot};
-use crate::{Place, SlotRef};
+use crate::{SlotRef, Step2};
 
-pub(crate) fn slot_at(sizes: Sizes, bytes: &[u8], place: Place) -> SlotRef<'_>
+pub(crate) fn slot_at(sizes: Sizes, bytes: &[u8], place: Step2) -> SlotRef<'_>
     requires whole { IsWhole sizes bytes.now }
     requires place { IsPlace sizes place }
     ensures { Shows result (slot_at (table_of sizes bytes.now) (place.bucket, place.slot)) }
@@ -21,7 +21,7 @@ pub(crate) fn slot_at(sizes: Sizes, bytes: &[u8], place: Place) -> SlotRef<'_>
 pub(crate) fn write_slot(
     sizes: Sizes,
     bytes: &mut [u8],
-    place: Place,
+    place: Step2,
     position: u64,
     first: u32,
     second: u32,
@@ -46,7 +46,7 @@ pub(crate) fn write_slot(
 }
 
 /// Writes one slot's content over another's.
-pub(crate) fn copy_slot(sizes: Sizes, bytes: &mut [u8], from: Place, to: Place)
+pub(crate) fn copy_slot(sizes: Sizes, bytes: &mut [u8], from: Step2, to: Step2)
     requires whole { IsWhole sizes bytes.old }
     requires from { IsPlace sizes from }
     requires to { IsPlace sizes to }
@@ -60,7 +60,7 @@ pub(crate) fn copy_slot(sizes: Sizes, bytes: &mut [u8], from: Place, to: Place)
     bytes.copy_within(start..end, sizes.slot_start(to));
 }
 
-pub(crate) fn clear_slot(sizes: Sizes, bytes: &mut [u8], place: Place)
+pub(crate) fn clear_slot(sizes: Sizes, bytes: &mut [u8], place: Step2)
     requires whole { IsWhole sizes bytes.old }
     requires place { IsPlace sizes place }
     ensures len { length bytes.new ≡ length bytes.old }

@@ -1,7 +1,7 @@
 ghost use Rattle.std.specs.Prelude.{◌≡◌, IfOk};
 ghost use Rattle.tk_bucket.specs.Sizes.{IsSizes};
 
-use crate::{Buckets, Memory, Packed, Place};
+use crate::{Buckets, Memory, Packed, Step2};
 use std::alloc::Global;
 use std::test::Fail;
 use tk_answer::Blocks;
@@ -11,9 +11,9 @@ const BLOCK: [u8; 24] = [0x77; 24];
 /// An empty table, of which only the sizes are told.
 fn wide(alloc: Global, buckets: u32, depth: u32, block: u32) -> Result<Buckets, Memory>
     requires { IsSizes buckets depth block }
-    ensures buckets { IfOk result (λ b. b.buckets ≡ buckets) }
-    ensures depth { IfOk result (λ b. b.depth ≡ depth) }
-    ensures block { IfOk result (λ b. b.block ≡ block) }
+    ensures buckets { IfOk result (λ b. b.contents.buckets ≡ buckets) }
+    ensures depth { IfOk result (λ b. b.contents.depth ≡ depth) }
+    ensures block { IfOk result (λ b. b.contents.block ≡ block) }
 {
     Buckets::new(alloc, buckets, depth, block)
 }
@@ -32,7 +32,7 @@ fn slots_written_moved_and_cleared(rt: HostRuntime) -> Result<(), Fail> {
     let mut buckets = Buckets::new(rt.alloc(), 2, 2, 24).ok().ok_or("memory")?;
     assert!(rt; buckets.is_empty(1, 0));
     buckets.write_slot(1, 0, 0x0102030405060708, (0x090a0b0c, 0x0d0e0f10), &BLOCK);
-    buckets.move_slot(Place { bucket: 1, slot: 0 }, Place { bucket: 0, slot: 1 });
+    buckets.move_slot(Step2 { bucket: 1, slot: 0 }, Step2 { bucket: 0, slot: 1 });
     assert!(rt; buckets.is_empty(1, 0));
     let slot = buckets.slot(0, 1);
     assert_eq!(rt; slot.position, 0x0102030405060708);

@@ -16,10 +16,9 @@ use Rattle.tk_frames.specs.declared.entry.Placed.{Placed}
 use Rattle.tk_frames.specs.declared.entry.Entry.{Entry}
 use Rattle.tk_frames.specs.declared.entry.Entry.TheVariants.{Write}
 use Rattle.tk_frames.specs.Order.{Record, record_at, record_in, records}
-use Rattle.tk_table.specs.declared.recent.Recent.{Recent}
 use Rattle.tk_table.specs.Ordered.{AscendFrom, HasBuckets, AreOrdered}
 use Rattle.tk_table.specs.Table.{layout, blocks_of}
-use Rattle.tk_table.specs.Stands.{Kept, recent_of, TableStandsFor, IsPair, IsWrite}
+use Rattle.tk_table.specs.Stands.{Kept, position_of, TableStandsFor, IsPair, IsWrite}
 use Rattle.tk_table.proofs.Offers.{ascend-last}
 use Rattle.tk_frames.proofs.Offers.{each-split}
 use Rattle.tk_cli.specs.declared.server.Server.{Server}
@@ -41,7 +40,7 @@ records-write p w at = ap (λ (x : Entry). cons_option (record_at p.position x) 
 -- what a table needs to take a write
 pub record MayBePut (table : Kept) (position : ℕ) (pair : ℕ × ℕ) : Type 0 where
   pub first : 1 ≤ position
-  pub above : All (λ (q : Recent). q.position < position) table.recent
+  pub above : All (λ (q : ℕ). q < position) table.positions
   pub within : IsPair table.shape pair
 
 below-last : (p : ℕ) (R : List Record) (w : Record) → AscendFrom p (R ++ w ∷ []) →
@@ -52,15 +51,15 @@ below-last p (r ∷ R) w h =
     All-cons (λ (s : Record). s.position < w.position) r R (omega (arith, behind))
     (below-last (r.position + 1) R w h.1)
 
-abbrev lies_below : ℕ → Recent → Type 0
-lies_below position q = q.position < position
+abbrev lies_below : ℕ → ℕ → Type 0
+lies_below position q = q < position
 
 below-window : (n : ℕ) (R : List Record) (position : ℕ) →
     All (λ (r : Record). r.position < position) R →
-    All (lies_below position) (map recent_of (drop n R))
+    All (lies_below position) (map position_of (drop n R))
 below-window zero [] position h = All-nil (lies_below position)
 below-window zero (r ∷ R) position h =
-    All-cons (lies_below position) (recent_of r) (map recent_of R)
+    All-cons (lies_below position) (position_of r) (map position_of R)
     (All-head (λ (s : Record). s.position < position) r R h)
     (below-window zero R position (All-tail (λ (s : Record). s.position < position) r R h))
 below-window (suc n) [] position h = All-nil (lies_below position)
@@ -85,7 +84,7 @@ may_be_put shape R shown bytes s p w at is may =
     record {
       first = ascend-last 1 R r ordered.ascend;
       above =
-          subst (All (lies_below p.position)) (sym is.table.recent)
+          subst (All (lies_below p.position)) (sym is.table.positions)
           (below-window (length R - s.table.shape.retained) R p.position
           (below-last 1 R r ordered.ascend));
       within = subst (λ sh. IsPair sh (w.first, w.second)) (sym is.table_same) pair;

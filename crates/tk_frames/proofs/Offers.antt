@@ -18,7 +18,6 @@ pub use Rattle.tk_frames.proofs.NextLaws.{marks-most, next-write, next-mark}
 -- Which marks stand in an order, where, and what stands before them, when more entries come.
 pub use Rattle.tk_frames.proofs.EpochLaws.{has-mark, has-no_mark, before-more, before-mark, before-later}
 pub use Rattle.tk_frames.proofs.EpochLaws.{mark_position-more, mark_position-mark, mark_position-none}
-
 -- What each element of a list has, and what is in a list.
 pub use Rattle.tk_frames.proofs.Each.{each-both, each-filter, each-push, each-split}
 pub use Rattle.tk_frames.proofs.Members.{in_from_contains, contains_from_in, all_in, each-in}

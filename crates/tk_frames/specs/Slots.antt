@@ -29,8 +29,12 @@ slot_from bytes =
       block = drop 16 bytes;
     }
 
+-- the first count slots of so many bytes each
+abbrev pub slots_from : ℕ → ℕ → List ℕ → List Slot
+slots_from size count bytes = map slot_from (pieces size count bytes)
+
 abbrev pub slots_in : Shape → List ℕ → List Slot
-slots_in shape block = map slot_from (pieces (slot_len shape) shape.depth block)
+slots_in shape block = slots_from (slot_len shape) shape.depth block
 
 -- a position and a text
 abbrev pub Accepted : Type 0

@@ -7,9 +7,9 @@ use Rattle.std.proofs.lemmas.Bool.{cases_eq}
 use Rattle.std.proofs.lemmas.List.{get_or-set_same, get_or-set_other, length-set, length-map}
 use Rattle.std.proofs.lemmas.List.Folds.{fold-map}
 use Rattle.std.proofs.lemmas.List.Elements.{All-set, All-map}
-use Rattle.tk_shape.specs.declared.shape.Shape.{Shape}
 use Rattle.tk_place.specs.Place.{Spot}
-use Rattle.tk_table.specs.Table.{Slot, SlotTable, bucket_at, slot_at, with_slot, empty_slot}
+use Rattle.tk_bucket.specs.Table.{empty_slot}
+use Rattle.tk_table.specs.Table.{Slot, SlotTable, bucket_at, slot_at, with_slot}
 
 -- so many buckets of so many slots
 pub record IsSized (buckets depth : ℕ) (T : SlotTable) : Type 0 where
@@ -76,13 +76,13 @@ each-with_slot P T at s in_range each new b =
           (each b)
     ]
 
-pub total-with_slot : (shape : Shape) (weight : Slot → ℕ) (T : SlotTable) (at : Spot) (s : Slot) →
+pub total-with_slot : (weight : Slot → ℕ) (T : SlotTable) (at : Spot) (s : Slot) →
     IsWithin T at →
-    total weight (with_slot T at s) + weight (slot_at shape T at) ≡ total weight T + weight s
-total-with_slot shape weight T at s h =
+    total weight (with_slot T at s) + weight (slot_at T at) ≡ total weight T + weight s
+total-with_slot weight T at s h =
     let outer = sum_by-set (λ slots. sum_by weight slots) T at.0
     (set (bucket_at T at.0) at.1 s) [] h.bucket in
-    let inner = sum_by-set weight (bucket_at T at.0) at.1 s (empty_slot shape) h.slot in
+    let inner = sum_by-set weight (bucket_at T at.0) at.1 s (empty_slot 0) h.slot in
     omega (arith, outer, inner)
 
 -- ---- each slot is replaced

@@ -1,7 +1,7 @@
 -- What is left of a bucket when the slots with one position are emptied.
 use Rattle.std.proofs.Common.{◌≡◌, ℕ, zero, suc, ◌+◌, ◌<◌, ◌≤◌, refl, ap, ◌∙◌, arith, List, []}
 use Rattle.std.proofs.Common.{◌∷◌, length, map, set, get_or}
-use Rattle.std.proofs.lemmas.List.{set-set, set-get_or, get_or-set_same}
+use Rattle.std.proofs.lemmas.List.{set-set, get_or-set_same}
 use Rattle.tk_bucket.specs.Table.{Contents, IsSized, slot_at, empty_slot, with_slot}
 use Rattle.tk_table.specs.Table.{Slot, SlotTable, bucket_at}
 use Rattle.tk_table.specs.Steps.{cleared, cleared_in}
@@ -33,10 +33,6 @@ abbrev pub cleared_up_to : ℕ → ℕ → SlotTable → ℕ → ℕ → SlotTab
 cleared_up_to block position T b i =
     set T b (first_mapped (cleared block position) i (bucket_at T b))
 
-pub cleared-none : (block position : ℕ) (T : SlotTable) (b : ℕ) →
-    cleared_up_to block position T b 0 ≡ T
-cleared-none block position T b = set-get_or T b []
-
 pub cleared-more : (block position : ℕ) (T : SlotTable) (b i : ℕ) → b < length T →
     i < length (bucket_at T b) →
     with_slot (cleared_up_to block position T b i) (b, i)
@@ -57,12 +53,6 @@ pub cleared-all : (block position : ℕ) (T : SlotTable) (b i : ℕ) → length 
     cleared_up_to block position T b i ≡ cleared_in block position T b
 cleared-all block position T b i all =
     ap (λ slots. set T b slots) (first_mapped-all (cleared block position) i (bucket_at T b) all)
-
--- a slot that is set to what it has
-pub same_slot_again : (T : SlotTable) (at : ℕ × ℕ) → with_slot T at (slot_at T at) ≡ T
-same_slot_again T at =
-    ap (λ slots. set T at.0 slots) (set-get_or (bucket_at T at.0) at.1 (empty_slot 0))
-    ∙ set-get_or T at.0 []
 
 -- ---- a table with its sizes
 

@@ -5,7 +5,7 @@ use Rattle.std.proofs.Common.{List, [], ◌∷◌, length, true, false, cond, ma
 use Rattle.std.specs.Prelude.{◌==◌, None}
 use Rattle.std.specs.List.{All}
 use Rattle.std.proofs.lemmas.Bool.{cases_eq}
-use Rattle.std.proofs.lemmas.List.{get_or_default, get_or-set_same, get_or-set_other, length-set}
+use Rattle.std.proofs.lemmas.List.{get_or-set_same, get_or-set_other, length-set}
 use Rattle.std.proofs.lemmas.List.{length-map}
 use Rattle.std.proofs.lemmas.List.Elements.{All-weaker, All-map}
 use Rattle.tk_shape.specs.declared.shape.Shape.{Shape}
@@ -13,8 +13,8 @@ use Rattle.tk_place.specs.Place.{Spot, search_end}
 use Rattle.tk_place.specs.Chain.{IsChain, IsAnswer, IsPath}
 use Rattle.tk_place.specs.declared.search.Found.TheVariants.{Chain}
 use Rattle.tk_place.specs.Table.{IsTable}
-use Rattle.tk_bucket.specs.Table.{Contents, empty_slot}
-use Rattle.tk_table.specs.Table.{Slot, SlotTable, bucket_at, slot_at as slot_of_table}
+use Rattle.tk_bucket.specs.Table.{Contents}
+use Rattle.tk_table.specs.Table.{Slot, SlotTable, bucket_at, slot_at}
 use Rattle.tk_table.specs.Table.{empty_slot as empty_slot_of, others_from, shifted, placed_at}
 use Rattle.tk_table.specs.Table.{placed_in}
 use Rattle.tk_table.specs.Table.{moved_up, is_empty}
@@ -26,7 +26,6 @@ use Rattle.tk_place.proofs.Offers.{path_to_end}
 use Rattle.tk_table.proofs.Seen.{IsEntryIn, IsHome, seen, lowest_empty-free}
 use Rattle.tk_table.proofs.Searching.{searchable}
 use Rattle.tk_table.proofs.Shifting.{shifted-filled}
-use Rattle.tk_table.proofs.Moving.{along-shifted}
 use Rattle.tk_table.proofs.Clearing.{with_table}
 
 home-from_own : (shape : Shape) (b : ℕ) (s : Slot) → IsSlotIn shape b s → IsHome shape b s
@@ -128,7 +127,7 @@ pub record IsReady (shape : Shape) (T : SlotTable) (pair : ℕ × ℕ) (steps : 
   pub some : 0 < length steps
   pub steps_are : AreSteps shape.buckets shape.depth steps
   pub free : IsFree T (first_of steps)
-  pub placed : (s : Slot) → IsComing shape pair s → moved_by T steps s ≡ placed_in shape T s
+  pub placed : (s : Slot) → IsComing shape pair s → moved_by T steps s ≡ placed_in T s
   pub sized : (s : Slot) → IsComing shape pair s →
       IsSized shape.buckets shape.depth (moved_by T steps s)
   pub home : (s : Slot) → IsComing shape pair s → EachSlot (IsHome shape) (moved_by T steps s)
@@ -140,8 +139,7 @@ ready shape T pair steps sized home within chain =
     subst (IsReady shape T pair) (sym chain.moves) (record {
       some = omega arith;
       steps_are = are;
-      free = ap is_empty (get_or_default (bucket_at T at.0) at.1 (empty_slot 0)
-          (empty_slot_of shape) there.0.slot ∙ there.1);
+      free = ap is_empty there.1;
       placed = λ s coming. same s ∙ sym (definition s coming);
       sized = λ s coming. subst (IsSized shape.buckets shape.depth) (sym (same s))
           (filled s coming).sized;
@@ -154,26 +152,26 @@ ready shape T pair steps sized home within chain =
     through : IsPath (others_from 0 T) pair chain.end.bucket chain.end.through
     through = path_to_end (others_from 0 T) pair chain.end chain.ended
 
-    there : IsWithin T at × (slot_of_table shape T at ≡ empty_slot_of shape)
+    there : IsWithin T at × (slot_at T at ≡ empty_slot_of shape)
     there = lowest_empty-free shape T chain.end.bucket chain.slot home chain.empty
 
     are : AreSteps shape.buckets shape.depth (at ∷ chain.end.through)
     are = through-steps shape T pair at chain.end.through sized there.0 through
 
     same : (s : Slot) → moved_by T (at ∷ chain.end.through) s
-        ≡ shifted shape T at chain.end.through s
-    same s = along-shifted shape T at chain.end.through s sized are
+        ≡ shifted T at chain.end.through s
+    same s = refl
 
     definition : (s : Slot) → IsComing shape pair s →
-        placed_in shape T s ≡ shifted shape T at chain.end.through s
+        placed_in T s ≡ shifted T at chain.end.through s
     definition s coming =
-        ap (λ f. placed_at shape T s (search_end (others_from 0 T) (f, s.second))) coming.first
-        ∙ ap (λ f. placed_at shape T s (search_end (others_from 0 T) (pair.0, f))) coming.second
-        ∙ ap (placed_at shape T s) chain.ended
-        ∙ ap (moved_up shape T s chain.end) chain.empty
+        ap (λ f. placed_at T s (search_end (others_from 0 T) (f, s.second))) coming.first
+        ∙ ap (λ f. placed_at T s (search_end (others_from 0 T) (pair.0, f))) coming.second
+        ∙ ap (placed_at T s) chain.ended
+        ∙ ap (moved_up T s chain.end) chain.empty
 
     filled : (s : Slot) → IsComing shape pair s →
-        IsFilledTo shape (shifted shape T at chain.end.through s)
+        IsFilledTo shape (shifted T at chain.end.through s)
     filled s coming =
         let f = shifted-filled shape T at chain.end.through s sized home there.0
         (coming-entry shape pair s within coming)
@@ -184,11 +182,11 @@ ready shape T pair steps sized home within chain =
 
 -- with no end the table stays
 pub stays : (shape : Shape) (T : SlotTable) (pair : ℕ × ℕ) (s : Slot) → IsComing shape pair s →
-    search_end (others_from 0 T) pair ≡ None → placed_in shape T s ≡ T
+    search_end (others_from 0 T) pair ≡ None → placed_in T s ≡ T
 stays shape T pair s coming none =
-    ap (λ f. placed_at shape T s (search_end (others_from 0 T) (f, s.second))) coming.first
-    ∙ ap (λ f. placed_at shape T s (search_end (others_from 0 T) (pair.0, f))) coming.second
-    ∙ ap (placed_at shape T s) none
+    ap (λ f. placed_at T s (search_end (others_from 0 T) (f, s.second))) coming.first
+    ∙ ap (λ f. placed_at T s (search_end (others_from 0 T) (pair.0, f))) coming.second
+    ∙ ap (placed_at T s) none
 
 -- ---- the table of a grid
 
@@ -219,7 +217,7 @@ laid shape T = record { shape = shape; slots = T }
 pub moved_slots : (shape : Shape) (c next : Contents) (pair : ℕ × ℕ) (steps : List Spot)
     (s : Slot) → IsReady shape c.table pair steps → IsComing shape pair s →
     next ≡ with_table c (moved_by c.table steps s) →
-    laid shape next.table ≡ laid shape (placed_in shape c.table s)
+    laid shape next.table ≡ laid shape (placed_in c.table s)
 moved_slots shape c next pair steps s ready coming made =
     ap (λ (n : Contents). laid shape n.table) made ∙ ap (laid shape) (ready.placed s coming)
 

@@ -81,18 +81,21 @@ expired-holds shape W T K h =
 
 -- ---- the empty table
 
-empty_table-home : (shape : Shape) → EachSlot (IsHome shape) (empty_table shape)
-empty_table-home shape b =
+pub empty_each : (P : ℕ → Slot → Type 0) (shape : Shape) → ((b : ℕ) → P b (empty_slot shape)) →
+    EachSlot P (empty_table shape)
+empty_each P shape nothing b =
     let slots = replicate shape.depth (empty_slot shape) in
     elim (cases_lt b shape.buckets) [
-      | inl low ↦ subst (λ ss. All (IsHome shape b) ss)
-          (sym (get_or-replicate shape.buckets b slots [] low))
-          (All-replicate (IsHome shape b) shape.depth (empty_slot shape) (inl refl))
-      | inr past ↦ subst (λ ss. All (IsHome shape b) ss)
+      | inl low ↦ subst (λ ss. All (P b) ss) (sym (get_or-replicate shape.buckets b slots [] low))
+          (All-replicate (P b) shape.depth (empty_slot shape) (nothing b))
+      | inr past ↦ subst (λ ss. All (P b) ss)
           (sym (get_or_past (empty_table shape) b []
           (omega (arith, past, length-replicate shape.buckets slots))))
-          (All-nil (IsHome shape b))
+          (All-nil (P b))
     ]
+
+empty_table-home : (shape : Shape) → EachSlot (IsHome shape) (empty_table shape)
+empty_table-home shape = empty_each (IsHome shape) shape (λ _. inl refl)
 
 pub empty_table-holds : (shape : Shape) → Holds shape (empty_table shape) []
 empty_table-holds shape =

@@ -23,6 +23,9 @@ pub mod Moving
 pub mod Clearing
 pub mod Windows
 pub mod Expiring
+pub mod Emptying
+pub mod Runs
+pub mod Knowing
 pub mod Grids
 pub mod Reading
 pub mod Standing

@@ -1,21 +1,18 @@
 -- What moves along a chain of slots do to a table.
-use Rattle.std.proofs.Common.{◌≡◌, ℕ, ◌+◌, ◌<◌, ◌≤◌, refl, ap, sym, ◌∙◌, subst, arith, List, []}
+use Rattle.std.proofs.Common.{◌≡◌, ℕ, ◌+◌, ◌<◌, ◌≤◌, ap, sym, ◌∙◌, subst, arith, List, []}
 use Rattle.std.proofs.Common.{◌∷◌, length, drop, false, set, get_or}
 use Rattle.std.specs.Prelude.{◌==◌, slice_index_or}
 use Rattle.std.proofs.lemmas.Bool.{or_parts, eqb-false}
-use Rattle.std.proofs.lemmas.List.{set-set, get_or_default, get_or-set_same, drop_more, drop_all}
+use Rattle.std.proofs.lemmas.List.{set-set, get_or-set_same, drop_more, drop_all}
 use Rattle.std.proofs.lemmas.List.{length-set}
-use Rattle.tk_shape.specs.declared.shape.Shape.{Shape}
 use Rattle.tk_place.specs.Place.{Spot}
 use Rattle.tk_place.specs.Chain.{is_on}
 use Rattle.tk_place.specs.Views.{spot_of}
 use Rattle.tk_place.specs.declared.step.Step.{Step}
 use Rattle.tk_bucket.specs.Table.{Contents, IsSized, slot_at, empty_slot, with_moved}
 use Rattle.tk_table.specs.Table.{Slot, SlotTable, bucket_at, with_slot, shifted}
-use Rattle.tk_table.specs.Table.{slot_at as slot_of_table, empty_slot as empty_slot_of}
-use Rattle.tk_table.specs.Steps.{AreSteps, IsFree, first_of, moved_along, moved_by}
-use Rattle.tk_table.proofs.Buckets.{bucket-with_slot, other_bucket-with_slot, sized-with_slot}
-use Rattle.tk_table.proofs.Buckets.{IsSized as HasSizes}
+use Rattle.tk_table.specs.Steps.{AreSteps, IsFree, moved_by}
+use Rattle.tk_table.proofs.Buckets.{bucket-with_slot, other_bucket-with_slot}
 
 -- of two writes to one slot the later stays
 pub overwritten : (T : SlotTable) (at : Spot) (e s : Slot) → at.0 < length T →
@@ -35,28 +32,13 @@ other_slot T at e to apart =
 -- what stands in the free slot is lost
 along-overwritten : (T : SlotTable) (at : Spot) (e s : Slot) (ats : List Spot) → at.0 < length T →
     is_on ats at.0 ≡ false →
-    moved_along (with_slot T at e) at ats s ≡ moved_along T at ats s
+    shifted (with_slot T at e) at ats s ≡ shifted T at ats s
 along-overwritten T at e s [] low out = overwritten T at e s low
 along-overwritten T at e s (to ∷ ats) low out =
     let apart = or_parts (at.0 == to.0) (is_on ats at.0) out in
-    ap (λ v. moved_along (with_slot (with_slot T at e) at v) to ats s)
+    ap (λ v. shifted (with_slot (with_slot T at e) at v) to ats s)
     (other_slot T at e to apart.0)
-    ∙ ap (λ X. moved_along X to ats s) (overwritten T at e (slot_at T to) low)
-
--- moves along a chain are those of the definition
-pub along-shifted : (shape : Shape) (T : SlotTable) (free : Spot) (ats : List Spot) (s : Slot) →
-    HasSizes shape.buckets shape.depth T →
-    AreSteps shape.buckets shape.depth (free ∷ ats) →
-    moved_along T free ats s ≡ shifted shape T free ats s
-along-shifted shape T free [] s sized steps = refl
-along-shifted shape T free (at ∷ ats) s sized steps =
-    let next = steps.3 in
-    let low : at.1 < length (bucket_at T at.0) =
-    (let deep = sized.deep at.0 next.0 in omega (arith, deep, next.1)) in
-    ap (λ v. moved_along (with_slot T free v) at ats s)
-    (get_or_default (bucket_at T at.0) at.1 (empty_slot 0) (empty_slot_of shape) low)
-    ∙ along-shifted shape (with_slot T free (slot_of_table shape T at)) at ats s
-    (sized-with_slot shape.buckets shape.depth T free (slot_of_table shape T at) sized) next
+    ∙ ap (λ X. shifted X to ats s) (overwritten T at e (slot_at T to) low)
 
 -- The entries before step i have moved, and the slot before it is free: what is left to do gives
 -- what was to be done.
@@ -67,21 +49,7 @@ pub record IsMoving (old : Contents) (steps : List Spot) (c : Contents) (free : 
   pub block : c.block ≡ old.block
   pub rest : AreSteps old.buckets old.depth (free ∷ drop i steps)
   pub empty : IsFree c.table free
-  pub same : (s : Slot) → moved_along c.table free (drop i steps) s ≡ moved_by old.table steps s
-
-pub moving-first : (old : Contents) (steps : List Spot) (free : Spot) → 0 < length steps →
-    AreSteps old.buckets old.depth steps → IsFree old.table (first_of steps) →
-    free ≡ first_of steps → IsMoving old steps old free 1
-moving-first old [] free some are empty at = absurd (omega (arith, some))
-moving-first old (step ∷ steps) free some are empty at =
-    record {
-      buckets = refl;
-      depth = refl;
-      block = refl;
-      rest = subst (λ f. AreSteps old.buckets old.depth (f ∷ steps)) (sym at) are;
-      empty = subst (IsFree old.table) (sym at) empty;
-      same = λ s. ap (λ f. moved_along old.table f steps s) at;
-    }
+  pub same : (s : Slot) → shifted c.table free (drop i steps) s ≡ moved_by old.table steps s
 
 pub moving-on : (old : Contents) (steps : List Spot) (c next : Contents) (free at : Spot) (i : ℕ) →
     IsMoving old steps c free i → i < length steps → IsSized c →
@@ -121,39 +89,15 @@ moving-on old steps c next free at i moving low sized here made =
       empty = ap (λ (s : Slot). s.position == 0) emptied;
       same = λ s. along-overwritten filled at (empty_slot c.block) s (drop (i + 1) steps) wide
           later.2
-          ∙ ap (λ ats. moved_along c.table free ats s) (sym rest) ∙ moving.same s;
+          ∙ ap (λ ats. shifted c.table free ats s) (sym rest) ∙ moving.same s;
     })
-
--- the slots of a move lie in different buckets
-pub moving-apart : (old : Contents) (steps : List Spot) (c : Contents) (free at : Spot) (i : ℕ) →
-    IsMoving old steps c free i → i < length steps → at ≡ slice_index_or steps i (0, 0) →
-    free.0 ≡ at.0 → ⊥
-moving-apart old steps c free at i moving low here same =
-    let rest : drop i steps ≡ at ∷ drop (i + 1) steps =
-    drop_more steps i (0, 0) low ∙ ap (λ p. p ∷ drop (i + 1) steps) (sym here) in
-    let are : AreSteps old.buckets old.depth (free ∷ at ∷ drop (i + 1) steps) =
-    subst (λ ats. AreSteps old.buckets old.depth (free ∷ ats)) rest moving.rest in
-    let out = or_parts (free.0 == at.0) (is_on (drop (i + 1) steps) free.0) are.2 in
-    eqb-false free.0 at.0 out.0 same
-
-pub moving-to : (old : Contents) (steps : List Spot) (c : Contents) (free at : Spot) (i : ℕ) →
-    IsMoving old steps c free i → i < length steps → at ≡ slice_index_or steps i (0, 0) →
-    (at.0 < c.buckets) × (at.1 < c.depth)
-moving-to old steps c free at i moving low here =
-    let rest : drop i steps ≡ at ∷ drop (i + 1) steps =
-    drop_more steps i (0, 0) low ∙ ap (λ p. p ∷ drop (i + 1) steps) (sym here) in
-    let are : AreSteps old.buckets old.depth (free ∷ at ∷ drop (i + 1) steps) =
-    subst (λ ats. AreSteps old.buckets old.depth (free ∷ ats)) rest moving.rest in
-    let later = are.3 in
-    let buckets = moving.buckets in let depth = moving.depth in
-    (omega (arith, later.0, buckets), omega (arith, later.1, depth))
 
 -- at the end the new slot is written over the free one
 pub moved : (old : Contents) (steps : List Spot) (c : Contents) (free : Spot) (i : ℕ) (s : Slot) →
     IsMoving old steps c free i → length steps ≤ i →
     with_slot c.table free s ≡ moved_by old.table steps s
 moved old steps c free i s moving all =
-    ap (λ ats. moved_along c.table free ats s) (sym (drop_all i steps all)) ∙ moving.same s
+    ap (λ ats. shifted c.table free ats s) (sym (drop_all i steps all)) ∙ moving.same s
 
 -- a step's slot
 abbrev spot : ℕ → ℕ → Spot

@@ -44,7 +44,7 @@ new-entry shape w new b (inr e) =
 
 filled-holds : (shape : Shape) (T : SlotTable) (K : List Record) (w : Record) (b i : ℕ)
     (T' : SlotTable) →
-    Holds shape T K → IsNew shape w → slot_at shape T (b, i) ≡ empty_slot shape →
+    Holds shape T K → IsNew shape w → slot_at T (b, i) ≡ empty_slot shape →
     IsFilled shape T (b, i) (slot_of w) T' → Holds shape T' (K ++ w ∷ [])
 filled-holds shape T K w b i T' h new free filled =
     record { sized = filled.sized; home = filled.home; entries = weigh }
@@ -52,7 +52,7 @@ filled-holds shape T K w b i T' h new free filled =
     weigh : EntriesWeigh T' (K ++ w ∷ [])
     weigh weight =
         let moved = filled.weighs (entry_weight weight) in
-        let nothing : entry_weight weight (slot_at shape T (b, i)) ≡ 0 =
+        let nothing : entry_weight weight (slot_at T (b, i)) ≡ 0 =
         ap (entry_weight weight) free in
         let one : entry_weight weight (slot_of w) ≡ weight (slot_of w) =
         ap (λ z. cond z 0 (weight (slot_of w)))
@@ -65,7 +65,7 @@ moved_up-holds : (shape : Shape) (T : SlotTable) (K : List Record) (w : Record) 
     Holds shape T K → IsNew shape w →
     search_end (others_from 0 T) (w.write.first, w.write.second) ≡ Some p → (o : Option ℕ) →
     lowest_empty (others_from 0 T) p.bucket ≡ o →
-    Holds shape (moved_up shape T (slot_of w) p o) (K ++ w ∷ [])
+    Holds shape (moved_up T (slot_of w) p o) (K ++ w ∷ [])
 moved_up-holds shape T K w p h new ended None empty =
     absurd (let some = ends_in_room (others_from 0 T) (w.write.first, w.write.second) p ended in
     true≢false (sym some ∙ ap is_some empty))
@@ -73,7 +73,7 @@ moved_up-holds shape T K w p h new ended (Some i) empty =
     let free = lowest_empty-free shape T p.bucket i h.home empty in
     let path = path_to_end (others_from 0 T) (w.write.first, w.write.second) p ended in
     filled-holds shape T K w p.bucket i
-    (shifted shape T (p.bucket, i) p.through (slot_of w)) h new free.1
+    (shifted T (p.bucket, i) p.through (slot_of w)) h new free.1
     (shifted-filled shape T (p.bucket, i) p.through (slot_of w) h.sized h.home free.0
     (new-entry shape w new) path)
 
@@ -81,7 +81,7 @@ moved_up-holds shape T K w p h new ended (Some i) empty =
 placed_in-holds : (shape : Shape) (T : SlotTable) (K : List Record)
     (w : Record) →
     Holds shape T K → IsNew shape w →
-    Holds shape (placed_in shape T (slot_of w))
+    Holds shape (placed_in T (slot_of w))
     (cond (fit_together shape (K ++ w ∷ [])) (K ++ w ∷ []) K)
 placed_in-holds shape T K w h new =
     by_end (search_end (others_from 0 T) (w.write.first, w.write.second)) refl
@@ -93,20 +93,20 @@ placed_in-holds shape T K w h new =
 
     by_end : (o : Option Reached) →
         search_end (others_from 0 T) (w.write.first, w.write.second) ≡ o →
-        Holds shape (placed_at shape T (slot_of w)
+        Holds shape (placed_at T (slot_of w)
         (search_end (others_from 0 T) (w.write.first, w.write.second)))
         (cond (fit_together shape (K ++ w ∷ [])) (K ++ w ∷ []) K)
     by_end None e =
-        subst (λ o. Holds shape (placed_at shape T (slot_of w) o)
+        subst (λ o. Holds shape (placed_at T (slot_of w) o)
         (cond (fit_together shape (K ++ w ∷ [])) (K ++ w ∷ []) K)) (sym e)
         (subst (λ b. Holds shape T (cond b (K ++ w ∷ []) K)) (sym (means.0 e)) h)
     by_end (Some p) e =
         let fits : fit_together shape (K ++ w ∷ []) ≡ true =
         true_from_ne_false (fit_together shape (K ++ w ∷ []))
         (λ no_fit. let none = sym (means.1 no_fit) ∙ e in absurd (cc none)) in
-        subst (λ o. Holds shape (placed_at shape T (slot_of w) o)
+        subst (λ o. Holds shape (placed_at T (slot_of w) o)
         (cond (fit_together shape (K ++ w ∷ [])) (K ++ w ∷ []) K)) (sym e)
-        (subst (λ b. Holds shape (placed_at shape T (slot_of w) (Some p)) (cond b (K ++ w ∷ []) K))
+        (subst (λ b. Holds shape (placed_at T (slot_of w) (Some p)) (cond b (K ++ w ∷ []) K))
         (sym fits)
         (moved_up-holds shape T K w p h new e (lowest_empty (others_from 0 T) p.bucket) refl))
 

@@ -7,13 +7,13 @@ use Rattle.std.specs.Prelude.{position, not}
 use Rattle.std.specs.Prelude.{nat_lt}
 use Rattle.std.specs.List.{prefix_len, position_or_len}
 use Rattle.std.proofs.lemmas.Bool.{cases_eq, ne_eqb}
-use Rattle.std.proofs.lemmas.List.{get_or_default, length-map}
+use Rattle.std.proofs.lemmas.List.{length-map}
 use Rattle.std.proofs.lemmas.List.Sums.{position_or_len_is}
 use Rattle.tk_shape.specs.declared.shape.Shape.{Shape}
 use Rattle.tk_place.specs.Place.{slots_of, lowest_empty}
 use Rattle.tk_bucket.specs.Table.{Contents, IsSized, slot_at, empty_slot, is_empty}
-use Rattle.tk_table.specs.Table.{Slot, SlotTable, bucket_at, slot_at as slot_of_table, other_in}
-use Rattle.tk_table.specs.Table.{others_from, empty_slot as empty_slot_of}
+use Rattle.tk_table.specs.Table.{Slot, SlotTable, bucket_at, other_in}
+use Rattle.tk_table.specs.Table.{others_from}
 use Rattle.tk_table.specs.Inside.{IsGrid}
 use Rattle.tk_table.proofs.Seen.{seen, slots_seen}
 
@@ -47,11 +47,7 @@ pub other_of : (shape : Shape) (T : SlotTable) (b i : ℕ) → IsSome (seen_at T
 other_of shape T b i some =
     let found = some_of (seen_at T b i) some in
     let is = seen shape T (b, i) found.0 found.1 in
-    let same : slot_of_table shape T (b, i) ≡ slot_at T (b, i) =
-    get_or_default (bucket_at T b) i (empty_slot_of shape) (empty_slot 0) is.within.slot in
-    let entry : other_in b (slot_at T (b, i)) ≡ Some found.0 =
-    ap (other_in b) (sym same) ∙ is.entry in
-    found.1 ∙ named (is_empty (slot_at T (b, i))) found.0 _ entry
+    found.1 ∙ named (is_empty (slot_at T (b, i))) found.0 _ is.entry
 
 pub other_second : (shape : Shape) (T : SlotTable) (b i f s : ℕ) → IsSome (seen_at T b i) →
     f ≡ (slot_at T (b, i)).first → s ≡ (slot_at T (b, i)).second → f ≡ b → seen_at T b i ≡ Some s

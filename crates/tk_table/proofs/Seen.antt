@@ -11,6 +11,7 @@ use Rattle.tk_shape.specs.declared.shape.Shape.{Shape}
 use Rattle.tk_place.specs.Place.{Spot, slots_of, lowest_empty}
 use Rattle.tk_table.specs.Table.{Slot, SlotTable, bucket_at, slot_at, empty_slot, is_empty}
 use Rattle.tk_table.specs.Table.{other_in, others_from}
+use Rattle.tk_bucket.specs.Table.{empty_slot as empty_slot_of}
 use Rattle.tk_table.proofs.Buckets.{EachSlot, IsWithin}
 
 -- an entry whose buckets are in range and that lies in one of them
@@ -46,7 +47,7 @@ bucket_within T b i h =
 -- a slot with an entry, as the search sees it
 pub record IsSeen (shape : Shape) (T : SlotTable) (at : Spot) (other : ℕ) : Type 0 where
   pub within : IsWithin T at
-  pub entry : other_in at.0 (slot_at shape T at) ≡ Some other
+  pub entry : other_in at.0 (slot_at T at) ≡ Some other
 
 pub seen : (shape : Shape) (T : SlotTable) (at : Spot) (other : ℕ) →
     slice_index_or (slots_of (others_from 0 T) at.0) at.1 None ≡ Some other →
@@ -58,7 +59,7 @@ seen shape T at other h =
       | inl low ↦ record {
         within = record { bucket = bucket_within T at.0 at.1 low; slot = low };
         entry = sym (get_or-map (other_in at.0) (bucket_at T at.0) at.1
-            (empty_slot shape) None low) ∙ there;
+            (empty_slot_of 0) None low) ∙ there;
       }
       | inr past ↦ absurd (let long = length-map (bucket_at T at.0) (other_in at.0) in
           let none = get_or_past (map (other_in at.0) (bucket_at T at.0)) at.1 None
@@ -68,17 +69,17 @@ seen shape T at other h =
 -- the lowest empty slot of a bucket
 pub lowest_empty-free : (shape : Shape) (T : SlotTable) (b i : ℕ) → EachSlot (IsHome shape) T →
     lowest_empty (others_from 0 T) b ≡ Some i →
-    IsWithin T (b, i) × (slot_at shape T (b, i) ≡ empty_slot shape)
+    IsWithin T (b, i) × (slot_at T (b, i) ≡ empty_slot shape)
 lowest_empty-free shape T b i home h =
     let there = position-Some is_none (map (other_in b) (bucket_at T b)) i None
     (ap (position is_none) (sym (slots_seen T b)) ∙ h) in
     let low : i < length (bucket_at T b) =
     omega (arith, there.0, length-map (bucket_at T b) (other_in b)) in
-    let none : is_none (other_in b (slot_at shape T (b, i))) ≡ true =
-    ap is_none (sym (get_or-map (other_in b) (bucket_at T b) i (empty_slot shape) None low))
+    let none : is_none (other_in b (slot_at T (b, i))) ≡ true =
+    ap is_none (sym (get_or-map (other_in b) (bucket_at T b) i (empty_slot_of 0) None low))
     ∙ there.1 in (
       record { bucket = bucket_within T b i low; slot = low },
-      zeros (slot_at shape T (b, i)) (home b i (empty_slot shape) low) none,
+      zeros (slot_at T (b, i)) (home b i (empty_slot_of 0) low) none,
     )
   where
     zeros : (s : Slot) → IsHome shape b s → is_none (other_in b s) ≡ true → s ≡ empty_slot shape

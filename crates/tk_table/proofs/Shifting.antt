@@ -7,6 +7,7 @@ use Rattle.tk_shape.specs.declared.shape.Shape.{Shape}
 use Rattle.tk_place.specs.Place.{Spot, slots_of}
 use Rattle.tk_table.specs.Table.{Slot, SlotTable, slot_at, with_slot, empty_slot, is_empty}
 use Rattle.tk_table.specs.Table.{other_in, others_from, shifted}
+use Rattle.tk_bucket.specs.Table.{empty_slot as empty_slot_of}
 use Rattle.tk_place.specs.Chain.{is_on, IsPath}
 use Rattle.tk_table.proofs.Buckets.{IsSized, EachSlot, total, IsWithin, other_bucket-with_slot}
 use Rattle.tk_table.proofs.Buckets.{sized-with_slot, within-with_slot, each-with_slot}
@@ -63,39 +64,39 @@ pub record IsFilled (shape : Shape) (T : SlotTable) (free : Spot) (s : Slot)
   pub sized : IsSized shape.buckets shape.depth T'
   pub home : EachSlot (IsHome shape) T'
   pub weighs : (weight : Slot → ℕ) →
-      total weight T' + weight (slot_at shape T free) ≡ total weight T + weight s
+      total weight T' + weight (slot_at T free) ≡ total weight T + weight s
 
 pub shifted-filled : (shape : Shape) (T : SlotTable) (free : Spot) (ats : List Spot) (s : Slot) →
     IsSized shape.buckets shape.depth T → EachSlot (IsHome shape) T → IsWithin T free →
     ((b : ℕ) → (b ≡ s.first) ⊎ (b ≡ s.second) → IsEntryIn shape.buckets b s) →
     IsPath (others_from 0 T) (s.first, s.second) free.0 ats →
-    IsFilled shape T free s (shifted shape T free ats s)
+    IsFilled shape T free s (shifted T free ats s)
 shifted-filled shape T free [] s sized home within new through =
     record {
       sized = sized-with_slot shape.buckets shape.depth T free s sized;
       home = each-with_slot (IsHome shape) T free s within.bucket home (inr (new free.0 through));
-      weighs = λ weight. total-with_slot shape weight T free s within;
+      weighs = λ weight. total-with_slot weight T free s within;
     }
 shifted-filled shape T free (at ∷ ats) s sized home within new through =
-    let moved = slot_at shape T at in
+    let moved = slot_at T at in
     let next = with_slot T free moved in
     let here = seen shape T at free.0 through.0 in
     let apart = or_parts (free.0 == at.0) (is_on ats free.0) through.1 in
     let other : at.0 ≡ free.0 → ⊥ = λ e. eqb-false free.0 at.0 apart.0 (sym e) in
     let entry = moved-home shape at.0 free.0 moved
-    (home at.0 at.1 (empty_slot shape) here.within.slot) here.entry in
+    (home at.0 at.1 (empty_slot_of 0) here.within.slot) here.entry in
     let rest = shifted-filled shape next at ats s
     (sized-with_slot shape.buckets shape.depth T free moved sized)
     (each-with_slot (IsHome shape) T free moved within.bucket home (inr entry))
     (within-with_slot T free moved at here.within other) new
     (through-with_slot T (s.first, s.second) free moved at.0 ats apart.1 through.2) in
-    let stays : slot_at shape next at ≡ moved =
-    ap (λ slots. slice_index_or slots at.1 (empty_slot shape))
+    let stays : slot_at next at ≡ moved =
+    ap (λ slots. slice_index_or slots at.1 (empty_slot_of 0))
     (other_bucket-with_slot T free moved at.0 other) in
     record {
       sized = rest.sized;
       home = rest.home;
-      weighs = λ weight. (let one = total-with_slot shape weight T free moved within in
+      weighs = λ weight. (let one = total-with_slot weight T free moved within in
           let others = rest.weighs weight in let same =
           ap weight stays in omega (arith, one, others, same));
     }

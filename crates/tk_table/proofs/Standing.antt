@@ -1,5 +1,5 @@
 -- A table that stands for records, when a write comes.
-use Rattle.std.proofs.Common.{◌≡◌, ℕ, suc, ◌+◌, ◌-◌, ◌<◌, ◌≤◌, ◌↔◌, inl, inr, refl, ap, sym}
+use Rattle.std.proofs.Common.{◌≡◌, ℕ, ◌+◌, ◌-◌, ◌<◌, ◌≤◌, ◌↔◌, inl, inr, refl, ap, sym}
 use Rattle.std.proofs.Common.{◌∙◌, subst, arith, List, [], ◌∷◌, ◌++◌, length, drop, map, true}
 use Rattle.std.proofs.Common.{false}
 use Rattle.std.proofs.Common.{cond, lt-ltb, le-ltb}
@@ -7,100 +7,101 @@ use Rattle.std.specs.Prelude.{nat_lt, None}
 use Rattle.std.specs.List.{All}
 use Rattle.std.proofs.lemmas.Bool.{cases_lt}
 use Rattle.std.proofs.lemmas.List.{length-map, length-drop, length-append, drop_all}
-use Rattle.std.proofs.lemmas.List.Elements.{All-head, All-tail, All-push}
+use Rattle.std.proofs.lemmas.List.Elements.{All-head, All-tail, All-push, All-nil}
 use Rattle.std.proofs.lemmas.List.Elements.{All-weaker}
 use Rattle.tk_shape.specs.declared.shape.Shape.{Shape}
 use Rattle.tk_frames.specs.Order.{Record}
 use Rattle.tk_place.specs.Place.{search_end}
-use Rattle.tk_table.specs.declared.recent.Recent.{Recent}
 use Rattle.tk_table.specs.Ordered.{AreOrdered}
 use Rattle.tk_table.specs.Table.{Slot, SlotTable, slot_of, pair_in, window, layout}
 use Rattle.tk_table.specs.Table.{layout_with, without_expired, others_from, placed_in, is_displaced}
 use Rattle.tk_table.specs.Table.{empty_table}
 use Rattle.tk_table.specs.Laws.{left_for}
-use Rattle.tk_table.specs.Stands.{Kept, recent_of, TableStandsFor, IsWrite, slot_with, IsPair}
-use Rattle.tk_table.specs.Steps.{cleared_of}
-use Rattle.tk_table.specs.Inside.{IsKept, with_room, without_first}
+use Rattle.tk_table.specs.Stands.{Kept, position_of, TableStandsFor, IsWrite, slot_with, IsPair}
+use Rattle.tk_table.specs.Steps.{cleared_all}
+use Rattle.tk_table.specs.Inside.{IsKept, LatestWrites, EachHas, HasPair, IsKnown, with_room}
+use Rattle.tk_table.specs.Inside.{without_first}
 use Rattle.tk_table.proofs.OneMore.{layout-append, layout-none}
 use Rattle.tk_table.proofs.LaidOut.{layout-laid_out}
 use Rattle.tk_table.proofs.Layouts.{displaced-without_end}
 use Rattle.tk_table.proofs.Windows.{window-push, window-goes_on, ordered-with}
+use Rattle.tk_table.proofs.Holds.{empty_each}
 use Rattle.tk_table.proofs.Expiring.{nothing_expired, oldest, oldest_expired}
+use Rattle.tk_table.proofs.Knowing.{oldest_known, rest_known, one_more_known}
 
-pub stands_for_none : (shape : Shape) (slots : SlotTable) (recent : List Recent) →
-    slots ≡ empty_table shape → recent ≡ [] →
-    TableStandsFor (record { shape = shape; slots = slots; recent = recent }) []
-stands_for_none shape slots recent empty none =
+pub stands_for_none : (shape : Shape) (slots : SlotTable) (positions : List ℕ) →
+    slots ≡ empty_table shape → positions ≡ [] →
+    TableStandsFor (record { shape = shape; slots = slots; positions = positions }) []
+stands_for_none shape slots positions empty none =
     record {
       slots = empty ∙ sym (layout-none shape);
-      recent = none
-          ∙ sym (ap (map recent_of) (drop_all {X = Record} (0 - shape.retained) [] (omega arith)));
+      positions = none
+          ∙ sym (ap (map position_of) (drop_all {X = Record} (0 - shape.retained) []
+          (omega arith)));
     }
 
 -- ---- room for one more
 
 pub shape_with_room : (t : Kept) → (with_room t).shape ≡ t.shape
 shape_with_room t =
-    elim (nat_lt (length t.recent) t.shape.retained) as
-    (λ b. (cond b t (without_first t t.recent)).shape ≡ t.shape)
-    [ true ↦ refl | false ↦ first t.recent ]
+    elim (nat_lt (length t.positions) t.shape.retained) as
+    (λ b. (cond b t (without_first t t.positions)).shape ≡ t.shape)
+    [ true ↦ refl | false ↦ first t.positions ]
   where
-    first : (recent : List Recent) → (without_first t recent).shape ≡ t.shape
+    first : (positions : List ℕ) → (without_first t positions).shape ≡ t.shape
     first [] = refl
-    first (q ∷ qs) = refl
+    first (p ∷ ps) = refl
 
 -- what the slots of a table have to be when w comes
 abbrev RoomFor : Kept → List Record → Record → Kept → Type 0
 RoomFor t R w next =
     (next.slots ≡ without_expired t.shape (window t.shape (R ++ w ∷ [])) (layout t.shape R))
-    × (next.recent ≡ drop (length t.recent + 1 - t.shape.retained) t.recent)
+    × (next.positions ≡ drop (length t.positions + 1 - t.shape.retained) t.positions)
 
-room-first : (t : Kept) (R : List Record) (w : Record) (V : List Record) (recent : List Recent) →
+room-first : (t : Kept) (R : List Record) (w : Record) (V : List Record) (positions : List ℕ) →
     TableStandsFor t R → AreOrdered t.shape R → AreOrdered t.shape (R ++ w ∷ []) →
     t.shape.retained ≤ length V → length V ≤ t.shape.retained → window t.shape R ≡ V →
-    t.recent ≡ recent → recent ≡ map recent_of V → RoomFor t R w (without_first t recent)
-room-first t R w [] recent stands ordered with full few begins is at =
+    t.positions ≡ positions → positions ≡ map position_of V →
+    RoomFor t R w (without_first t positions)
+room-first t R w [] positions stands ordered with full few begins is at =
     absurd (let low = t.shape.in_range.retained_low in omega (arith, low, full))
 room-first t R w (r ∷ rest) [] stands ordered with full few begins is at = absurd (cc at)
-room-first t R w (r ∷ rest) (q ∷ qs) stands ordered with full few begins is at =
-    let first : q ≡ recent_of r = cc at in
-    let later : qs ≡ map recent_of rest = cc at in
+room-first t R w (r ∷ rest) (p ∷ ps) stands ordered with full few begins is at =
+    let first : p ≡ position_of r = cc at in
     let low = t.shape.in_range.retained_low in
-    let long : length t.recent ≡ suc (length rest) =
-    ap length is ∙ ap length at ∙ length-map (r ∷ rest) recent_of in
     let old = oldest t.shape R w r rest with begins
     (subst (λ n. t.shape.retained ≤ length n) (sym begins) full) in (
-      ap (λ (x : Recent). cleared_of t.shape.block x.position x.pair t.slots) first
-          ∙ ap (cleared_of t.shape.block r.position (pair_in r)) stands.slots
-          ∙ oldest_expired t.shape R w r (layout-laid_out t.shape R ordered) ordered old,
-      sym (ap (λ n. drop n t.recent) one ∙ ap (drop 1) is),
+      ap (λ x. cleared_all t.shape.block x t.slots) first
+          ∙ ap (cleared_all t.shape.block r.position) stands.slots
+          ∙ oldest_expired t.shape R w r (layout-laid_out t.shape R ordered) old,
+      sym (ap (λ n. drop n t.positions) one ∙ ap (drop 1) is),
     )
   where
-    one : length t.recent + 1 - t.shape.retained ≡ 1
+    one : length t.positions + 1 - t.shape.retained ≡ 1
     one =
-        let long : length t.recent ≡ length (r ∷ rest) =
-        ap length is ∙ ap length at ∙ length-map (r ∷ rest) recent_of in
+        let long : length t.positions ≡ length (r ∷ rest) =
+        ap length is ∙ ap length at ∙ length-map (r ∷ rest) position_of in
         omega (arith, long, full, few)
 
 room-made : (t : Kept) (R : List Record) (w : Record) → TableStandsFor t R →
     AreOrdered t.shape R → AreOrdered t.shape (R ++ w ∷ []) →
-    length t.recent ≤ t.shape.retained → RoomFor t R w (with_room t)
+    length t.positions ≤ t.shape.retained → RoomFor t R w (with_room t)
 room-made t R w stands ordered with few =
-    let long : length t.recent ≡ length (window t.shape R) =
-    ap length stands.recent ∙ length-map (window t.shape R) recent_of in
-    elim (cases_lt (length t.recent) t.shape.retained) [
-      | inl room ↦ subst (λ b. RoomFor t R w (cond b t (without_first t t.recent)))
-          (sym (lt-ltb (length t.recent) t.shape.retained room)) (
+    let long : length t.positions ≡ length (window t.shape R) =
+    ap length stands.positions ∙ length-map (window t.shape R) position_of in
+    elim (cases_lt (length t.positions) t.shape.retained) [
+      | inl room ↦ subst (λ b. RoomFor t R w (cond b t (without_first t t.positions)))
+          (sym (lt-ltb (length t.positions) t.shape.retained room)) (
             stands.slots
                 ∙ sym (nothing_expired t.shape R w (layout-laid_out t.shape R ordered)
                 (omega (arith, long, room))),
-            ap (λ n. drop n t.recent) {x = 0} {y = length t.recent + 1 - t.shape.retained}
+            ap (λ n. drop n t.positions) {x = 0} {y = length t.positions + 1 - t.shape.retained}
                 (omega (arith, room)),
           )
-      | inr full ↦ subst (λ b. RoomFor t R w (cond b t (without_first t t.recent)))
-          (sym (le-ltb (length t.recent) t.shape.retained full))
-          (room-first t R w (window t.shape R) t.recent stands ordered with
-          (omega (arith, long, full)) (omega (arith, long, few)) refl refl stands.recent)
+      | inr full ↦ subst (λ b. RoomFor t R w (cond b t (without_first t t.positions)))
+          (sym (le-ltb (length t.positions) t.shape.retained full))
+          (room-first t R w (window t.shape R) t.positions stands ordered with
+          (omega (arith, long, full)) (omega (arith, long, few)) refl refl stands.positions)
     ]
 
 -- ---- the write
@@ -116,39 +117,26 @@ write-slot w position pair block is =
     ∙ ap (λ n. slot_parts w.position w.write.first n block) (sym is.second)
     ∙ ap (slot_parts w.position w.write.first w.write.second) (sym is.block)
 
-abbrev recent_parts : ℕ → ℕ → ℕ → Recent
-recent_parts p a b = record { position = p; pair = (a, b) }
-
--- what is kept of a write
-abbrev pub recent_with : ℕ → ℕ × ℕ → Recent
-recent_with position pair = record { position = position; pair = pair }
-
-write-recent : (w : Record) (position : ℕ) (pair : ℕ × ℕ) (block : List ℕ) →
-    IsWrite w position pair block → recent_with position pair ≡ recent_of w
-write-recent w position pair block is =
-    ap (λ n. recent_parts n pair.0 pair.1) (sym is.position)
-    ∙ ap (λ n. recent_parts w.position n pair.1) (sym is.first)
-    ∙ ap (recent_parts w.position w.write.first) (sym is.second)
-
 layout-made : (shape : Shape) (R : List Record) (w : Record) →
-    placed_in shape (left_for shape R w) (slot_of w) ≡ layout shape (R ++ w ∷ [])
+    placed_in (left_for shape R w) (slot_of w) ≡ layout shape (R ++ w ∷ [])
 unfolding layout_with
 layout-made shape R w = sym (layout-append shape R w)
 
 -- a table of these
-abbrev pub table_of : Shape → SlotTable → List Recent → Kept
-table_of shape slots recent = record { shape = shape; slots = slots; recent = recent }
+abbrev pub table_of : Shape → SlotTable → List ℕ → Kept
+table_of shape slots positions = record { shape = shape; slots = slots; positions = positions }
 
 module _ (old : Kept) (R : List Record) (w : Record) (position : ℕ) (pair : ℕ × ℕ)
     (block : List ℕ) (stands : TableStandsFor old R) (ordered : AreOrdered old.shape R)
     (is : IsWrite w position pair block) (low : 1 ≤ position)
-    (above : All (λ (q : Recent). q.position < position) old.recent)
+    (above : All (λ p. p < position) old.positions)
     (within : IsPair old.shape pair) where
   in_order : AreOrdered old.shape (R ++ w ∷ [])
   in_order =
       let first = is.first in
       let second = is.second in
-      ordered-with old.shape R w old.recent position ordered stands.recent is.position low above
+      ordered-with old.shape R w old.positions position ordered stands.positions is.position low
+      above
       (record {
         first = omega (arith, first, within.0);
         second = omega (arith, second, within.1);
@@ -156,114 +144,164 @@ module _ (old : Kept) (R : List Record) (w : Record) (position : ℕ) (pair : �
 
   room : RoomFor old R w (with_room old)
   room =
-      let long = ap length stands.recent ∙ length-map (window old.shape R) recent_of in
+      let long = ap length stands.positions ∙ length-map (window old.shape R) position_of in
       let cut = length-drop (length R - old.shape.retained) R in
       room-made old R w stands ordered in_order (omega (arith, long, cut))
 
-  pub write_stands : (shape own : Shape) (slots next : SlotTable) (recent later : List Recent) →
-      table_of shape slots recent ≡ with_room old → own ≡ shape →
-      next ≡ placed_in own slots (slot_with position pair block) →
-      later ≡ recent ++ recent_with position pair ∷ [] →
+  pub write_stands : (shape : Shape) (slots next : SlotTable) (positions later : List ℕ) →
+      table_of shape slots positions ≡ with_room old →
+      next ≡ placed_in slots (slot_with position pair block) →
+      later ≡ positions ++ position ∷ [] →
       TableStandsFor (table_of shape next later) (R ++ w ∷ [])
-  write_stands shape own slots next recent later at same placed pushed =
+  write_stands shape slots next positions later at placed pushed =
       let is_shape : shape ≡ old.shape = ap (λ (t : Kept). t.shape) at ∙ shape_with_room old in
       let left = left_for old.shape R w in
       let is_left : slots ≡ left = ap (λ (t : Kept). t.slots) at ∙ room.0 in
       subst (λ sh. TableStandsFor (table_of sh next later) (R ++ w ∷ [])) (sym is_shape) (record {
         slots = placed
-            ∙ ap (λ sh. placed_in sh slots (slot_with position pair block)) (same ∙ is_shape)
-            ∙ ap (λ T. placed_in old.shape T (slot_with position pair block)) is_left
-            ∙ ap (placed_in old.shape left) (write-slot w position pair block is)
+            ∙ ap (λ T. placed_in T (slot_with position pair block)) is_left
+            ∙ ap (placed_in left) (write-slot w position pair block is)
             ∙ layout-made old.shape R w;
-        recent = pushed
-            ∙ ap (λ rs. rs ++ recent_with position pair ∷ [])
-            (ap (λ (t : Kept). t.recent) at ∙ room.1)
-            ∙ sym (window-push old.shape old.recent (recent_with position pair))
-            ∙ ap (λ rs. window old.shape (rs ++ recent_with position pair ∷ [])) stands.recent
-            ∙ ap (λ q. window old.shape (map recent_of (window old.shape R) ++ q ∷ []))
-            (write-recent w position pair block is)
-            ∙ window-goes_on old.shape recent_of R w;
+        positions = pushed
+            ∙ ap (λ ps. ps ++ position ∷ [])
+            (ap (λ (t : Kept). t.positions) at ∙ room.1)
+            ∙ sym (window-push old.shape old.positions position)
+            ∙ ap (λ ps. window old.shape (ps ++ position ∷ [])) stands.positions
+            ∙ ap (λ p. window old.shape (map position_of (window old.shape R) ++ p ∷ []))
+            (sym is.position)
+            ∙ window-goes_on old.shape position_of R w;
       })
 
-  pub write_displaced : (shape : Shape) (slots : SlotTable) (recent : List Recent) →
-      table_of shape slots recent ≡ with_room old →
+  pub write_displaced : (shape : Shape) (slots : SlotTable) (positions : List ℕ) →
+      table_of shape slots positions ≡ with_room old →
       (search_end (others_from 0 slots) pair ≡ None) ↔ (is_displaced old.shape R w ≡ true)
-  write_displaced shape slots recent at =
+  write_displaced shape slots positions at =
       let left = left_for old.shape R w in
       let is_left : slots ≡ left = ap (λ (t : Kept). t.slots) at ∙ room.0 in
-      let is_pair : pair_in w ≡ pair = ap (λ (q : Recent). q.pair)
-      (sym (write-recent w position pair block is)) in
+      let is_pair : pair_in w ≡ pair = ap (λ n. (n, w.write.second)) is.first
+      ∙ ap (λ n. (pair.0, n)) is.second in
       subst (λ T. (search_end (others_from 0 T) pair ≡ None) ↔ (is_displaced old.shape R w ≡ true))
       (sym is_left)
       (subst (λ p. (search_end (others_from 0 left) p ≡ None) ↔ (is_displaced old.shape R w ≡ true))
       is_pair (displaced-without_end old.shape R w in_order))
 
--- what each of the latest writes has, each that is left has
-room_each : (P : Recent → Type 0) (t : Kept) → All P t.recent → All P (with_room t).recent
+-- what each of the positions has, each that is left has
+room_each : (P : ℕ → Type 0) (t : Kept) → All P t.positions → All P (with_room t).positions
 room_each P t h =
-    elim (nat_lt (length t.recent) t.shape.retained) as
-    (λ b. All P (cond b t (without_first t t.recent)).recent)
-    [ true ↦ h | false ↦ first t.recent h ]
+    elim (nat_lt (length t.positions) t.shape.retained) as
+    (λ b. All P (cond b t (without_first t t.positions)).positions)
+    [ true ↦ h | false ↦ first t.positions h ]
   where
-    first : (recent : List Recent) → All P recent → All P (without_first t recent).recent
+    first : (positions : List ℕ) → All P positions → All P (without_first t positions).positions
     first [] each = h
-    first (q ∷ qs) each = All-tail P q qs each
+    first (p ∷ ps) each = All-tail P p ps each
 
-pub latest_writes : (old : Kept) (shape : Shape) (slots : SlotTable) (recent later : List Recent)
-    (position : ℕ) (pair : ℕ × ℕ) → All (λ (q : Recent). q.position < position) old.recent →
-    table_of shape slots recent ≡ with_room old →
-    later ≡ recent ++ recent_with position pair ∷ [] →
-    All (λ (q : Recent). q.position ≤ position) later
-latest_writes old shape slots recent later position pair above at pushed =
-    let P : Recent → Type 0 = λ q. q.position ≤ position in
-    let before : All P old.recent =
-    All-weaker (λ (q : Recent). q.position < position) P (λ q low. omega (arith, low)) old.recent
-    above in
-    subst (All P) (sym (pushed ∙ ap (λ rs. rs ++ recent_with position pair ∷ [])
-    (ap (λ (t : Kept). t.recent) at)))
-    (All-push P (with_room old).recent (recent_with position pair) (room_each P old before)
-    (omega arith))
+pub left_below : (old : Kept) (shape : Shape) (slots : SlotTable) (positions : List ℕ)
+    (position : ℕ) → All (λ p. p < position) old.positions →
+    table_of shape slots positions ≡ with_room old → All (λ p. p < position) positions
+left_below old shape slots positions position above at =
+    subst (All (λ p. p < position)) (sym (ap (λ (t : Kept). t.positions) at))
+    (room_each (λ p. p < position) old above)
+
+pub latest_writes : (old : Kept) (shape : Shape) (slots : SlotTable) (positions later : List ℕ)
+    (position : ℕ) → All (λ p. p < position) old.positions →
+    table_of shape slots positions ≡ with_room old → later ≡ positions ++ position ∷ [] →
+    All (λ p. p ≤ position) later
+latest_writes old shape slots positions later position above at pushed =
+    subst (All (λ p. p ≤ position)) (sym pushed)
+    (All-push (λ p. p ≤ position) positions position
+    (All-weaker (λ p. p < position) (λ p. p ≤ position) (λ p low. omega (arith, low)) positions
+    (left_below old shape slots positions position above at)) (omega arith))
 
 -- ---- the insides
 
-pub kept_popped : (shape own next : Shape) (places : ℕ) (recent rest : List Recent) (q : Recent)
-    (space left : ℕ) →
-    IsKept shape own places recent space → next ≡ own → recent ≡ q ∷ rest → left ≡ space →
-    IsKept shape next places rest left
-kept_popped shape own next places recent rest q space left kept same popped capacity =
-    let enough = kept.space in
-    let long = ap length popped in
-    let few = kept.few in
-    record {
-      same = same ∙ kept.same;
-      whole = kept.whole;
-      space = omega (arith, enough, capacity);
-      few = omega (arith, few, long);
-      pairs = All-tail (λ (q : Recent). IsPair shape q.pair) q rest
-          (subst (All (λ (q : Recent). IsPair shape q.pair)) popped kept.pairs);
-    }
+abbrev latest_of : ℕ → List ℕ → List (ℕ × ℕ) → LatestWrites
+latest_of room positions pairs = record { room = room; positions = positions; pairs = pairs }
 
-pub pair_popped : (shape own : Shape) (places : ℕ) (recent rest : List Recent) (q : Recent)
-    (space : ℕ) → IsKept shape own places recent space → recent ≡ q ∷ rest → IsPair own q.pair
-pair_popped shape own places recent rest q space kept popped =
-    subst (λ sh. IsPair sh q.pair) (sym kept.same)
-    (All-head (λ (q : Recent). IsPair shape q.pair) q rest
-    (subst (All (λ (q : Recent). IsPair shape q.pair)) popped kept.pairs))
+module _ (shape own : Shape) (places : ℕ) (slots : SlotTable) (latest : LatestWrites)
+    (p : ℕ) (q : ℕ × ℕ) (ps : List ℕ) (qs : List (ℕ × ℕ))
+    (kept : IsKept shape own places slots latest) (positions : latest.positions ≡ p ∷ ps)
+    (pairs : latest.pairs ≡ q ∷ qs) where
+  known : EachHas (IsKnown (p ∷ ps) (q ∷ qs)) slots
+  known =
+      subst (λ xs. EachHas (IsKnown (p ∷ ps) xs) slots) pairs
+      (subst (λ xs. EachHas (IsKnown xs latest.pairs) slots) positions kept.known)
 
-pub kept_pushed : (shape own next : Shape) (places more : ℕ) (recent later : List Recent)
-    (q : Recent) (space left : ℕ) →
-    IsKept shape own places recent space → next ≡ own → more ≡ places →
-    later ≡ recent ++ q ∷ [] → length recent < shape.retained → left ≡ space →
-    IsPair shape q.pair → IsKept shape next more later left
-kept_pushed shape own next places more recent later q space left kept same size pushed room
-    capacity pair =
+  -- the oldest write's buckets are known
+  pub oldest_pair : IsPair own q
+  oldest_pair =
+      subst (λ sh. IsPair sh q) (sym kept.same)
+      (All-head (IsPair shape) q qs (subst (All (IsPair shape)) pairs kept.pairs))
+
+  pub oldest_own : EachHas (HasPair p q) slots
+  oldest_own = oldest_known p q ps qs slots known
+
+  -- and when it leaves the others' are
+  pub kept_without : (next : Shape) (left : SlotTable) (room : ℕ) → next ≡ own →
+      left ≡ cleared_all own.block p slots → room ≡ latest.room →
+      IsKept shape next places left (latest_of room ps qs)
+  kept_without next left room same emptied space =
+      let enough = kept.space in
+      let long = ap length positions in
+      let few = kept.few in
+      let beside = kept.beside in
+      let others = ap length pairs in
+      record {
+        same = same ∙ kept.same;
+        whole = kept.whole;
+        space = omega (arith, enough, space);
+        few = omega (arith, few, long);
+        beside = omega (arith, beside, others, long);
+        pairs = All-tail (IsPair shape) q qs (subst (All (IsPair shape)) pairs kept.pairs);
+        known = subst (EachHas (IsKnown ps qs)) (sym emptied)
+            (rest_known own.block p q ps qs slots known);
+      }
+
+pub kept_with : (shape own next : Shape) (places more : ℕ) (slots filled : SlotTable)
+    (latest : LatestWrites) (room : ℕ) (ps : List ℕ) (qs : List (ℕ × ℕ)) (position : ℕ)
+    (pair : ℕ × ℕ) (block : List ℕ) → IsKept shape own places slots latest → next ≡ own →
+    more ≡ places → filled ≡ placed_in slots (slot_with position pair block) →
+    room ≡ latest.room → ps ≡ latest.positions ++ position ∷ [] → qs ≡ latest.pairs ++ pair ∷ [] →
+    length latest.positions < shape.retained → All (λ p. p < position) latest.positions →
+    IsPair shape pair → IsKept shape next more filled (latest_of room ps qs)
+kept_with shape own next places more slots filled latest room ps qs position pair block kept same
+    size placed space pushed others few above within =
     let enough = kept.space in
-    let long = ap length pushed ∙ length-append recent (q ∷ []) in
+    let long = ap length pushed ∙ length-append latest.positions (position ∷ []) in
+    let wide = ap length others ∙ length-append latest.pairs (pair ∷ []) in
+    let beside = kept.beside in
     record {
       same = same ∙ kept.same;
       whole = size ∙ kept.whole;
-      space = omega (arith, enough, capacity);
-      few = omega (arith, long, room);
-      pairs = subst (All (λ (q : Recent). IsPair shape q.pair)) (sym pushed)
-          (All-push (λ (q : Recent). IsPair shape q.pair) recent q kept.pairs pair);
+      space = omega (arith, enough, space);
+      few = omega (arith, long, few);
+      beside = omega (arith, beside, long, wide);
+      pairs = subst (All (IsPair shape)) (sym others)
+          (All-push (IsPair shape) latest.pairs pair kept.pairs within);
+      known = subst (λ xs. EachHas (IsKnown xs qs) filled) (sym pushed)
+          (subst (λ xs. EachHas (IsKnown (latest.positions ++ position ∷ []) xs) filled)
+          (sym others)
+          (subst (EachHas (IsKnown (latest.positions ++ position ∷ []) (latest.pairs ++ pair ∷ [])))
+          (sym placed)
+          (one_more_known latest.positions latest.pairs slots (slot_with position pair block) pair
+          kept.beside above refl kept.known)));
+    }
+
+-- nothing is in an empty table
+pub kept_none : (shape own : Shape) (places : ℕ) (slots : SlotTable) (latest : LatestWrites) →
+    own ≡ shape → places ≡ shape.buckets → slots ≡ empty_table shape →
+    shape.retained ≤ latest.room → latest.positions ≡ [] → latest.pairs ≡ [] →
+    IsKept shape own places slots latest
+kept_none shape own places slots latest same whole empty space positions pairs =
+    let none = ap length positions in
+    let nothing = ap length pairs in
+    record {
+      same = same;
+      whole = whole;
+      space = space;
+      few = omega (arith, none);
+      beside = omega (arith, none, nothing);
+      pairs = subst (All (IsPair shape)) (sym pairs) (All-nil (IsPair shape));
+      known = subst (EachHas (IsKnown latest.positions latest.pairs)) (sym empty)
+          (empty_each (λ _. IsKnown latest.positions latest.pairs) shape (λ _. inl refl));
     }

@@ -6,10 +6,9 @@ use Rattle.std.specs.List.{All}
 use Rattle.std.proofs.lemmas.List.{drop-append-le, drop-drop, drop-map, length-map, map-append}
 use Rattle.tk_shape.specs.declared.shape.Shape.{Shape}
 use Rattle.tk_frames.specs.Order.{Record}
-use Rattle.tk_table.specs.declared.recent.Recent.{Recent}
 use Rattle.tk_table.specs.Ordered.{AscendFrom, HasBuckets, AreOrdered}
 use Rattle.tk_table.specs.Table.{window}
-use Rattle.tk_table.specs.Stands.{recent_of}
+use Rattle.tk_table.specs.Stands.{position_of}
 use Rattle.tk_frames.proofs.Offers.{each-push}
 use Rattle.tk_frames.specs.Lists.{IsIn}
 use Rattle.tk_frames.proofs.Offers.{all_in, in_map}
@@ -68,18 +67,17 @@ ascend-above_window shape (r ∷ R) w h low below =
     ascend-above_last 1 (length (r ∷ R) - shape.retained) (r ∷ R) w h (omega (arith, some)) below
 
 -- the records with a new one that is above the latest writes
-pub ordered-with : (shape : Shape) (R : List Record) (w : Record) (recent : List Recent)
+pub ordered-with : (shape : Shape) (R : List Record) (w : Record) (positions : List ℕ)
     (position : ℕ) →
-    AreOrdered shape R → recent ≡ map recent_of (window shape R) → w.position ≡ position →
-    1 ≤ position → All (λ (q : Recent). q.position < position) recent → HasBuckets shape w →
+    AreOrdered shape R → positions ≡ map position_of (window shape R) → w.position ≡ position →
+    1 ≤ position → All (λ p. p < position) positions → HasBuckets shape w →
     AreOrdered shape (R ++ w ∷ [])
-ordered-with shape R w recent position ordered same at low above buckets =
+ordered-with shape R w positions position ordered same at low above buckets =
     record {
       ascend = ascend-above_window shape R w ordered.ascend (omega (arith, low, at)) (λ r there.
-          let below = all_in (λ (q : Recent). q.position < position)
-          (map recent_of (window shape R))
-          (recent_of r) (subst (All (λ (q : Recent). q.position < position)) same above)
-          (in_map recent_of (window shape R) r there) in
+          let below = all_in (λ p. p < position) (map position_of (window shape R))
+          (position_of r) (subst (All (λ p. p < position)) same above)
+          (in_map position_of (window shape R) r there) in
           omega (arith, below, at));
       within = each-push (HasBuckets shape) R w ordered.within buckets;
     }

@@ -2,23 +2,21 @@
 use Rattle.std.specs.Prelude.{◌≡◌, ◌<◌, ℕ, List, map}
 use Rattle.tk_shape.specs.declared.shape.Shape.{Shape}
 use Rattle.tk_frames.specs.Order.{Record}
-use Rattle.tk_table.specs.declared.recent.Recent.{Recent}
-use Rattle.tk_table.specs.Table.{Slot, SlotTable, pair_in, window, layout}
+use Rattle.tk_table.specs.Table.{Slot, SlotTable, window, layout}
 
--- a table's shape, its slots, and the latest writes, the oldest first
+-- a table's shape, its slots, and the positions of the latest writes, the oldest first
 pub record Kept : Type 0 where
   pub shape : Shape
   pub slots : SlotTable
-  pub recent : List Recent
+  pub positions : List ℕ
 
--- what is kept of a record beside its slot
-abbrev pub recent_of : Record → Recent
-recent_of r = record { position = r.position; pair = pair_in r }
+abbrev pub position_of : Record → ℕ
+position_of r = r.position
 
--- the slots are the layout of these records, and the latest writes are those of the window
+-- the slots are the layout of these records, and the positions are those of the window
 pub record TableStandsFor (table : Kept) (R : List Record) : Type 0 where
   pub slots : table.slots ≡ layout table.shape R
-  pub recent : table.recent ≡ map recent_of (window table.shape R)
+  pub positions : table.positions ≡ map position_of (window table.shape R)
 
 -- a pair of the shape's buckets
 abbrev pub IsPair : Shape → ℕ × ℕ → Type 0

@@ -3,8 +3,8 @@ use Rattle.std.specs.Prelude.{◌≡◌, ℕ, ◌<◌, false, true, List, [], �
 use Rattle.std.specs.Prelude.{cond, map, ◌==◌}
 use Rattle.tk_place.specs.Place.{Spot}
 use Rattle.tk_place.specs.Chain.{is_on}
-use Rattle.tk_bucket.specs.Table.{Slot, SlotTable, bucket_at, slot_at, with_slot, is_empty}
-use Rattle.tk_bucket.specs.Table.{empty_slot}
+use Rattle.tk_bucket.specs.Table.{Slot, SlotTable, bucket_at, slot_at, is_empty, empty_slot}
+use Rattle.tk_table.specs.Table.{shifted}
 
 -- each is a slot of one of these buckets, and no bucket comes twice
 abbrev pub AreSteps : ℕ → ℕ → List Spot → Type 0
@@ -20,15 +20,10 @@ first_of steps = slice_index_or steps 0 (0, 0)
 abbrev pub IsFree : SlotTable → Spot → Type 0
 IsFree T at = is_empty (slot_at T at) ≡ true
 
--- the entry of each slot goes to the slot before it, and s to the last one that is free
-abbrev pub moved_along : SlotTable → Spot → List Spot → Slot → SlotTable
-moved_along T free [] s = with_slot T free s
-moved_along T free (at ∷ ats) s = moved_along (with_slot T free (slot_at T at)) at ats s
-
 -- of these slots the first is free
 abbrev pub moved_by : SlotTable → List Spot → Slot → SlotTable
 moved_by T [] s = T
-moved_by T (free ∷ ats) s = moved_along T free ats s
+moved_by T (free ∷ ats) s = shifted T free ats s
 
 -- ---- what leaves
 
@@ -44,3 +39,7 @@ cleared_in block position T b = slice_set T b (map (cleared block position) (buc
 abbrev pub cleared_of : ℕ → ℕ → ℕ × ℕ → SlotTable → SlotTable
 cleared_of block position pair T =
     cleared_in block position (cleared_in block position T pair.0) pair.1
+
+-- and all that there are
+abbrev pub cleared_all : ℕ → ℕ → SlotTable → SlotTable
+cleared_all block position T = map (map (cleared block position)) T

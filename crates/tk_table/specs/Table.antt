@@ -1,13 +1,15 @@
 -- The table of the latest writes: which are retained, and where they lie.
-use Rattle.std.specs.Prelude.{ℕ, ◌+◌, ◌-◌, ◌==◌, Bool, not, cond, List, [], ◌∷◌, ◌++◌, length}
-use Rattle.std.specs.Prelude.{drop, map, filter, position, flat_map, replicate, slice_index_or}
-use Rattle.std.specs.Prelude.{slice_set, Option, Some, None}
+use Rattle.std.specs.Prelude.{ℕ, ◌+◌, ◌==◌, Bool, not, cond, List, [], ◌∷◌, ◌++◌, map, filter}
+use Rattle.std.specs.Prelude.{Option, Some, None}
 use Rattle.std.specs.List.{list_any}
 use Rattle.tk_shape.specs.declared.shape.Shape.{Shape}
 use Rattle.tk_frames.specs.Order.{Record}
 pub use Rattle.tk_frames.specs.Slots.{Slot, slot_bytes}
 use Rattle.tk_bloom.specs.Windows.{window as last_of}
 use Rattle.tk_place.specs.Place.{fit, Others, Spot, Reached, lowest_empty, search_end}
+pub use Rattle.tk_bucket.specs.Table.{SlotTable, bucket_at, slot_at, with_slot, is_empty}
+use Rattle.tk_bucket.specs.Table.{empty_slot as empty_slot_of, empty_table as empty_table_of}
+pub use Rattle.tk_bucket.specs.Bytes.{blocks_of}
 
 -- the last retained writes, or all where there are fewer
 abbrev pub window : {X : Type 0} → Shape → List X → List X
@@ -52,7 +54,7 @@ is_displaced shape R w = not (fit_together shape (unexpired shape R w (retained 
 -- ---- where it lies
 
 abbrev pub empty_slot : Shape → Slot
-empty_slot shape = record { position = 0; first = 0; second = 0; block = replicate shape.block 0 }
+empty_slot shape = empty_slot_of shape.block
 
 abbrev pub slot_of : Record → Slot
 slot_of r =
@@ -63,24 +65,8 @@ slot_of r =
       block = r.write.block;
     }
 
-abbrev pub is_empty : Slot → Bool
-is_empty s = s.position == 0
-
--- the buckets of a table, each the list of its slots
-abbrev pub SlotTable : Type 0
-SlotTable = List (List Slot)
-
 abbrev pub empty_table : Shape → SlotTable
-empty_table shape = replicate shape.buckets (replicate shape.depth (empty_slot shape))
-
-abbrev pub bucket_at : SlotTable → ℕ → List Slot
-bucket_at T b = slice_index_or T b []
-
-abbrev pub slot_at : Shape → SlotTable → Spot → Slot
-slot_at shape T at = slice_index_or (bucket_at T at.0) at.1 (empty_slot shape)
-
-abbrev pub with_slot : SlotTable → Spot → Slot → SlotTable
-with_slot T at s = slice_set T at.0 (slice_set (bucket_at T at.0) at.1 s)
+empty_table shape = empty_table_of shape.buckets shape.depth shape.block
 
 -- the other bucket of the entry that a slot of bucket b has, if it has one
 abbrev pub other_in : ℕ → Slot → Option ℕ
@@ -92,22 +78,22 @@ others_from b [] = []
 others_from b (slots ∷ T) = map (other_in b) slots ∷ others_from (b + 1) T
 
 -- the entry of each slot goes to the slot before it, and s to the last one that is free
-abbrev pub shifted : Shape → SlotTable → Spot → List Spot → Slot → SlotTable
-shifted shape T free [] s = with_slot T free s
-shifted shape T free (at ∷ ats) s = shifted shape (with_slot T free (slot_at shape T at)) at ats s
+abbrev pub shifted : SlotTable → Spot → List Spot → Slot → SlotTable
+shifted T free [] s = with_slot T free s
+shifted T free (at ∷ ats) s = shifted (with_slot T free (slot_at T at)) at ats s
 
 -- the table with s in it, where the search ends in p, of which slot i is empty
-abbrev pub moved_up : Shape → SlotTable → Slot → Reached → Option ℕ → SlotTable
-moved_up shape T s p None = T
-moved_up shape T s p (Some i) = shifted shape T (p.bucket, i) p.through s
+abbrev pub moved_up : SlotTable → Slot → Reached → Option ℕ → SlotTable
+moved_up T s p None = T
+moved_up T s p (Some i) = shifted T (p.bucket, i) p.through s
 
-abbrev pub placed_at : Shape → SlotTable → Slot → Option Reached → SlotTable
-placed_at shape T s None = T
-placed_at shape T s (Some p) = moved_up shape T s p (lowest_empty (others_from 0 T) p.bucket)
+abbrev pub placed_at : SlotTable → Slot → Option Reached → SlotTable
+placed_at T s None = T
+placed_at T s (Some p) = moved_up T s p (lowest_empty (others_from 0 T) p.bucket)
 
 -- the table with s in it, where the search has an end
-abbrev pub placed_in : Shape → SlotTable → Slot → SlotTable
-placed_in shape T s = placed_at shape T s (search_end (others_from 0 T) (s.first, s.second))
+abbrev pub placed_in : SlotTable → Slot → SlotTable
+placed_in T s = placed_at T s (search_end (others_from 0 T) (s.first, s.second))
 
 -- the table without what has left the window W
 abbrev pub without_expired : Shape → List Record → SlotTable → SlotTable
@@ -116,7 +102,7 @@ without_expired shape W T = map (map (λ s. cond (has_position W s.position) s (
 -- the table when w comes behind R, for which it was T
 unfoldable pub layout_with : Shape → List Record → SlotTable → Record → SlotTable
 layout_with shape R T w =
-    placed_in shape (without_expired shape (window shape (R ++ w ∷ [])) T) (slot_of w)
+    placed_in (without_expired shape (window shape (R ++ w ∷ [])) T) (slot_of w)
 
 unfoldable pub layout_on : Shape → List Record → SlotTable → List Record → SlotTable
 layout_on shape R T [] = T
@@ -125,9 +111,3 @@ layout_on shape R T (w ∷ ws) = layout_on shape (R ++ w ∷ []) (layout_with sh
 -- the table after these writes
 abbrev pub layout : Shape → List Record → SlotTable
 layout shape R = layout_on shape [] (empty_table shape) R
-
--- ---- the bytes
-
--- each bucket's bytes
-abbrev pub blocks_of : SlotTable → List (List ℕ)
-blocks_of T = map (flat_map slot_bytes) T

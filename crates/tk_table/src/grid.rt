@@ -5,10 +5,12 @@ ghost use Rattle.tk_bucket.specs.Bytes.{BlockList};
 ghost use Rattle.tk_shape.specs.Lengths.{width};
 ghost use Rattle.tk_table.specs.Table.{empty_table, others_from, placed_in, blocks_of};
 ghost use Rattle.tk_table.specs.Stands.{slot_with, IsPair};
-ghost use Rattle.tk_table.specs.Steps.{cleared_of};
+ghost use Rattle.tk_table.specs.Steps.{cleared_all};
+ghost use Rattle.tk_table.specs.Inside.{EachHas, HasPair};
 
 use crate::chain::{clear_in, store};
-use crate::{Memory, Put, Recent, Snapshot};
+use crate::latest::Recent;
+use crate::{Memory, Put, Snapshot};
 use std::alloc::Global;
 use std::marker::Model;
 use tk_bucket::Buckets;
@@ -27,9 +29,9 @@ impl Model for Grid {
 
     ghost Value = { Laid };
 
-    ghost view = { λ g. record { shape = g.shape; slots = g.buckets.table } };
+    ghost view = { λ g. record { shape = g.shape; slots = g.buckets.contents.table } };
 
-    ghost invariant = { λ g. IsGrid g.shape g.buckets };
+    ghost invariant = { λ g. IsGrid g.shape g.buckets.contents };
 }
 
 impl Grid {
@@ -51,10 +53,11 @@ impl Grid {
 
     /// Empties the slot of a write, if it has one.
     pub(crate) fn expire(&mut self, write: Recent)
-        requires { IsPair self.old.shape write.pair }
-        ensures { let shape = self.old.shape in
+        requires pair { IsPair self.old.shape write.pair }
+        requires own { EachHas (HasPair write.position write.pair) self.old.slots }
+        ensures { let block = self.old.shape.block in
             self.new ≡ record self.old {
-              slots = cleared_of shape.block write.position write.pair self.old.slots;
+              slots = cleared_all block write.position self.old.slots;
             } }
     {
         let depth = self.shape.depth;
@@ -76,7 +79,7 @@ impl Grid {
         requires block { length block.now ≡ self.old.shape.block }
         ensures size { scratch.new.buckets ≡ scratch.old.buckets }
         ensures slots { let s = slot_with position pair block.now in
-            self.new ≡ record self.old { slots = placed_in self.old.shape self.old.slots s } }
+            self.new ≡ record self.old { slots = placed_in self.old.slots s } }
         ensures displaced { let T = others_from 0 self.old.slots in
             (result ≡ Put.Displaced) ↔ (search_end T pair ≡ None) }
     {
@@ -103,9 +106,9 @@ impl Grid {
 
 /// The lowest empty slot of a bucket.
 fn lowest_empty(buckets: &Buckets, depth: u32, bucket: u32) -> Option<u32>
-    requires depth { depth ≡ buckets.now.depth }
-    requires bucket { bucket < buckets.now.buckets }
-    ensures { result ≡ position is_empty (bucket_at buckets.now.table bucket) }
+    requires depth { depth ≡ buckets.now.contents.depth }
+    requires bucket { bucket < buckets.now.contents.buckets }
+    ensures { result ≡ position is_empty (bucket_at buckets.now.contents.table bucket) }
 {
     buckets.sized();
     for slot in 0..depth {

@@ -3,8 +3,8 @@
 
 mod chain;
 mod grid;
+mod latest;
 mod laws;
-mod recent;
 mod snapshot;
 mod table;
 
@@ -12,7 +12,6 @@ pub use laws::{
     as_read, as_written, buckets_read_back, displaced_without_end, layout_holds, retained_ascends,
     retained_in_window, slots_read_back,
 };
-pub use recent::Recent;
 pub use snapshot::Snapshot;
 pub use table::{Put, Table};
 pub use tk_shape::Memory;

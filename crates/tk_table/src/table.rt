@@ -4,14 +4,13 @@ ghost use Rattle.tk_shape.specs.Lengths.{width};
 ghost use Rattle.tk_frames.specs.Order.{Record};
 ghost use Rattle.tk_table.specs.Ordered.{AreOrdered};
 ghost use Rattle.tk_table.specs.Table.{window, is_displaced, blocks_of};
-ghost use Rattle.tk_table.specs.declared.recent.Recent.{Recent};
 ghost use Rattle.tk_table.specs.Stands.{TableStandsFor, IsWrite, IsPair};
 ghost use Rattle.tk_table.specs.Inside.{with_room};
 
 use crate::grid::Grid;
-use crate::{Memory, Recent, Snapshot};
+use crate::latest::{Latest, Recent};
+use crate::{Memory, Snapshot};
 use std::alloc::Global;
-use std::collections::VecDeque;
 use std::marker::Model;
 use tk_place::Scratch;
 use tk_shape::Shape;
@@ -26,17 +25,17 @@ pub enum Put {
     Displaced,
 }
 
-/// The table of the latest writes. Seen as its shape, its slots, and the latest writes.
+/// The table of the latest writes. Seen as its shape, its slots, and the positions of the latest
+/// writes; that it knows their buckets too is its own affair.
 #[derive(Drop)]
 pub struct Table {
     shape: Shape,
     grid: Grid,
     scratch: Scratch,
-    recent: VecDeque<Recent>,
+    latest: Latest,
 }
 
 impl Model for Table {
-    ghost use Rattle.std.specs.VecDeque.{deque_capacity};
     ghost use Rattle.tk_table.specs.Stands.{Kept};
     ghost use Rattle.tk_table.specs.Inside.{IsKept};
 
@@ -45,11 +44,11 @@ impl Model for Table {
     ghost view = { λ t. record {
       shape = t.shape;
       slots = t.grid.slots;
-      recent = t.recent.items;
+      positions = t.latest.positions;
     } };
 
-    ghost invariant = { λ t. IsKept t.shape t.grid.shape t.scratch.buckets t.recent.items
-        (deque_capacity t.recent) };
+    ghost invariant = { λ t. IsKept t.shape t.grid.shape t.scratch.buckets t.grid.slots
+        t.latest };
 }
 
 impl Table {
@@ -62,21 +61,20 @@ impl Table {
             shape: *shape,
             grid: Grid::open(alloc, shape)?,
             scratch: Scratch::new(alloc, shape.buckets).map_err(|_| Memory)?,
-            recent: VecDeque::with_capacity(alloc, shape.retained as usize)?,
+            latest: Latest::new(alloc, shape.retained)?,
         })
     }
 
     /// Where there are as many latest writes as are retained, the oldest leaves.
     fn make_room(&mut self)
         ensures table { self.new ≡ with_room self.old }
-        ensures room { length self.new.recent < self.old.shape.retained }
+        ensures room { length self.new.positions < self.old.shape.retained }
     {
-        if self.recent.len() < self.shape.retained as usize {
+        if self.latest.len() < self.shape.retained as usize {
             return;
         }
-        if let Some(oldest) = self.recent.pop_front() {
-            self.grid.expire(oldest);
-        }
+        let oldest = self.latest.leave();
+        self.grid.expire(oldest);
     }
 
     /// Takes a write. First the oldest of the latest writes leaves, where there are as many as are
@@ -84,14 +82,14 @@ impl Table {
     /// leaves to make room for it.
     pub fn put(&mut self, position: u64, pair: (u32, u32), block: &[u8]) -> Put
         requires first { 1 ≤ position }
-        requires above { All (λ q. q.position < position) self.old.recent }
+        requires above { All (λ p. p < position) self.old.positions }
         requires pair { IsPair self.old.shape pair }
         requires block { length block.now ≡ self.old.shape.block }
 
         ensures shape { self.new.shape ≡ self.old.shape }
-        ensures recent { let write : Recent = record { position = position; pair = pair } in
-            self.new.recent ≡ window self.old.shape (self.old.recent ++ write ∷ []) }
-        ensures latest { All (λ q. q.position ≤ position) self.new.recent }
+        ensures positions { self.new.positions
+            ≡ window self.old.shape (self.old.positions ++ position ∷ []) }
+        ensures latest { All (λ p. p ≤ position) self.new.positions }
 
         // whatever records the table stands for
         ensures stands { (R : List Record) (w : Record)
@@ -105,7 +103,7 @@ impl Table {
     {
         self.make_room();
         let put = self.grid.put(&mut self.scratch, position, pair, block);
-        self.recent.push_back_reserved(Recent { position, pair });
+        self.latest.come(Recent { position, pair });
         put
     }
 

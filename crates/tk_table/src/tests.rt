@@ -35,7 +35,7 @@ fn shape(depth: u32, retained: u32) -> Result<Shape, Fail>
 pub(crate) fn open(alloc: Global, depth: u32, retained: u32) -> Result<Table, Fail>
     ensures buckets { IfOk result (λ t. t.shape.buckets ≡ 8) }
     ensures block { IfOk result (λ t. t.shape.block ≡ 24) }
-    ensures latest { IfOk result (λ t. All (λ q. q.position < 1) t.recent) }
+    ensures latest { IfOk result (λ t. All (λ p. p < 1) t.positions) }
 {
     let shape = shape(depth, retained)?;
     Ok(Table::open(alloc, &shape).ok().ok_or("memory")?)
@@ -45,12 +45,12 @@ pub(crate) fn open(alloc: Global, depth: u32, retained: u32) -> Result<Table, Fa
 pub(crate) fn put(table: &mut Table, position: u64, pair: (u32, u32)) -> Put
     requires buckets { table.old.shape.buckets ≡ 8 }
     requires block { table.old.shape.block ≡ 24 }
-    requires latest { All (λ q. q.position < position) table.old.recent }
+    requires latest { All (λ p. p < position) table.old.positions }
     requires first { 1 ≤ position }
     requires pair { (pair.0 < 8) × (pair.1 < 8) }
     ensures buckets { table.new.shape.buckets ≡ 8 }
     ensures block { table.new.shape.block ≡ 24 }
-    ensures latest { All (λ q. q.position < position + 1) table.new.recent }
+    ensures latest { All (λ p. p < position + 1) table.new.positions }
 {
     table.put(position, pair, &[7; 24])
 }

@@ -4,8 +4,6 @@ use Rattle.tk_table.proofs.chain.clear_in.Given as goal
 
 abbrev pub invariant-loop-slot : goal.invariant-loop-slot
 invariant-loop-slot l =
-    l.buckets
-    ≡ record l.initial.buckets {
-      table = cleared_up_to l.initial.buckets.block l.position l.initial.buckets.table l.bucket
-          l.slot;
-    }
+    let old = l.initial.buckets.contents in
+    l.buckets.contents
+    ≡ record old { table = cleared_up_to old.block l.position old.table l.bucket l.slot }

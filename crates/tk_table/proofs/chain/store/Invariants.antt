@@ -3,4 +3,5 @@ use Rattle.tk_table.proofs.chain.store.Given as goal
 
 abbrev pub invariant-loop-i : goal.invariant-loop-i
 invariant-loop-i l =
-    IsMoving l.initial.buckets l.scratch.steps l.buckets (l.free.bucket, l.free.slot) l.i
+    IsMoving l.initial.buckets.contents l.scratch.steps l.buckets.contents
+    (l.free.bucket, l.free.slot) l.i

@@ -5,4 +5,7 @@ pub returns : goal.returns
 returns c =
     let inside = c.self.inside in
     let sizes = inside.sizes in
-    rw (← c.self.view_is) (sized_table sizes.buckets sizes.depth sizes.block inside.bytes.items sizes.in_range c.self.invariant)
+    record {
+      sizes = rw (← c.self.view_is)
+          (sized_table sizes.buckets sizes.depth sizes.block inside.bytes.items sizes.in_range c.self.invariant);
+    }

@@ -1,5 +1,5 @@
 use Rattle.std.proofs.Common.{sym}
-use Rattle.tk_kernel.proofs.Cuts.{length-pieces}
+use Rattle.tk_kernel.proofs.Offers.{length-pieces}
 use Rattle.tk_bucket.specs.Sizes.{bucket_len}
 use Rattle.tk_bucket.proofs.packed.PackedBlocks.count.Goals as goal
 

@@ -1,5 +1,5 @@
 use Rattle.std.proofs.Common.{◌≡◌, ◌+◌, ◌-◌, ◌<◌, length, arith, sym, ap, ◌∙◌}
-use Rattle.tk_kernel.proofs.Cuts.{length-pieces}
+use Rattle.tk_kernel.proofs.Offers.{length-pieces}
 use Rattle.tk_bucket.specs.Sizes.{bucket_len}
 use Rattle.tk_bucket.specs.Bytes.{BlockList}
 use Rattle.tk_bucket.proofs.Tables.{slot_ends}

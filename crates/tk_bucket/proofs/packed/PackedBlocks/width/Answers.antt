@@ -1,5 +1,5 @@
 use Rattle.std.proofs.Common.{arith}
-use Rattle.tk_kernel.proofs.Cuts.{AllSized-pieces}
+use Rattle.tk_kernel.proofs.Offers.{AllSized-pieces}
 use Rattle.tk_bucket.specs.Sizes.{bucket_len}
 use Rattle.tk_bucket.proofs.packed.PackedBlocks.width.Goals as goal
 

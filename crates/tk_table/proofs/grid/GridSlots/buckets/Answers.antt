@@ -5,4 +5,4 @@ use Rattle.tk_table.proofs.grid.GridSlots.buckets.Goals as goal
 pub returns : goal.returns
 returns c =
     rw (← c.self.view_is)
-    (sym (length-others 0 c.self.inside.buckets.table ∙ c.self.invariant.wide))
+    (sym (length-others 0 c.self.inside.buckets.contents.table ∙ c.self.invariant.wide))

@@ -6,7 +6,7 @@ use Rattle.tk_table.proofs.grid.GridSlots.free.Goals as goal
 pub lowest_empty-requires-clause-bucket : goal.lowest_empty-requires-clause-bucket
 lowest_empty-requires-clause-bucket c =
     let low = rw (← c.self.view_is) at c.requires in
-    let long = length-others 0 c.self.inside.buckets.table in
+    let long = length-others 0 c.self.inside.buckets.contents.table in
     let wide = c.self.invariant.wide in
     let buckets = c.self.invariant.buckets in
     omega (arith, low, long, wide, buckets)
@@ -14,4 +14,4 @@ lowest_empty-requires-clause-bucket c =
 pub returns : goal.returns
 returns c =
     rw (← c.self.view_is)
-    (c.lowest_empty.ensures ∙ lowest-seen c.self.inside.buckets.table c.args.bucket)
+    (c.lowest_empty.ensures ∙ lowest-seen c.self.inside.buckets.contents.table c.args.bucket)
