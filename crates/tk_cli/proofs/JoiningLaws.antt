@@ -18,7 +18,7 @@ use Rattle.tk_frames.specs.Order.{Record}
 use Rattle.tk_table.specs.Table.{SlotTable, layout, blocks_of}
 use Rattle.tk_table.specs.Laws.{block_at}
 use Rattle.tk_table.specs.Replies.{reply_to}
-use Rattle.tk_client.specs.Reader.{Target}
+use Rattle.tk_client.specs.declared.target.Target.{Target}
 use Rattle.tk_client.specs.Asked.{frame_with, asked, AreWhole, IsPair, pair_for}
 use Rattle.tk_client.proofs.Offers.{vector_bits, length-shares}
 

@@ -13,7 +13,7 @@ use Rattle.tk_frames.specs.declared.entry.Entry.TheVariants.{Write, Mark}
 use Rattle.tk_frames.specs.Order.{Record, record_at, record_in, records}
 use Rattle.tk_bloom.specs.Filters.{all_marked, positions_of as positions_in, is_shown as is_shown_in}
 use Rattle.tk_bloom.specs.Windows.{Kept, window as window_of}
-use Rattle.tk_bloom.proofs.Cutting.{window-append}
+use Rattle.tk_bloom.proofs.Offers.{window-append}
 use Rattle.tk_table.specs.Table.{window}
 use Rattle.tk_table.specs.Shown.{pushes_of, is_shown}
 use Rattle.tk_cli.specs.declared.notices.Notices.{Notices}

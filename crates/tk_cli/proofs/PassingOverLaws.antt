@@ -24,7 +24,8 @@ use Rattle.tk_client.specs.declared.got.Got.{Got}
 use Rattle.tk_client.specs.declared.got.Got.TheVariants.{Absent, Text}
 use Rattle.tk_table.specs.Shown.{is_shown}
 use Rattle.tk_cli.specs.Entries.{entries}
-use Rattle.tk_client.specs.Reader.{Follow, Reader, Target, next_of, new_follow, untried}
+use Rattle.tk_client.specs.Reader.{Follow, Reader, next_of, new_follow, untried}
+use Rattle.tk_client.specs.declared.target.Target.{Target}
 use Rattle.tk_client.specs.Reader.{at_epoch, wanted, follow_at, number_ahead, target_in, target}
 use Rattle.tk_client.specs.Reader.{places_from_cursor}
 use Rattle.tk_client.specs.Reader.{follow_after, after_read}

@@ -31,9 +31,11 @@ use Rattle.tk_frames.proofs.Offers.{each-push}
 use Rattle.tk_table.proofs.Offers.{layout-laid_out}
 use Rattle.tk_table.proofs.Offers.{layout-read_back, layout-as_read}
 use Rattle.tk_cli.specs.declared.server.Server.{Server}
-use Rattle.tk_client.specs.Reader.{Target, at_epoch, after_read}
+use Rattle.tk_client.specs.Reader.{at_epoch, after_read}
+use Rattle.tk_client.specs.declared.target.Target.{Target}
 use Rattle.tk_client.specs.Replies.{answer_in, frames_in, first_joined, second_joined}
-use Rattle.tk_client.specs.Client.{ClientState, OpenRead, opened, after_replies}
+use Rattle.tk_client.specs.Client.{ClientState, opened, after_replies}
+use Rattle.tk_client.specs.declared.open_read.OpenRead.{OpenRead}
 use Rattle.tk_client.proofs.Offers.{frames_in-spelled}
 use Rattle.tk_cli.specs.Clients.{knowing}
 use Rattle.tk_cli.specs.Report.{lookup, answered, target_at}

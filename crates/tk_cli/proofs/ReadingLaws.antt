@@ -17,7 +17,8 @@ use Rattle.tk_frames.specs.declared.read_frame.ReadFrame.{ReadFrame}
 use Rattle.tk_frames.specs.Order.{Record}
 use Rattle.tk_bloom.specs.declared.filter.Filter.{Filter}
 use Rattle.tk_client.specs.Asked.{asked, shown_by}
-use Rattle.tk_client.specs.Reader.{Target, target, at_epoch, after_read}
+use Rattle.tk_client.specs.Reader.{target, at_epoch, after_read}
+use Rattle.tk_client.specs.declared.target.Target.{Target}
 use Rattle.tk_client.specs.Client.{ClientState, target_over}
 use Rattle.tk_cli.specs.declared.server.Server.{Server}
 use Rattle.tk_table.specs.Shown.{is_shown}

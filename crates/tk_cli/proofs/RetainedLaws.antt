@@ -28,7 +28,7 @@ use Rattle.tk_table.proofs.Offers.{retained-in_window}
 use Rattle.tk_frames.specs.Lists.{IsIn}
 use Rattle.tk_frames.proofs.Offers.{in_from_contains, contains_from_in, each-in, in_map}
 use Rattle.tk_table.proofs.Offers.{retained-each}
-use Rattle.tk_bloom.proofs.Showing.{is_shown-positions_of}
+use Rattle.tk_bloom.proofs.Offers.{is_shown-positions_of}
 use Rattle.tk_table.specs.Shown.{pushes_of, is_shown}
 use Rattle.tk_client.specs.Writes.{write_of}
 use Rattle.tk_cli.specs.Queues.{waiting_of}

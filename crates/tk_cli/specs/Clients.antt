@@ -8,7 +8,8 @@ use Rattle.tk_schedule.specs.declared.item.Item.{Item}
 use Rattle.tk_schedule.specs.Schedule.{is_of}
 use Rattle.tk_script.specs.declared.script.Script.{Script}
 use Rattle.tk_words.specs.Words.{BookWords}
-use Rattle.tk_client.specs.Reader.{Reader, Target, at_epoch, after_read}
+use Rattle.tk_client.specs.Reader.{Reader, at_epoch, after_read}
+use Rattle.tk_client.specs.declared.target.Target.{Target}
 use Rattle.tk_client.specs.Writing.{Writing}
 use Rattle.tk_client.specs.Client.{ClientState}
 use Rattle.tk_cli.specs.Queues.{writing_before, writing_said}

@@ -12,7 +12,7 @@ use Rattle.tk_table.specs.Table.{window, retained}
 use Rattle.tk_client.specs.declared.got.Got.{Got}
 use Rattle.tk_client.specs.declared.got.Got.TheVariants.{Absent, Text}
 use Rattle.tk_table.specs.Shown.{is_shown}
-use Rattle.tk_client.specs.Reader.{Target}
+use Rattle.tk_client.specs.declared.target.Target.{Target}
 use Rattle.tk_cli.specs.Entries.{write_at}
 use Rattle.tk_cli.specs.Report.{lookup, read_over, target_at, got_of}
 use Rattle.tk_script.specs.Book.{book_of}

@@ -18,7 +18,8 @@ use Rattle.tk_frames.specs.Slots.{text_in}
 use Rattle.tk_table.specs.Table.{retained}
 use Rattle.tk_table.specs.Shown.{is_shown}
 use Rattle.tk_client.specs.Reader.{got_in}
-use Rattle.tk_client.specs.Reader.{Reader, Follow, Target, new_reader, at_epoch, target, after_read}
+use Rattle.tk_client.specs.Reader.{Reader, Follow, new_reader, at_epoch, target, after_read}
+use Rattle.tk_client.specs.declared.target.Target.{Target}
 use Rattle.tk_script.specs.Sent.{blank_role, unsent_count}
 use Rattle.tk_cli.specs.Entries.{entries}
 

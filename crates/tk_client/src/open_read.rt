@@ -2,7 +2,7 @@ use crate::target::Target;
 
 /// A read whose replies are awaited.
 #[derive(Clone, Copy, Debug)]
-pub(crate) struct OpenRead {
+pub struct OpenRead {
     pub turn: u32,
     pub epoch: u32,
     /// What it is for; none where it is for nothing.

@@ -1,6 +1,6 @@
 /// Which number of which log a read is for.
 #[derive(Clone, Copy, Debug)]
-pub(crate) struct Target {
+pub struct Target {
     /// The log's place among those followed.
     pub place: usize,
     pub log: u32,
