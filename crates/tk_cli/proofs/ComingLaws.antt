@@ -111,7 +111,7 @@ one-due shape g =
 -- what stands before an item of a turn
 record IsBefore (shape : Shape) (g : ℕ) (all : List Placed) (x : Item) : Type 0 where
   writes : length (records all) + 1 ≤ suc g * shape.clients + cond (is_publish x) 1 0
-  marks : cond (is_publish x) 1 0 ≡ 1 → mark_count all ≡ phases_over shape g
+  marks : cond {A = ℕ} (is_publish x) 1 0 ≡ 1 → mark_count all ≡ phases_over shape g
 
 item-before : (shape : Shape) (write : ℕ → ℕ → WriteFrame) (H : History) (g : ℕ)
     (front rest : List Item) (x : Item) → IsLegal shape H → g < turn_count shape →

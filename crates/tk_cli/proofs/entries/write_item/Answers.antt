@@ -84,16 +84,16 @@ returns-in-Publish-clause-placed g c =
     let write = write_at S (words_of S.shape (g.D.Draws.book c.args.draws.now)) c.args.turn in
     let old = c.args.order.now.items in
     let come = subst (MayCome S.shape c.args.turn old) c.in-Publish.is c.requires.may_come in
-    subst (λ (ps : List Placed). OnOk c.append-2.result (c.append-2.new.order.items ≡ old ++ ps))
-    (mark-placed write old c.args.item.now c.place.result.0 c.in-Publish.is
-    (c.place.ensures.phase ∙ sym come.1))
-    c.append-2.ensures.placed
+    subst (λ (ps : List Placed). OnOk c.append-in-Publish.result (c.append-in-Publish.new.order.items ≡ old ++ ps))
+    (mark-placed write old c.args.item.now c.place-phase.result.0 c.in-Publish.is
+    (c.place-phase.ensures.phase ∙ sym come.1))
+    c.append-in-Publish.ensures.placed
 
 pub returns-in-Publish-clause-order : goal.returns-in-Publish-clause-order
 returns-in-Publish-clause-order g c =
     let shape = c.args.script.now.shape in
     let come = subst (MayCome shape c.args.turn c.args.order.now.items) c.in-Publish.is
     c.requires.may_come in
-    put-mark shape c.args.turn c.args.order.now.items c.append-2.new.order.items c.place.result.0
-    c.append-2.result c.requires.order c.place.ensures.phase c.requires.turn_in come
-    c.append-2.ensures.placed
+    put-mark shape c.args.turn c.args.order.now.items c.append-in-Publish.new.order.items c.place-phase.result.0
+    c.append-in-Publish.result c.requires.order c.place-phase.ensures.phase c.requires.turn_in come
+    c.append-in-Publish.ensures.placed

@@ -22,7 +22,7 @@ entries_from-placed-requires g c =
     c.args.run.now.order.items c.write_turn.new.order.items c.requires.run.entries
     c.in_ok-write_turn.ensures.entries
     in
-    omega (arith, grown, c.len-start.ensures, ap length c.as_slice.ensures)
+    omega (arith, grown, c.len-start.ensures, ap length c.as_slice.ensures.value)
 
 pub write_turn-requires-clause-clients : goal.write_turn-requires-clause-clients
 write_turn-requires-clause-clients g c κs within =
@@ -50,7 +50,7 @@ serve_turn-requires-clause-turn g c κs within =
     let wrote = c.in_ok-write_turn.ensures in
     turn-of_order S words c.args.history.now c.args.turn c.args.run.now.order.items
     c.write_turn.new.order.items c.len-start.result c.entries_from-placed.result.now
-    c.requires.run.entries (omega (arith, c.len-start.ensures)) (c.entries_from-placed.ensures ∙ ap (drop c.len-start.result) c.as_slice.ensures)
+    c.requires.run.entries (omega (arith, c.len-start.ensures)) (c.entries_from-placed.ensures ∙ ap (drop c.len-start.result) c.as_slice.ensures.value)
     wrote.order wrote.entries c.requires.legal c.requires.serial c.requires.turn_in
 
 pub apply_each-requires : goal.apply_each-requires
@@ -62,7 +62,7 @@ apply_each-requires g c =
     let turn =
     turn-of_order S words c.args.history.now c.args.turn c.args.run.now.order.items
     c.write_turn.new.order.items c.len-start.result placed
-    c.requires.run.entries (omega (arith, c.len-start.ensures)) (c.entries_from-placed.ensures ∙ ap (drop c.len-start.result) c.as_slice.ensures)
+    c.requires.run.entries (omega (arith, c.len-start.ensures)) (c.entries_from-placed.ensures ∙ ap (drop c.len-start.result) c.as_slice.ensures.value)
     wrote.order wrote.entries c.requires.legal c.requires.serial c.requires.turn_in
     in
     subst (λ (shape : Shape). AllByRecursion (HasWrite shape) (records placed))
@@ -96,7 +96,7 @@ returns g c =
     in
     let turn_is =
     turn-of_order S words H turn run.order.items c.write_turn.new.order.items c.len-start.result
-    placed c.requires.run.entries (omega (arith, c.len-start.ensures)) (c.entries_from-placed.ensures ∙ ap (drop c.len-start.result) c.as_slice.ensures)
+    placed c.requires.run.entries (omega (arith, c.len-start.ensures)) (c.entries_from-placed.ensures ∙ ap (drop c.len-start.result) c.as_slice.ensures.value)
     wrote.order wrote.entries c.requires.legal c.requires.serial c.requires.turn_in
     in
     let took =
