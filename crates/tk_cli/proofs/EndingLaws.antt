@@ -1,8 +1,11 @@
 -- How a run ends without a report.
-use Rattle.std.proofs.Common.{◌≡◌, ◌≢◌, refl, sym, subst, inl, inr, ℕ, List, Option, Some}
+use Rattle.std.proofs.Common.{◌≡◌, ◌≢◌, ◌⊎◌, refl, sym, subst, inl, inr, ℕ, List, Option, Some}
 use Rattle.tk_shape.specs.Lengths.{tape_len}
 use Rattle.tk_script.specs.declared.input.Input.{Input}
 use Rattle.tk_script.specs.declared.input.RawTape.{RawTape}
+use Rattle.tk_script.specs.Book.{IsOtherTape}
+use Rattle.tk_script.specs.declared.book.BookError.{BookError}
+use Rattle.tk_script.specs.declared.book.BookError.TheVariants as book_error
 use Rattle.tk_script.specs.Answer.{IsMemory, IsRefusal}
 use Rattle.tk_script.specs.declared.error.ScriptError.{ScriptError}
 use Rattle.tk_script.specs.declared.error.ScriptError.TheVariants as script_error
@@ -12,7 +15,7 @@ use Rattle.tk_cli.specs.declared.run_error.RunError.{RunError}
 use Rattle.tk_cli.specs.declared.run_error.RunError.TheVariants as run_error
 use Rattle.tk_cli.specs.declared.status.Status.{Status}
 use Rattle.tk_cli.specs.declared.status.Status.TheVariants as status
-use Rattle.tk_cli.specs.Endings.{EndsWith, script_status, run_status}
+use Rattle.tk_cli.specs.Endings.{EndsWith, book_status, script_status, run_status}
 use Rattle.tk_cli.specs.Serial.{RunsInto}
 
 abbrev Taps : Type 0
@@ -33,20 +36,31 @@ pub ended_early : (e : RunError) (bytes : List ℕ) (tap tap' : Taps) → RunsIn
 ended_early run_error.Taps bytes tap tap' fronts = fronts
 ended_early run_error.Memory bytes tap tap' fronts = inl fronts
 
-pub tape_refused : (s : Status) (bytes : List ℕ) (input : Input) (t : RawTape) (tap : Taps) →
-    Spells bytes input → input.tape ≡ Some t →
-    s ≡ status.Tape (tape_len input.first.shape) t.got → tape_len input.first.shape ≢ t.got →
-    EndsWith s bytes tap tap
-tape_refused s bytes input t tap spelled drawn is other =
-    subst (λ (x : Status). EndsWith x bytes tap tap) (sym is) (
+pub ended_by : (s : Status) (bytes : List ℕ) (tap tap' : Taps) →
+    (s ≡ status.Write) ⊎ (s ≡ status.Memory) → RunsInto bytes tap tap' →
+    EndsWith s bytes tap tap'
+ended_by s bytes tap tap' (inl wrote) fronts =
+    subst (λ (x : Status). EndsWith x bytes tap tap') (sym wrote) fronts
+ended_by s bytes tap tap' (inr memory) fronts =
+    subst (λ (x : Status). EndsWith x bytes tap tap') (sym memory) (inl fronts)
+
+-- a tape of another length
+pub tape_refused : (e : BookError) (bytes : List ℕ) (input : Input) (tap : Taps) →
+    Spells bytes input →
+    ((want got : ℕ) → e ≡ book_error.Tape want got →
+    IsOtherTape input.first.shape input.tape want got) →
+    EndsWith (book_status e) bytes tap tap
+tape_refused (book_error.Tape want got) bytes input tap spelled other =
+    let is = other want got refl in (
       record {
         input = input;
-        tape = t;
+        tape = is.read;
         spelled = spelled;
-        drawn = drawn;
-        wanted = refl;
-        gotten = refl;
-        other = other;
+        drawn = is.there;
+        wanted = is.wanted;
+        gotten = is.gotten;
+        other = is.other;
       },
       λ j. refl,
     )
+tape_refused book_error.Memory bytes input tap spelled other = inr (λ j. refl)

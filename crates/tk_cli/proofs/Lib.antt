@@ -4,6 +4,7 @@ pub mod ItemLaws
 pub mod EntriesLaws
 pub mod WritingLaws
 pub mod SerialLaws
+pub mod ReportOf
 pub mod ErrorLaws
 pub mod EndingLaws
 pub mod SayOrder

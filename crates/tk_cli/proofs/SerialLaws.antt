@@ -16,7 +16,7 @@ use Rattle.tk_words.specs.Words.{WordBook, keyed, drawn, IsBook}
 use Rattle.tk_cli.specs.Report.{report}
 use Rattle.tk_cli.specs.Exchange.{exchange, bytes_of}
 use Rattle.tk_io.specs.Tapped.{TapsGain, TapsGainFronts, TapsKeepBut}
-use Rattle.tk_script.specs.Book.{book_from, book_of, IsWholeTape}
+use Rattle.tk_script.specs.Book.{book_from, book_of, HasTape, IsWholeTape}
 use Rattle.tk_cli.specs.Serial.{IsRunOf, RunsTo, RunsInto}
 
 -- ---- the words of an input
@@ -29,16 +29,12 @@ keyed_whole shape None lines tape k t is = absurd (search rules)
 keyed_whole shape (Some keys) lines tape k t is =
     subst (IsWholeTape shape) (sym t.1) tt
 
-pub keyed_run : (bytes : List ℕ) (input : Input) (keys : Keys) → Spells bytes input →
+keyed_run : (bytes : List ℕ) (input : Input) (keys : Keys) → Spells bytes input →
     input.first.keys ≡ Some keys → IsRunOf bytes input
 keyed_run bytes input keys s is = record {
   spelled = s;
   tape = keyed_whole input.first.shape input.first.keys s.rest input.tape keys s.tape is;
 }
-
-pub keyed_book : (keys : Option Keys) (tape : Option RawTape) (k : Keys) → keys ≡ Some k →
-    keyed k.handles k.seeds ≡ book_from keys tape
-keyed_book keys tape k is = rw is refl
 
 -- a drawn input has a tape
 no_tape : (shape : Shape) (keys : Option Keys) (lines : List Line) (tape : Option RawTape) →
@@ -62,24 +58,33 @@ tape_kept shape None lines tape t ends is some got =
     ∙ all_kept (tape_len shape) (2 ^ 64 - 1) ends.0 counted
 tape_kept shape (Some keys) lines tape t ends is some got = absurd (search rules)
 
-pub drawn_kept : (bytes : List ℕ) (input : Input) (t : RawTape) → Spells bytes input →
+drawn_kept : (bytes : List ℕ) (input : Input) (t : RawTape) → Spells bytes input →
     input.first.keys ≡ None → input.tape ≡ Some t → t.got ≡ tape_len input.first.shape →
     length t.bytes ≡ tape_len input.first.shape
 drawn_kept bytes input t s is some got =
     tape_kept input.first.shape input.first.keys s.rest input.tape t s.tape is some got
 
-pub drawn_run : (bytes : List ℕ) (input : Input) (t : RawTape) → Spells bytes input →
-    input.first.keys ≡ None → input.tape ≡ Some t →
-    t.got ≡ tape_len input.first.shape → IsRunOf bytes input
-drawn_run bytes input t s is some got = record {
-  spelled = s;
-  tape = subst (IsWholeTape input.first.shape) (sym some)
-      (drawn_kept bytes input t s is some got, got);
-}
+-- a drawn input has a tape, of which all is kept where as much was read as the shape wants
+pub input-has_tape : (bytes : List ℕ) (input : Input) → Spells bytes input →
+    HasTape input.first.shape input.first.keys input.tape
+input-has_tape bytes input s =
+    let shape = input.first.shape in
+    elim input.first.keys as (λ k. input.first.keys ≡ k → HasTape shape k input.tape) [
+      | Some keys ↦ λ is. tt
+      | None ↦ λ is. elim input.tape as (λ t. input.tape ≡ t → HasTape shape None t) [
+        | None ↦ λ none. no_tape shape input.first.keys s.rest input.tape s.tape is none
+        | Some t ↦ λ some got. drawn_kept bytes input t s is some got
+      ] refl
+    ] refl
 
-pub drawn_book : (keys : Option Keys) (tape : Option RawTape) (t : RawTape) → keys ≡ None →
-    tape ≡ Some t → drawn t.bytes ≡ book_from keys tape
-drawn_book keys tape t none some = rw (none, some) refl
+-- with the tape that it wants an input may run
+pub input-runs : (bytes : List ℕ) (input : Input) → Spells bytes input →
+    (input.first.keys ≡ None → IsWholeTape input.first.shape input.tape) → IsRunOf bytes input
+input-runs bytes input s whole =
+    elim input.first.keys as (λ k. input.first.keys ≡ k → IsRunOf bytes input) [
+      | Some keys ↦ λ is. keyed_run bytes input keys s is
+      | None ↦ λ is. record { spelled = s; tape = whole is }
+    ] refl
 
 -- ---- its words fit its shape
 

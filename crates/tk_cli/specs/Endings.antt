@@ -1,6 +1,8 @@
 -- How a run of bytes ends without a report.
 use Rattle.std.specs.Prelude.{◌≡◌, ◌⊎◌, ℕ, List, Option, Err}
 use Rattle.tk_script.specs.declared.cause.Cause.{Cause}
+use Rattle.tk_script.specs.declared.book.BookError.{BookError}
+use Rattle.tk_script.specs.declared.book.BookError.TheVariants as book_error
 use Rattle.tk_script.specs.declared.error.ScriptError.{ScriptError}
 use Rattle.tk_script.specs.declared.error.ScriptError.TheVariants as script_error
 use Rattle.tk_script.specs.declared.input.Input.{Input}
@@ -16,6 +18,10 @@ use Rattle.tk_io.specs.Tapped.{TapsKeep}
 abbrev pub script_status : ScriptError → Status
 script_status (script_error.Line line c) = status.Script line c
 script_status script_error.Memory = status.Memory
+
+abbrev pub book_status : BookError → Status
+book_status (book_error.Tape want got) = status.Tape want got
+book_status book_error.Memory = status.Memory
 
 abbrev pub run_status : RunError → Status
 run_status run_error.Taps = status.Write

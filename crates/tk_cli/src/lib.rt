@@ -2,7 +2,6 @@
 #![tactic(auto)]
 
 mod clients;
-mod draws;
 mod entries;
 mod handle_word;
 mod history_text;

@@ -1,14 +1,17 @@
-ghost use Rattle.std.specs.Prelude.{◌≡◌, ◌≢◌, ◌≤◌, ◌↔◌, ◌⊎◌, ℕ, List, IfOk, IfErr};
+ghost use Rattle.std.specs.Prelude.{◌≡◌, ◌≢◌, ◌≤◌, ◌↔◌, ◌⊎◌, ℕ, List, IfOk, IfErr, OnOk, OnErr};
 ghost use Rattle.tk_script.specs.declared.cause.Cause.{Cause};
 ghost use Rattle.tk_io.specs.Content.{Rose, TakesUpTo};
 ghost use Rattle.tk_cli.specs.Handles.{Puts, handle_text};
 ghost use Rattle.tk_cli.specs.Requests.{AsksHandle, AsksLater, AsksNothing, AsksSerial};
 ghost use Rattle.tk_cli.specs.Serial.{RunsTo, Reports, ReportsFront, TapsFronts};
-ghost use Rattle.tk_cli.specs.Endings.{EndsWith, RefusesLine, RefusesTape, run_status, script_status};
-ghost use Rattle.tk_io.specs.Tapped.{TapsKeep};
+ghost use Rattle.tk_cli.specs.Endings.{EndsWith, RefusesLine, RefusesTape};
+ghost use Rattle.tk_cli.specs.Endings.{book_status, run_status, script_status};
+ghost use Rattle.tk_cli.specs.Exchange.{exchange, bytes_of};
+ghost use Rattle.tk_cli.specs.Report.{report};
+ghost use Rattle.tk_io.specs.Tapped.{TapsGain, TapsGainFronts, TapsKeep, TapsKeepBut};
+ghost use Rattle.tk_schedule.specs.Schedule.{serial_history};
 ghost use Rattle.tk_cli.specs.Untouched.{AsksNoInput, IsUntouched, AreTapsUntouched};
 
-use crate::draws::{drawn_draws, keyed_draws};
 use crate::handle_word::run_handle;
 use crate::request::{Request, request_of};
 use crate::run_error::RunError;
@@ -18,8 +21,9 @@ use std::alloc::Global;
 use std::sync::Wait;
 use std::thread::Threads;
 use tk_io::{Gate, ReadError, Sink, Source, Taps, put_all, read_all};
-use tk_script::{Input, ScriptError, parse};
+use tk_script::{BookError, Input, Script, ScriptError, parse};
 use tk_shape::Bytes;
+use tk_words::{Book, Draws};
 
 /// The most bytes of an input.
 pub const INPUT_LIMIT: usize = 8388608;
@@ -152,21 +156,38 @@ fn report_of<T: Taps>(alloc: Global, text: &[u8], taps: &mut T) -> Result<Vec<u8
         Ok(input) => input,
         Err(error) => return Err(status_of_script(error)),
     };
-    if let Some(keys) = &script.keys {
-        let Ok(draws) = keyed_draws(alloc, &script, keys) else {
-            return Err(Status::Memory);
-        };
-        match serial(alloc, &script, &draws, taps) {
-            Ok(report) => return Ok(report),
-            Err(error) => return Err(status_of_run(error)),
-        }
+    match script.book(alloc, tape) {
+        Ok(Book::Keyed(draws)) => report_by(alloc, &script, &draws, taps),
+        Ok(Book::Drawn(draws)) => report_by(alloc, &script, &draws, taps),
+        Err(error) => Err(status_of_book(error)),
     }
-    let Some(tape) = tape else { unreachable!() };
-    let draws = match drawn_draws(&script.shape, tape) {
-        Ok(draws) => draws,
-        Err(status) => return Err(status),
-    };
-    match serial(alloc, &script, &draws, taps) {
+}
+
+/// The report of the serial run of a script by the words of a book; or the status that it ends with.
+fn report_by<D: Draws, T: Taps>(
+    alloc: Global,
+    script: &Script,
+    draws: &D,
+    taps: &mut T,
+) -> Result<Vec<u8>, Status>
+    requires one_shape { D.shape draws.now ≡ script.now.shape }
+    ensures report { let history = serial_history script.now.shape in
+        IfOk result (λ out. out.items ≡ report script.now (D.book draws.now) history) }
+    ensures ok { let history = serial_history script.now.shape in
+        OnOk result (TapsGain script.now.shape.servers
+        (λ j. bytes_of (exchange script.now (D.book draws.now) history j))
+        (T.tap taps.old) (T.tap taps.new)) }
+    ensures err { let history = serial_history script.now.shape in
+        OnErr result (TapsGainFronts script.now.shape.servers
+        (λ j. bytes_of (exchange script.now (D.book draws.now) history j))
+        (T.tap taps.old) (T.tap taps.new)) }
+    ensures others { TapsKeepBut script.now.shape.servers (T.tap taps.old) (T.tap taps.new) }
+    ensures ended { IfErr result (λ status. status ≡ Status.Write ⊎ status ≡ Status.Memory) }
+    ensures rose { IfErr result (λ status. status ≡ Status.Write
+        → Rose (T.faults taps.old) (T.faults taps.new)) }
+    ensures counts { T.faults taps.old ≤ T.faults taps.new }
+{
+    match serial(alloc, script, draws, taps) {
         Ok(report) => Ok(report),
         Err(error) => Err(status_of_run(error)),
     }
@@ -179,6 +200,16 @@ fn status_of_script(error: ScriptError) -> Status
     match error {
         ScriptError::Line { line, cause } => Status::Script { line, cause },
         ScriptError::Memory => Status::Memory,
+    }
+}
+
+/// What tells that a script and a tape give no words.
+fn status_of_book(error: BookError) -> Status
+    ensures { result ≡ book_status error }
+{
+    match error {
+        BookError::Tape { want, got } => Status::Tape { want, got },
+        BookError::Memory => Status::Memory,
     }
 }
 
