@@ -6,4 +6,4 @@ abbrev pub invariant-loop-position : goal.invariant-loop-position
 invariant-loop-position g l =
     (l.table.shape.buckets ≡ 8)
     × (l.table.shape.block ≡ 24)
-    × All (λ q. q.position < l.position) l.table.recent
+    × All (λ p. p < l.position) l.table.positions

@@ -5,4 +5,4 @@ abbrev pub invariant-loop-i : goal.invariant-loop-i
 invariant-loop-i l =
     (l.table.shape.buckets ≡ 8)
     × (l.table.shape.block ≡ 24)
-    × All (λ q. q.position < l.i + 1) l.table.recent
+    × All (λ p. p < l.i + 1) l.table.positions
