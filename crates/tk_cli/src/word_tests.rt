@@ -1,9 +1,13 @@
 use crate::Status;
 use crate::testing::{ONE_TEXT, run, source_of};
+use std::alloc::AllocGlobal;
+use std::sync::Wait;
 use std::test::Fail;
+use std::thread::Threads;
 use tk_handle::Handle;
 use tk_io::MemSink;
 use tk_seal::{allowed, open, seal};
+use tk_shape::Memory;
 
 const ZERO_ROOT: &str = "0000000000000000000000000000000000000000000000000000000000000000";
 
@@ -19,52 +23,72 @@ const ZERO_HANDLE: &str =
 const LAST_HANDLE: &str =
     "ffffffffffffffffd38182be1f535393a263c6a0e10aeb4ebc5ec5828811fbd48c04dc688de8076664152ec6eb28e14587bb1b91ce94c365fc28de39fe1d91180643834a309b2fef47d45de2d54a3d6eed1fa0ef040ac7b8af1ed6cf37b6e09a85721d88f52c387a\n";
 
-const LATER: Status = Status::Later { line: 0 };
-
 #[test]
 fn words(rt: HostRuntime) -> Result<(), Fail> {
     let alloc = rt.alloc();
-    for (words, status, written) in [
-        (["run"].as_slice(), LATER, ""),
-        (&["view", "4294967295"], LATER, ""),
-        (&["mirror", "0"], LATER, ""),
-        (&[], Status::Usage, ""),
-        (&["run", "65"], Status::Usage, ""),
-        (&["run", "1"], Status::Usage, ""),
-        (&["run", "0"], Status::Usage, ""),
-        (&["run", "065"], Status::Usage, ""),
-        (&["mirror"], Status::Usage, ""),
-        (&["view", "01"], Status::Usage, ""),
-        (&["view", "4294967296"], Status::Usage, ""),
-        (&["handle", "0"], Status::Usage, ""),
-        (&["handle", "0", &ZERO_ROOT[1..]], Status::Usage, ""),
-        (
-            &["handle", "18446744073709551616", ZERO_ROOT],
-            Status::Usage,
-            "",
-        ),
-        (&["handle", "00", ZERO_ROOT], Status::Usage, ""),
-        (&["handle", ZERO_ROOT, "0"], Status::Usage, ""),
-        (&["Serial"], Status::Usage, ""),
-        (&["serial", "1"], Status::Usage, ""),
-        (&["handle", "0", ZERO_ROOT], Status::Done, ZERO_HANDLE),
-        (
-            &["handle", "18446744073709551615", LOWER_ROOT],
-            Status::Done,
-            LAST_HANDLE,
-        ),
-        (
-            &["handle", "18446744073709551615", UPPER_ROOT],
-            Status::Done,
-            LAST_HANDLE,
-        ),
+    for words in [
+        ["run"].as_slice(),
+        &["view", "4294967295"],
+        &["mirror", "0"],
     ] {
         let mut source = source_of(alloc, ONE_TEXT)?;
-        let mut sink = MemSink::new(alloc, 100, Vec::new(alloc));
-        assert_eq!(rt; run(&rt, words, &mut source, &mut sink)?, status);
-        assert_eq!(rt; sink.bytes(), written.as_bytes());
+        let mut sink = MemSink::new(alloc, 4096, Vec::new(alloc));
+        assert_eq!(rt;
+            run(&rt, words, &mut source, &mut sink)?,
+            Status::Later { line: 0 }
+        );
         assert_eq!(rt; source.left(), ONE_TEXT);
     }
+    for words in [
+        [].as_slice(),
+        &["run", "65"],
+        &["run", "1"],
+        &["run", "0"],
+        &["run", "065"],
+        &["mirror"],
+        &["view", "01"],
+        &["view", "4294967296"],
+        &["handle", "0"],
+        &["handle", "0", &ZERO_ROOT[1..]],
+        &["handle", "18446744073709551616", ZERO_ROOT],
+        &["handle", "00", ZERO_ROOT],
+        &["handle", ZERO_ROOT, "0"],
+        &["Serial"],
+        &["serial", "1"],
+    ] {
+        let mut source = source_of(alloc, ONE_TEXT)?;
+        let mut sink = MemSink::new(alloc, 4096, Vec::new(alloc));
+        assert_eq!(rt; run(&rt, words, &mut source, &mut sink)?, Status::Usage);
+        assert_eq!(rt; source.left(), ONE_TEXT);
+    }
+    Ok(())
+}
+
+/// The status that a handle's words end with, and what is written.
+fn handle_line<R: AllocGlobal + Threads + Wait + Sync>(
+    rt: &R,
+    id: &str,
+    root: &str,
+) -> Result<(Status, Vec<u8>), Memory> {
+    let alloc = rt.alloc();
+    let mut source = source_of(alloc, ONE_TEXT)?;
+    let mut sink = MemSink::new(alloc, 100, Vec::new(alloc));
+    let status = run(rt, &["handle", id, root], &mut source, &mut sink)?;
+    Ok((status, sink.bytes().to_vec(alloc)?))
+}
+
+#[test]
+fn handles(rt: HostRuntime) -> Result<(), Fail> {
+    let largest = "18446744073709551615";
+    let (status, line) = handle_line(&rt, "0", ZERO_ROOT)?;
+    assert_eq!(rt; status, Status::Done);
+    assert_eq!(rt; line.as_slice(), ZERO_HANDLE.as_bytes());
+    let (status, line) = handle_line(&rt, largest, LOWER_ROOT)?;
+    assert_eq!(rt; status, Status::Done);
+    assert_eq!(rt; line.as_slice(), LAST_HANDLE.as_bytes());
+    let (status, line) = handle_line(&rt, largest, UPPER_ROOT)?;
+    assert_eq!(rt; status, Status::Done);
+    assert_eq!(rt; line.as_slice(), LAST_HANDLE.as_bytes());
     Ok(())
 }
 
