@@ -24,7 +24,6 @@ pub mod TapLaws
 pub mod PlacedLaws
 pub mod RetainedLaws
 pub mod PassingOverLaws
-pub mod PlaceLaws
 pub mod PrivateReadLaws
 pub mod TurnLaws
 pub mod ReadingLaws

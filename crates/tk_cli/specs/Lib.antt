@@ -13,6 +13,5 @@ pub mod Turns
 pub mod Runs
 pub mod Shown
 pub mod PassingOver
-pub mod Places
 pub mod Serial
 pub mod Endings

@@ -1,9 +1,6 @@
 //! What all runs have in common.
 ghost use Rattle.tk_cli.specs.PassingOver.{HonestPassingOver, SerialRunsPassOverHonestly, RecordsAreShown};
-ghost use Rattle.tk_cli.specs.Places.{FewFindPlaces};
 ghost use Rattle.tk_cli.specs.Queues.{QueuesSend};
-
-use tk_place::fit_by_placements;
 
 /// A number that is recorded as absent was rightly passed over: its record, if there is one, wasn't
 /// retained in the epoch from which the reader got the next number that it did get. That takes
@@ -24,10 +21,3 @@ pub fn records_are_shown()
 pub fn queues_send()
     ensures { QueuesSend }
 {}
-
-/// A write is displaced only where as many records as a bucket has slots are kept beside it.
-pub fn few_find_places()
-    ensures { FewFindPlaces }
-{
-    fit_by_placements();
-}

@@ -25,7 +25,7 @@ mod tapping;
 mod top;
 mod turns;
 
-pub use laws::{few_find_places, honest_passing_over, queues_send, records_are_shown};
+pub use laws::{honest_passing_over, queues_send, records_are_shown};
 pub use status::{Status, status_line};
 pub use top::{INPUT_LIMIT, talek};
 

@@ -32,3 +32,4 @@ pub mod Standing
 pub mod Computing
 pub mod Displaced
 pub mod Offers
+pub mod FewPlaces

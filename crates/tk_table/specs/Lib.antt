@@ -6,3 +6,4 @@ pub mod Steps
 pub mod Inside
 pub mod Shown
 pub mod Replies
+pub mod Places

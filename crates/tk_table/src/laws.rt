@@ -2,6 +2,9 @@
 ghost use Rattle.tk_table.specs.Laws.{LayoutHolds, DisplacedWithoutEnd};
 ghost use Rattle.tk_table.specs.Laws.{RetainedAscends, RetainedInWindow, AsWritten};
 ghost use Rattle.tk_table.specs.Laws.{SlotsReadBack, BucketsReadBack, AsRead};
+ghost use Rattle.tk_table.specs.Places.{FewFindPlaces};
+
+use tk_place::fit_by_placements;
 
 /// What is retained is in the order of the records.
 pub fn retained_ascends()
@@ -42,3 +45,10 @@ pub fn buckets_read_back()
 pub fn as_read()
     ensures { AsRead }
 {}
+
+/// A write is displaced only where as many records as a bucket has slots are kept beside it.
+pub fn few_find_places()
+    ensures { FewFindPlaces }
+{
+    fit_by_placements();
+}

@@ -9,8 +9,8 @@ mod snapshot;
 mod table;
 
 pub use laws::{
-    as_read, as_written, buckets_read_back, displaced_without_end, layout_holds, retained_ascends,
-    retained_in_window, slots_read_back,
+    as_read, as_written, buckets_read_back, displaced_without_end, few_find_places, layout_holds,
+    retained_ascends, retained_in_window, slots_read_back,
 };
 pub use snapshot::Snapshot;
 pub use table::{Put, Table};

@@ -7,7 +7,7 @@ use Rattle.tk_place.specs.Pairs.{AreOwn, HasPlacement, FitsByPlacements}
 use Rattle.tk_shape.specs.declared.shape.Shape.{Shape}
 use Rattle.tk_frames.specs.Order.{Record}
 use Rattle.tk_table.specs.Table.{pair_in, retained, unexpired}
-use Rattle.tk_cli.specs.Places.{FewFindPlaces}
+use Rattle.tk_table.specs.Places.{FewFindPlaces}
 
 abbrev firsts : List (ℕ × ℕ) → List ℕ
 firsts pairs = map (λ p. p.0) pairs
