@@ -1,0 +1,8 @@
+-- What the proofs of other crates may cite.
+
+-- What may stand next behind the entries of a state may come next to it.
+pub use Rattle.tk_replica.proofs.Standing.{entry-next}
+-- A state without its first epochs stands for the same entries.
+pub use Rattle.tk_replica.proofs.Standing.{stands-released}
+-- The writes of an order are in order.
+pub use Rattle.tk_replica.proofs.Ordering.{order-writes}

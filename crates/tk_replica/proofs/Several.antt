@@ -1,0 +1,170 @@
+-- Frames that are served together.
+use Rattle.std.proofs.Common.{◌≡◌, ℕ, zero, suc, ◌+◌, ◌<◌, inl, inr, refl, ap, ap₂, sym, ◌∙◌, arith}
+use Rattle.std.proofs.Common.{subst, List, [], ◌∷◌, ◌++◌, length, take, drop, map, Option, Some}
+use Rattle.std.proofs.Common.{None}
+use Rattle.std.proofs.Common.{append_assoc, take-append-drop}
+use Rattle.std.specs.Prelude.{slice_index_or}
+use Rattle.std.specs.Option.{option_or}
+use Rattle.std.specs.List.{AllByRecursion}
+use Rattle.std.proofs.lemmas.List.{map-append, take_more}
+use Rattle.tk_shape.specs.declared.shape.Shape.{Shape}
+use Rattle.tk_frames.specs.declared.entry.Placed.{Placed}
+use Rattle.tk_frames.specs.declared.read_frame.ReadFrame.{ReadFrame}
+use Rattle.tk_frames.specs.Lists.{first_some}
+use Rattle.tk_frames.specs.Ranges.{IsRead}
+use Rattle.tk_frames.specs.Spelling.{reply_frame}
+use Rattle.tk_replica.specs.declared.epoch.Epoch.{Epoch}
+use Rattle.tk_replica.specs.declared.error.ServeError.{ServeError}
+use Rattle.tk_replica.specs.Epochs.{IsEpochOf}
+use Rattle.tk_replica.specs.Shelf.{IsHeld}
+use Rattle.tk_replica.specs.Refusals.{serve_refusal, first_refusal, IsServeRefusal}
+use Rattle.tk_replica.specs.Replica.{ReplicaView, StandsFor}
+use Rattle.tk_replica.specs.Replies.{frame_over, reply_for, reply_bytes, IsServed, IsAsked}
+use Rattle.tk_replica.specs.Replies.{AreAsked}
+use Rattle.tk_replica.proofs.Replying.{over-epoch, for-bytes}
+
+-- ---- what is refused
+
+module _ {X Y : Type 0} (f : X → Option Y) where
+  -- behind some that give nothing comes the one that gives y
+  first-at : (xs : List X) (i : ℕ) (x : X) (y : Y) → first_some f (take i xs) ≡ None →
+      i < length xs → x ≡ slice_index_or xs i x → f x ≡ Some y → first_some f xs ≡ Some y
+  first-at [] i x y none low at is = absurd (omega (arith, low))
+  first-at (z ∷ xs) zero x y none low at is =
+      ap (λ o. option_or o (first_some f xs)) (ap f (sym at) ∙ is)
+  first-at (z ∷ xs) (suc i) x y none low at is =
+      elim (f z) as (λ o. option_or o (first_some f (take i xs)) ≡ None →
+      option_or o (first_some f xs) ≡ Some y) [
+        | None ↦ λ rest. first-at xs i x y rest (omega (arith, low)) at is
+        | Some w ↦ λ h. absurd cc
+      ] none
+
+  -- one more that gives nothing
+  pub first-push : (xs : List X) (x : X) → first_some f xs ≡ None → f x ≡ None →
+      first_some f (xs ++ x ∷ []) ≡ None
+  first-push [] x none is = ap (λ o. option_or o None) is
+  first-push (z ∷ xs) x none is =
+      elim (f z) as (λ o. option_or o (first_some f xs) ≡ None →
+      option_or o (first_some f (xs ++ x ∷ [])) ≡ None) [
+        | None ↦ λ rest. first-push xs x rest is
+        | Some w ↦ λ h. absurd cc
+      ] none
+
+-- the first frame that is refused decides
+pub refused-at : (s : ReplicaView) (frames : List (List ℕ)) (i : ℕ) (frame : List ℕ)
+    (error : ServeError) → first_refusal s (take i frames) ≡ None → i < length frames →
+    frame ≡ slice_index_or frames i frame → IsServeRefusal (serve_refusal s frame) error →
+    IsServeRefusal (first_refusal s frames) error
+refused-at s frames i frame error none low at refused = elim refused [
+  | inl memory ↦ inl memory
+  | inr is ↦ inr (first-at (serve_refusal s) frames i frame error none low at is)
+]
+
+-- ---- what is asked
+
+pub asked-push : (s : ReplicaView) (fs : List (List ℕ)) (rs : List ReadFrame) (f : List ℕ)
+    (r : ReadFrame) → AreAsked s fs rs → IsAsked s f r → AreAsked s (fs ++ f ∷ []) (rs ++ r ∷ [])
+asked-push s [] [] f r asked one = (one, tt)
+asked-push s (x ∷ fs) (y ∷ rs) f r asked one = (asked.0, asked-push s fs rs f r asked.1 one)
+asked-push s (x ∷ fs) [] f r asked one = absurd asked
+asked-push s [] (y ∷ rs) f r asked one = absurd asked
+
+pub asked-served : (s : ReplicaView) (fs : List (List ℕ)) (rs : List ReadFrame) →
+    AreAsked s fs rs → AllByRecursion (IsServed s) rs
+asked-served s [] [] asked = tt
+asked-served s (f ∷ fs) (r ∷ rs) asked = (asked.0.served, asked-served s fs rs asked.1)
+asked-served s (f ∷ fs) [] asked = absurd asked
+asked-served s [] (r ∷ rs) asked = absurd asked
+
+pub served-in_range : (s : ReplicaView) (shape : Shape) (rs : List ReadFrame) → shape ≡ s.shape →
+    AllByRecursion (IsServed s) rs → AllByRecursion (IsRead shape) rs
+served-in_range s shape [] same served = tt
+served-in_range s shape (r ∷ rs) same served = (
+  subst (λ sh. IsRead sh r) (sym same) served.0.in_range,
+  served-in_range s shape rs same served.1,
+)
+
+-- the epoch that the first of them names is kept
+pub row-held : (s : ReplicaView) (e n : ℕ) (rs : List ReadFrame) → 0 < n → 0 < length rs →
+    AllByRecursion (λ r. r.epoch ≡ e) (take n rs) → AllByRecursion (IsServed s) rs →
+    IsHeld s.floor s.last e
+row-held s e zero rs some there named served = absurd (omega (arith, some))
+row-held s e (suc n) [] some there named served = absurd (omega (arith, there))
+row-held s e (suc n) (r ∷ rs) some there named served =
+    subst (IsHeld s.floor s.last) named.0 served.0.held
+
+-- the first of a list is that of its front of one
+pub first-named : (rs : List ReadFrame) (d : ReadFrame) → 0 < length rs →
+    AllByRecursion (λ r. r.epoch ≡ (slice_index_or rs 0 d).epoch) (take 1 rs)
+first-named [] d there = absurd (omega (arith, there))
+first-named (r ∷ rs) d there = (refl, tt)
+
+-- the frame of the reply to a read
+abbrev pub frame_for : Shape → List Placed → ReadFrame → List ℕ
+frame_for shape E r = reply_frame (reply_for shape E r)
+
+pub asked-replies : (shape : Shape) (E : List Placed) (s : ReplicaView) (fs : List (List ℕ))
+    (rs : List ReadFrame) → StandsFor shape E s → AreAsked s fs rs →
+    map (frame_for shape E) rs ≡ map (reply_bytes shape E) fs
+asked-replies shape E s [] [] is asked = refl
+asked-replies shape E s (f ∷ fs) (r ∷ rs) is asked =
+    ap₂ (λ (x : List ℕ) (xs : List (List ℕ)). x ∷ xs)
+    (ap reply_frame (for-bytes shape E s f r is asked.0)) (asked-replies shape E s fs rs is asked.1)
+asked-replies shape E s (f ∷ fs) [] is asked = absurd asked
+asked-replies shape E s [] (r ∷ rs) is asked = absurd asked
+
+-- ---- those in a row
+
+module _ {X : Type 0} (P : X → Type 0) where
+  pub all-take : (n : ℕ) (xs : List X) → AllByRecursion P xs → AllByRecursion P (take n xs)
+  all-take zero xs all = tt
+  all-take (suc n) [] all = tt
+  all-take (suc n) (x ∷ xs) all = (all.0, all-take n xs all.1)
+
+  pub all-drop : (n : ℕ) (xs : List X) → AllByRecursion P xs → AllByRecursion P (drop n xs)
+  all-drop zero xs all = all
+  all-drop (suc n) [] all = tt
+  all-drop (suc n) (x ∷ xs) all = all-drop n xs all.1
+
+  pub all-push : (xs : List X) (x : X) → AllByRecursion P xs → P x → AllByRecursion P (xs ++ x ∷ [])
+  all-push [] x all one = (one, tt)
+  all-push (y ∷ xs) x all one = (all.0, all-push xs x all.1 one)
+
+row-replies : (shape : Shape) (E : List Placed) (e : ℕ) (epoch : Epoch) (row : List ReadFrame) →
+    IsEpochOf shape E e epoch → AllByRecursion (λ r. r.epoch ≡ e) row →
+    map (frame_over epoch) row ≡ map (frame_for shape E) row
+row-replies shape E e epoch [] is named = refl
+row-replies shape E e epoch (r ∷ row) is named =
+    ap₂ (λ (x : List ℕ) (xs : List (List ℕ)). x ∷ xs)
+    (ap reply_frame (over-epoch shape E e epoch r is named.0))
+    (row-replies shape E e epoch row is named.1)
+
+-- one more of what f gives
+pub map-next : {X Y : Type 0} (f : X → Y) (xs : List X) (i : ℕ) (x : X) (old now next : List Y) →
+    i < length xs → x ≡ slice_index_or xs i x → now ≡ old ++ map f (take i xs) →
+    next ≡ now ++ f x ∷ [] → next ≡ old ++ map f (take (i + 1) xs)
+map-next {X} {Y} f xs i x old now next low at so_far pushed =
+    let one : take (i + 1) xs ≡ take i xs ++ x ∷ [] =
+    take_more xs i x low ∙ ap (λ (y : X). take i xs ++ y ∷ []) (sym at)
+    in
+    pushed ∙ ap (λ (ys : List Y). ys ++ f x ∷ []) so_far
+    ∙ append_assoc old (map f (take i xs)) (f x ∷ [])
+    ∙ ap (λ (ys : List Y). old ++ ys)
+    (sym (map-append f (take i xs) (x ∷ [])) ∙ ap (map f) (sym one))
+
+-- the replies to a row, and those to what is left
+pub row-served : (shape : Shape) (E : List Placed) (e n : ℕ) (epoch : Epoch)
+    (rest : List ReadFrame) (old new all : List (List ℕ)) → IsEpochOf shape E e epoch →
+    AllByRecursion (λ r. r.epoch ≡ e) (take n rest) →
+    new ≡ old ++ map (frame_over epoch) (take n rest) →
+    old ++ map (frame_for shape E) rest ≡ all →
+    new ++ map (frame_for shape E) (drop n rest) ≡ all
+row-served shape E e n epoch rest old new all is named pushed so_far =
+    let f = frame_for shape E in
+    ap (λ (xs : List (List ℕ)). xs ++ map f (drop n rest))
+    (pushed
+    ∙ ap (λ (xs : List (List ℕ)). old ++ xs) (row-replies shape E e epoch (take n rest) is named))
+    ∙ append_assoc old (map f (take n rest)) (map f (drop n rest))
+    ∙ ap (λ (xs : List (List ℕ)). old ++ xs)
+    (sym (map-append f (take n rest) (drop n rest)) ∙ ap (map f) (take-append-drop n rest))
+    ∙ so_far

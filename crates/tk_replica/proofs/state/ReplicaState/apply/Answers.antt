@@ -1,0 +1,20 @@
+-- A write goes into what the table and the window stand for, and a mark makes the next epoch.
+use Rattle.std.proofs.Common.{sym, subst, ◌++◌, ◌∷◌, []}
+use Rattle.tk_replica.specs.Replica.{StandsFor}
+use Rattle.tk_replica.proofs.Standing.{stands-write, stands-mark}
+use Rattle.tk_replica.proofs.state.ReplicaState.apply.Goals as goal
+
+pub returns-in-Write-clause-stands : goal.returns-in-Write-clause-stands
+returns-in-Write-clause-stands c = λ shape E is.
+    let placed = c.args.placed.now in
+    subst (StandsFor shape (E ++ placed ∷ [])) (sym c.put.ensures.rest)
+    (stands-write shape E c.args.self.now c.put.new.self.table placed c.in-Write.write is
+    c.requires c.in-Write.is c.put.ensures.table_shape c.put.ensures.table)
+
+pub returns-in_ok-mark-in-Mark-clause-stands : goal.returns-in_ok-mark-in-Mark-clause-stands
+returns-in_ok-mark-in-Mark-clause-stands c = λ shape E is.
+    let placed = c.args.placed.now in
+    let made = c.in_ok-mark-in-Mark.ensures.epoch in
+    subst (StandsFor shape (E ++ placed ∷ [])) (sym made.2)
+    (stands-mark shape E c.args.self.now placed c.in-Mark.number made.0 is c.requires
+    c.in-Mark.is made.1)

@@ -1,0 +1,20 @@
+-- The replies so far, and those to what is left.
+use Rattle.std.proofs.Common.{◌≡◌, List, length, map, ◌++◌}
+use Rattle.std.specs.List.{AllByRecursion}
+use Rattle.tk_shape.specs.declared.shape.Shape.{Shape}
+use Rattle.tk_frames.specs.declared.entry.Placed.{Placed}
+use Rattle.tk_replica.specs.Replica.{StandsFor}
+use Rattle.tk_replica.specs.Replies.{reply_bytes, IsServed}
+use Rattle.tk_replica.proofs.Several.{frame_for}
+use Rattle.tk_replica.proofs.state.ReplicaState.serve_all.Given as goal
+
+abbrev pub invariant-loop-rest : goal.invariant-loop-rest
+invariant-loop-rest l =
+    record {
+      served : AllByRecursion (IsServed l.self) l.rest;
+      replies : (shape : Shape) (E : List Placed) → StandsFor shape E l.self →
+          l.replies.items ++ map (frame_for shape E) l.rest ≡ map (reply_bytes shape E) l.frames;
+    }
+
+abbrev pub decreases-loop-rest : goal.decreases-loop-rest
+decreases-loop-rest l = length l.rest

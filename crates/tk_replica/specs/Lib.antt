@@ -1,0 +1,6 @@
+pub mod Epochs
+pub mod Shelf
+pub mod Store
+pub mod Replica
+pub mod Replies
+pub mod Refusals

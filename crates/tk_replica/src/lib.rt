@@ -1,0 +1,19 @@
+//! One server's replica: what it has of the entries that it applied, and the epochs that it keeps.
+#![tactic(auto)]
+
+mod apply;
+mod epoch;
+mod error;
+mod reply;
+mod serve;
+mod shelf;
+mod state;
+mod store;
+
+pub use epoch::Epoch;
+pub use error::{PinError, ServeError};
+pub use state::ReplicaState;
+pub use tk_shape::Memory;
+
+#[cfg(test)]
+mod tests;

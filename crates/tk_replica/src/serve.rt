@@ -1,0 +1,88 @@
+ghost use Rattle.std.specs.Prelude.{◌≡◌, ◌<◌, ◌≤◌, List, None, length, map, take, IfOk, IfErr};
+ghost use Rattle.std.specs.Prelude.{OnOk};
+ghost use Rattle.std.specs.List.{AllByRecursion};
+ghost use Rattle.tk_shape.specs.declared.shape.Shape.{Shape};
+ghost use Rattle.tk_frames.specs.declared.entry.Placed.{Placed};
+ghost use Rattle.tk_frames.specs.Ranges.{IsReply};
+ghost use Rattle.tk_replica.specs.Refusals.{serve_refusal, first_refusal, IsServeRefusal};
+ghost use Rattle.tk_replica.specs.Replica.{StandsFor};
+ghost use Rattle.tk_replica.specs.Replies.{reply_due, reply_bytes, IsAsked, AreAsked};
+
+use crate::{ReplicaState, ServeError};
+use std::alloc::Global;
+use tk_frames::{ReadFrame, decode_read};
+use tk_shape::Bytes;
+
+impl ReplicaState {
+    /// The reply frame to a read frame, over the blocks of the epoch that it names.
+    pub fn serve(&self, alloc: Global, frame: &[u8]) -> Result<Bytes, ServeError>
+        ensures kept { OnOk result (serve_refusal self.now frame.now ≡ None) }
+        ensures refused { IfErr result (IsServeRefusal (serve_refusal self.now frame.now)) }
+        ensures reply { (shape : Shape) (E : List Placed) → StandsFor shape E self.now
+            → IfOk result (λ reply. reply ≡ reply_bytes shape E frame.now) }
+        ensures in_range { (shape : Shape) (E : List Placed) → StandsFor shape E self.now
+            → OnOk result (IsReply shape (reply_due shape E frame.now)) }
+    {
+        let read = self.read(alloc, frame)?;
+        Ok(self.epoch(read.epoch).reply(alloc, &read)?)
+    }
+
+    /// The reply frames to several read frames, in their order. The first that isn't served
+    /// decides.
+    pub fn serve_all(&self, alloc: Global, frames: &[Bytes]) -> Result<Vec<Bytes>, ServeError>
+        ensures kept { OnOk result (first_refusal self.now frames.now ≡ None) }
+        ensures refused { IfErr result (IsServeRefusal (first_refusal self.now frames.now)) }
+        ensures replies { (shape : Shape) (E : List Placed) → StandsFor shape E self.now
+            → IfOk result (λ replies. replies.items ≡ map (reply_bytes shape E) frames.now) }
+    {
+        let reads = self.read_all(alloc, frames)?;
+        let mut replies = Vec::new(alloc);
+        let mut rest = reads.as_slice();
+        while !rest.is_empty() {
+            let (number, count) = in_a_row(rest);
+            let (row, behind) = rest.split_at(count);
+            self.epoch(number).reply_all(alloc, row, &mut replies)?;
+            rest = behind;
+        }
+        Ok(replies)
+    }
+
+    /// The read that a frame spells, if its epoch is kept.
+    fn read(&self, alloc: Global, frame: &[u8]) -> Result<ReadFrame, ServeError>
+        ensures asked { IfOk result (IsAsked self.now frame.now) }
+        ensures kept { OnOk result (serve_refusal self.now frame.now ≡ None) }
+        ensures refused { IfErr result (IsServeRefusal (serve_refusal self.now frame.now)) }
+    {
+        let read = decode_read(alloc, &self.shape(), frame)?;
+        self.check(read.epoch)?;
+        Ok(read)
+    }
+
+    /// The reads that these frames spell, if the epoch of each is kept.
+    fn read_all(&self, alloc: Global, frames: &[Bytes]) -> Result<Vec<ReadFrame>, ServeError>
+        ensures asked { IfOk result (λ reads. AreAsked self.now frames.now reads.items) }
+        ensures kept { OnOk result (first_refusal self.now frames.now ≡ None) }
+        ensures refused { IfErr result (IsServeRefusal (first_refusal self.now frames.now)) }
+    {
+        let mut reads = Vec::new(alloc);
+        for frame in frames {
+            reads.push(self.read(alloc, frame.as_slice())?)?;
+        }
+        Ok(reads)
+    }
+}
+
+/// The epoch that the first read names, and how many in a row name it.
+fn in_a_row(reads: &[ReadFrame]) -> (u32, usize)
+    requires { 0 < length reads.now }
+    ensures some { 0 < result.1 }
+    ensures within { result.1 ≤ length reads.now }
+    ensures same { AllByRecursion (λ r. r.epoch ≡ result.0) (take result.1 reads.now) }
+{
+    let number = reads[0].epoch;
+    let mut count = 1;
+    while count < reads.len() && reads[count].epoch == number {
+        count += 1;
+    }
+    (number, count)
+}
