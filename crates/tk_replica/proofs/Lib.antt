@@ -2,6 +2,7 @@ pub mod Ordering
 pub mod Pushes
 pub mod Standing
 pub mod Vectors
+pub mod Halves
 pub mod Reading
 pub mod Replying
 pub mod Several

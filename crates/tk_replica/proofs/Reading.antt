@@ -14,7 +14,7 @@ pub read-spelled : (shape : Shape) (r : ReadFrame) → IsRead shape r →
 read-spelled shape r is =
     let bytes = read_frame r in
     let turns = mul-le shape.phases shape.ticks 256 64 shape.in_range.phases_high
-        shape.in_range.ticks_high in
+    shape.in_range.ticks_high in
     let client : number_at 2 bytes ≡ r.client =
     from_be_bytes-to_be_bytes_4 r.client (omega (arith, is.client, shape.in_range.clients_high)) in
     let turn : number_at 6 bytes ≡ r.turn =

@@ -1,5 +1,5 @@
 -- What a server is asked, and what it replies.
-use Rattle.std.specs.Prelude.{◌≡◌, ℕ, List, [], ◌∷◌}
+use Rattle.std.specs.Prelude.{◌≡◌, ℕ, List, [], ◌∷◌, ◌++◌, map}
 use Rattle.tk_shape.specs.declared.shape.Shape.{Shape}
 use Rattle.tk_kernel.specs.Chosen.{chosen_sum}
 use Rattle.tk_frames.specs.declared.read_frame.ReadFrame.{ReadFrame}
@@ -16,16 +16,24 @@ use Rattle.tk_replica.specs.Replica.{ReplicaView}
 
 -- ---- what is replied
 
--- the reply to a read over the blocks of an epoch
-abbrev pub reply_over : Epoch → ReadFrame → ReplyFrame
-reply_over epoch r =
+-- the sum of the blocks of an epoch that a vector chooses
+abbrev pub sum_over : Epoch → List ℕ → List ℕ
+sum_over epoch vector = chosen_sum epoch.blocks.width epoch.blocks.blocks vector
+
+-- the reply to a read, with these sums
+abbrev pub reply_with : ReadFrame → List ℕ → List ℕ → ReplyFrame
+reply_with r first second =
     record {
       client = r.client;
       turn = r.turn;
       epoch = r.epoch;
-      first = chosen_sum epoch.blocks.width epoch.blocks.blocks r.first;
-      second = chosen_sum epoch.blocks.width epoch.blocks.blocks r.second;
+      first = first;
+      second = second;
     }
+
+-- the reply to a read over the blocks of an epoch
+abbrev pub reply_over : Epoch → ReadFrame → ReplyFrame
+reply_over epoch r = reply_with r (sum_over epoch r.first) (sum_over epoch r.second)
 
 abbrev pub frame_over : Epoch → ReadFrame → List ℕ
 frame_over epoch r = reply_frame (reply_over epoch r)
@@ -42,6 +50,11 @@ abbrev pub reply_bytes : Shape → List Placed → List ℕ → List ℕ
 reply_bytes shape E bytes = reply_frame (reply_due shape E bytes)
 
 -- ---- what is asked
+
+-- the first vectors of some reads, and then the second ones
+abbrev pub vectors_of : List ReadFrame → List (List ℕ)
+vectors_of rs =
+    map (λ (r : ReadFrame). r.first) rs ++ map (λ (r : ReadFrame). r.second) rs
 
 -- a read in range, whose epoch a state keeps
 pub record IsServed (s : ReplicaView) (r : ReadFrame) : Type 0 where

@@ -21,7 +21,7 @@ loop-rest-init c =
           ap (λ (xs : List (List ℕ)). xs ++ map (frame_for shape E) c.as_slice-rest.result.now)
           c.new-replies.ensures.items
           ∙ subst (λ (rs : List ReadFrame).
-              map (frame_for shape E) rs ≡ map (reply_bytes shape E) frames)
+          map (frame_for shape E) rs ≡ map (reply_bytes shape E) frames)
           rest (asked-replies shape E s frames reads is asked);
     }
 
