@@ -1,0 +1,7 @@
+mod Lists
+mod Marked
+mod Worlds
+mod Released
+mod Steps
+mod Making
+mod Coming
