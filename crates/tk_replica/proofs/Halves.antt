@@ -1,5 +1,5 @@
 -- The sums for the first vectors of some reads, and those for the second ones.
-use Rattle.std.proofs.Common.{◌≡◌, ℕ, ◌+◌, ◌*◌, ◌<◌, refl, ap, sym, ◌∙◌, arith, List, [], ◌∷◌, ◌++◌}
+use Rattle.std.proofs.Common.{◌≡◌, ℕ, ◌*◌, ◌<◌, refl, ap, sym, ◌∙◌, arith, List, [], ◌∷◌, ◌++◌}
 use Rattle.std.proofs.Common.{length, take, drop, map, length-append}
 use Rattle.std.specs.Prelude.{slice_index_or, All}
 use Rattle.std.specs.List.{AllByRecursion}

@@ -1,9 +1,9 @@
 -- A read is what its spelling spells.
-use Rattle.std.proofs.Common.{◌≡◌, ℕ, ◌++◌, arith}
+use Rattle.std.proofs.Common.{◌≡◌, arith}
 use Rattle.std.proofs.lemmas.List.{drop_at, take_at}
 use Rattle.std.proofs.lemmas.Nat.{from_be_bytes-to_be_bytes_4, mul-le}
 use Rattle.tk_shape.specs.declared.shape.Shape.{Shape}
-use Rattle.tk_shape.specs.Lengths.{turn_count, vector_len}
+use Rattle.tk_shape.specs.Lengths.{vector_len}
 use Rattle.tk_frames.specs.declared.read_frame.ReadFrame.{ReadFrame}
 use Rattle.tk_frames.specs.Fields.{number_at, read_in}
 use Rattle.tk_frames.specs.Ranges.{IsRead}

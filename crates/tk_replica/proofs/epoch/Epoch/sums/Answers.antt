@@ -3,7 +3,7 @@ use Rattle.std.proofs.Common.{◌≡◌, ◌∙◌, ap, sym, subst, List, ℕ, �
 use Rattle.std.specs.Prelude.{All}
 use Rattle.std.proofs.lemmas.Result.{IfOk-weaker}
 use Rattle.tk_frames.specs.declared.read_frame.ReadFrame.{ReadFrame}
-use Rattle.tk_replica.specs.Replies.{sum_over, vectors_of}
+use Rattle.tk_replica.specs.Replies.{sum_over}
 use Rattle.tk_replica.proofs.Halves.{vectors-fit, firsts-are, seconds-are}
 use Rattle.tk_replica.proofs.epoch.Epoch.sums.Goals as goal
 
