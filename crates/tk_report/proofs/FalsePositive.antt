@@ -1,0 +1,69 @@
+-- A dummy whose filter position is that of a number, computed.
+use Rattle.std.specs.Prelude.{◌≡◌, ℕ, List, [], ◌∷◌, ◌++◌, replicate, codes, None}
+use Rattle.std.proofs.Common.{refl, lit≤}
+use Rattle.tk_shape.specs.declared.shape.Shape.{Shape}
+use Rattle.tk_script.specs.declared.script.Script.{Script}
+use Rattle.tk_shape.specs.Ranges.{IsShape}
+use Rattle.tk_script.specs.SoundScript.{IsScript}
+use Rattle.tk_schedule.specs.Schedule.{serial_history}
+use Rattle.tk_words.specs.Words.{drawn}
+use Rattle.tk_report.specs.Report.{report}
+use Rattle.tk_report.proofs.Computing.{computing}
+
+pub shape_ranges : IsShape 2 8 4 4 24 64 1 1 2 3 1 1
+unfolding computing
+shape_ranges =
+    record {
+      servers_low = lit≤ tt;
+      servers_high = lit≤ tt;
+      buckets_power = refl;
+      buckets_low = lit≤ tt;
+      buckets_high = lit≤ tt;
+      depth_low = lit≤ tt;
+      depth_high = lit≤ tt;
+      retained_low = lit≤ tt;
+      retained_high = lit≤ tt;
+      block_low = lit≤ tt;
+      block_high = lit≤ tt;
+      filter_power = refl;
+      filter_low = lit≤ tt;
+      filter_high = lit≤ tt;
+      hits_low = lit≤ tt;
+      hits_high = lit≤ tt;
+      ahead_high = lit≤ tt;
+      clients_low = lit≤ tt;
+      clients_high = lit≤ tt;
+      phases_low = lit≤ tt;
+      phases_high = lit≤ tt;
+      ticks_low = lit≤ tt;
+      ticks_high = lit≤ tt;
+      logs_low = lit≤ tt;
+      logs_high = lit≤ tt;
+      schedule = lit≤ tt;
+      table = lit≤ tt;
+      work = lit≤ tt;
+    }
+
+abbrev pub shape : Shape
+shape = record { servers = 2; buckets = 8; depth = 4; retained = 4; block = 24; filter_bits = 64; hits = 1; ahead = 1; clients = 2; phases = 3; ticks = 1; logs = 1; in_range = shape_ranges }
+
+pub script_sound : IsScript shape None (record { writer = 0; followers = 1 ∷ [] } ∷ []) (record { phase = 2; tick = 1; log = 0; text = codes "hi" } ∷ [])
+unfolding computing
+script_sound =
+    record { keys_counted = refl; tape_fits = refl; roles_counted = refl; roles_sound = refl; says_sound = refl; says_ordered = refl }
+
+abbrev pub script : Script
+script = record { shape = shape; keys = None; roles = record { writer = 0; followers = 1 ∷ [] } ∷ []; says = record { phase = 2; tick = 1; log = 0; text = codes "hi" } ∷ []; sound = script_sound }
+
+abbrev pub tape : List ℕ
+tape =
+    replicate 36 113
+    ++ replicate 180 18
+    ++ replicate 60 33
+    ++ replicate 36 49
+    ++ replicate 36 50
+    ++ replicate 36 51
+
+pub text : report script (drawn tape) (serial_history shape) ≡ codes "report\norder 1 1 0 1 mark\nreads 1 1 0 0\norder 2 1 0 1 mark\nreads 2 1 1 1\norder 3 1 0 1 mark\nreads 3 1 2 2\nlog 0 1 1\ntext 0 hi\nunsent 0 0\nunsent 1 0\nend\n"
+unfolding computing
+text = refl

@@ -1,0 +1,26 @@
+-- What the proofs of other crates may cite.
+
+-- entries
+pub use Rattle.tk_report.proofs.TurnEntries.{entry_of, is_publish, length-placed_from, marks-placed_from}
+pub use Rattle.tk_report.proofs.TurnEntries.{placed_from-append, placed_after-append}
+pub use Rattle.tk_report.proofs.EpochLaws.{marks-before}
+pub use Rattle.tk_report.proofs.WrittenLaws.{write_at-client, write_at-turn, turns-own, entries-placed}
+pub use Rattle.tk_report.proofs.WrittenLaws.{pair-low, each-is_written, before-front, epochs-ordered}
+pub use Rattle.tk_report.proofs.MarkedLaws.{entries-agree, turn_entries-agree, before-standing}
+pub use Rattle.tk_report.proofs.MarkedLaws.{before-made, before-over, before-agree, phases-marked}
+pub use Rattle.tk_report.proofs.StorableLaws.{length-written, epochs-storable}
+-- what is said in each turn
+pub use Rattle.tk_report.proofs.SayOrder.{now-below, other-above, none-earlier, all-now}
+pub use Rattle.tk_report.proofs.SayOrder.{said-rises, said-within, said-none}
+-- what waits
+pub use Rattle.tk_report.proofs.QueueLaws.{queue_is_sent, numbers_are_in_range, unsent_waits}
+pub use Rattle.tk_report.proofs.QueueLaws.{queues-send}
+-- reads, and what servers see
+pub use Rattle.tk_report.proofs.AgreementLaws.{epoch-made, readers-agree, reads-agree, frames-agree}
+pub use Rattle.tk_report.proofs.AgreementLaws.{views-agree, alike-after_turn, alike-where_open}
+pub use Rattle.tk_report.proofs.AgreementLaws.{alike-where_old, fronts-agree, flat_map-agree}
+pub use Rattle.tk_report.proofs.LaidOutLaws.{layout-gives-lookup, bytes-give-lookup}
+-- the end of a run, and its report
+pub use Rattle.tk_report.proofs.LeavingLaws.{ends-leave, ends-text, writing-logs, reader-logs}
+pub use Rattle.tk_report.proofs.ShowsLaws.{reports-show}
+pub use Rattle.tk_report.proofs.OneHistoryLaws.{shows-one}

@@ -1,0 +1,8 @@
+use Rattle.tk_report.proofs.LeavingLaws.{ends-leave, ends-text}
+use Rattle.tk_report.proofs.laws.ends.Goals as goal
+
+pub returns-clause-leave : goal.returns-clause-leave
+returns-clause-leave c = ends-leave
+
+pub returns-clause-report : goal.returns-clause-report
+returns-clause-report c = ends-text

@@ -1,0 +1,14 @@
+pub mod Queues
+pub mod Entries
+pub mod Report
+pub mod Exchange
+pub mod Clients
+pub mod Leaving
+pub mod Outcomes
+pub mod PassingOver
+pub mod Shown
+pub mod ReportLines
+pub mod Heads
+pub mod Agreement
+pub mod Histories
+pub mod Delivered

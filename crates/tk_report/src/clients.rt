@@ -1,0 +1,39 @@
+use std::marker::Model;
+use tk_client::Client;
+
+/// The clients of a run, by number; seen as their list.
+#[derive(Debug, Drop)]
+pub struct Clients {
+    items: Vec<Client>,
+}
+
+impl Model for Clients {
+    ghost use Rattle.std.specs.Prelude.{List};
+    ghost use Rattle.tk_client.specs.Client.{ClientState};
+
+    ghost Value = { List ClientState };
+
+    ghost view = { λ l. l.items.items };
+}
+
+impl Clients {
+    ghost use Rattle.std.specs.Prelude.{◌≡◌};
+
+    pub fn from_vec(items: Vec<Client>) -> Clients
+        ensures { result ≡ items.items }
+    {
+        Clients { items }
+    }
+
+    pub fn as_slice(&self) -> &[Client]
+        ensures { result.now ≡ self.now }
+    {
+        self.items.as_slice()
+    }
+
+    pub fn into_vec(self) -> Vec<Client>
+        ensures { result.items ≡ self }
+    {
+        self.items
+    }
+}

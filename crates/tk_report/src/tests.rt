@@ -1,0 +1,77 @@
+use crate::parse_history;
+use std::test::Fail;
+use tk_schedule::{HistoryError, Item};
+use tk_shape::Shape;
+
+/// A report of two clients over two phases of one tick.
+const REPORT: [&str; 9] = [
+    "report\n",
+    "order 1 1 1 0 mark\n",
+    "reads 1 1 0 1\n",
+    "order 2 1 0 mark 1\n",
+    "reads 2 1 2 1\n",
+    "log 0 1 0\n",
+    "unsent 0 0\n",
+    "unsent 1 0\n",
+    "end\n",
+];
+
+/// How many of the report's lines there are, the place of one, what stands in its place, and the number of the first
+/// line that isn't the one due; 0 where each is.
+const CHANGED: [(usize, usize, &str, u64); 24] = [
+    (9, 0, "report\n", 0),
+    // no more is read than the word of the line behind the turns
+    (6, 5, "log", 0),
+    (9, 5, "unsents", 0),
+    // a line changed
+    (9, 0, "reports\n", 1),
+    (9, 1, "order 1 1 1 1 mark\n", 2),
+    (9, 1, "order 1 1 1 0 mark \n", 2),
+    (9, 1, "order 1 1  1 0 mark\n", 2),
+    (9, 1, "order 01 1 1 0 mark\n", 2),
+    (9, 1, "order 1 1 1 4294967296 mark\n", 2),
+    (9, 1, "order 1 1 1 0\n", 2),
+    (9, 2, "reads 1 1 0 2\n", 3),
+    (9, 3, "order 2 1 0 mark\n", 4),
+    (9, 4, "reads 2 1 0 1\n", 5),
+    (9, 4, "end\n", 5),
+    // a line doubled
+    (9, 0, "report\nreport\n", 2),
+    (9, 1, "order 1 1 1 0 mark\norder 1 1 1 0 mark\n", 3),
+    (9, 4, "reads 2 1 2 1\nreads 2 1 2 1\n", 6),
+    // a line dropped
+    (9, 0, "", 1),
+    (9, 2, "", 3),
+    (9, 4, "", 5),
+    // an end in place of the first log, and no more lines
+    (9, 5, "end\n", 6),
+    (5, 0, "report\n", 6),
+    (3, 0, "report\n", 4),
+    (1, 0, "", 1),
+];
+
+#[test]
+fn histories_of_reports(rt: HostRuntime) -> Result<(), Fail> {
+    let alloc = rt.alloc();
+    let shape = Shape::new([2, 8, 4, 4, 24, 64, 1, 0, 2, 2, 1, 1])
+        .ok()
+        .ok_or("in range")?;
+    for (lines, place, text, bad) in CHANGED {
+        let mut report = Vec::new(alloc);
+        for i in 0..lines {
+            let line = if i == place { text } else { REPORT[i] };
+            report.extend_from_slice(line.as_bytes())?;
+        }
+        match parse_history(alloc, &shape, report.as_slice()) {
+            Ok(history) => {
+                let order = [Item::Client(0), Item::Publish, Item::Client(1)];
+                assert_eq!(rt; bad, 0);
+                assert_eq!(rt; history.order(1), order.as_slice());
+                assert_eq!(rt; history.epoch(0, 1), 1);
+                assert_eq!(rt; history.epoch(1, 0), 2);
+            }
+            Err(error) => assert_eq!(rt; error, HistoryError::Line(bad)),
+        }
+    }
+    Ok(())
+}
