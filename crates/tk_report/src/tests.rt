@@ -1,6 +1,7 @@
+use crate::history_text::push_history;
 use crate::parse_history;
 use std::test::Fail;
-use tk_schedule::{HistoryError, Item};
+use tk_schedule::HistoryError;
 use tk_shape::Shape;
 
 /// A report of two clients over two phases of one tick.
@@ -15,6 +16,13 @@ const REPORT: [&str; 9] = [
     "unsent 1 0\n",
     "end\n",
 ];
+
+/// The turns that it shows.
+const TURNS: &[u8] = b"order 1 1 1 0 mark
+reads 1 1 0 1
+order 2 1 0 mark 1
+reads 2 1 2 1
+";
 
 /// How many of the report's lines there are, the place of one, what stands in its place, and the number of the first
 /// line that isn't the one due; 0 where each is.
@@ -58,17 +66,18 @@ fn histories_of_reports(rt: HostRuntime) -> Result<(), Fail> {
         .ok_or("in range")?;
     for (lines, place, text, bad) in CHANGED {
         let mut report = Vec::new(alloc);
-        for i in 0..lines {
-            let line = if i == place { text } else { REPORT[i] };
-            report.extend_from_slice(line.as_bytes())?;
+        for (i, line) in REPORT.iter().enumerate() {
+            if i < lines {
+                let line = if i == place { text } else { *line };
+                report.extend_from_slice(line.as_bytes())?;
+            }
         }
         match parse_history(alloc, &shape, report.as_slice()) {
             Ok(history) => {
-                let order = [Item::Client(0), Item::Publish, Item::Client(1)];
+                let mut turns = Vec::new(alloc);
                 assert_eq!(rt; bad, 0);
-                assert_eq!(rt; history.order(1), order.as_slice());
-                assert_eq!(rt; history.epoch(0, 1), 1);
-                assert_eq!(rt; history.epoch(1, 0), 2);
+                push_history(alloc, &shape, &history, &mut turns)?;
+                assert_eq!(rt; turns.as_slice(), TURNS);
             }
             Err(error) => assert_eq!(rt; error, HistoryError::Line(bad)),
         }
