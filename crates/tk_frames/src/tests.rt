@@ -6,9 +6,19 @@ use std::alloc::{AllocError, Global};
 use std::test::Fail;
 use tk_shape::Shape;
 
+#[test]
+fn laws_can_be_called(_rt: HostRuntime) {
+    one_spelling();
+    each_fault();
+    lengths();
+    before_a_mark();
+}
+
 fn small_shape() -> Result<Shape, Fail> {
-    let shape = Shape::new([2, 8, 4, 4, 24, 64, 1, 0, 2, 2, 1, 1]);
-    Ok(shape.ok().ok_or("in range")?)
+    match Shape::new([2, 8, 4, 4, 24, 64, 1, 0, 2, 2, 1, 1]) {
+        Ok(shape) => Ok(shape),
+        Err(_) => Err("shape".into()),
+    }
 }
 
 /// Bytes, with zeros behind them up to a length.
@@ -16,34 +26,6 @@ fn padded(alloc: Global, front: &[u8], len: usize) -> Result<Vec<u8>, AllocError
     let mut bytes = Vec::from_slice(alloc, front)?;
     bytes.resize(len, 0)?;
     Ok(bytes)
-}
-
-fn length(want: u64, got: u64) -> Option<FrameError> {
-    Some(FrameError::Length { want, got })
-}
-
-fn field(name: Name, got: u64) -> Option<FrameError> {
-    Some(FrameError::Field { name, got })
-}
-
-#[test]
-fn reads_refused(rt: HostRuntime) -> Result<(), Fail> {
-    let shape = small_shape()?;
-    for (front, len, error) in [
-        (b"".as_slice(), 0, length(16, 0)),
-        (b"", 16, Some(FrameError::Kind { got: 0 })),
-        (b"\x02\x02", 16, Some(FrameError::Version { got: 2 })),
-        (b"\x02\x01\0\0\0\x02", 16, field(Name::Client, 2)),
-        (b"\x02\x01", 16, None),
-    ] {
-        let bytes = padded(rt.alloc(), front, len)?;
-        assert_eq!(rt;
-            decode_read(rt.alloc(), &shape, &bytes).err(),
-            error,
-            "{len}"
-        );
-    }
-    Ok(())
 }
 
 #[derive(Clone, Copy)]
@@ -54,6 +36,8 @@ enum Frame {
     Reply,
 }
 
+use Frame::{Placed, Read, Reply, Write};
+
 /// What bytes decode to, spelled again.
 fn spelled_again(
     frame: Frame,
@@ -63,89 +47,151 @@ fn spelled_again(
 ) -> Result<Vec<u8>, FrameError> {
     let mut out = Vec::new(alloc);
     match frame {
-        Frame::Placed => encode_placed(&decode_placed(alloc, shape, bytes)?.clone()?, &mut out)?,
-        Frame::Write => encode_write(&decode_write(alloc, shape, bytes)?, &mut out)?,
-        Frame::Read => encode_read(&decode_read(alloc, shape, bytes)?, &mut out)?,
-        Frame::Reply => encode_reply(&decode_reply(alloc, shape, bytes)?, &mut out)?,
+        Placed => encode_placed(&decode_placed(alloc, shape, bytes)?.clone()?, &mut out)?,
+        Write => encode_write(&decode_write(alloc, shape, bytes)?, &mut out)?,
+        Read => encode_read(&decode_read(alloc, shape, bytes)?, &mut out)?,
+        Reply => encode_reply(&decode_reply(alloc, shape, bytes)?, &mut out)?,
     }
     Ok(out)
 }
 
+/// The front of a frame, its length with zeros behind, and the first fault that it has.
+const REFUSED: [(Frame, &[u8], usize, FrameError); 21] = [
+    (Read, b"", 0, FrameError::Length { want: 16, got: 0 }),
+    (Read, b"", 16, FrameError::Kind { got: 0 }),
+    (Read, b"\x02\x02", 16, FrameError::Version { got: 2 }),
+    (
+        Read,
+        b"\x02\x01\0\0\0\x02",
+        16,
+        FrameError::Field {
+            name: Name::Client,
+            got: 2,
+        },
+    ),
+    (Placed, b"", 0, FrameError::Length { want: 54, got: 0 }),
+    (Placed, b"\x06", 1, FrameError::Length { want: 54, got: 1 }),
+    (Placed, b"\x06\x01", 2, FrameError::Kind { got: 6 }),
+    (
+        Placed,
+        b"\x04\x01",
+        2,
+        FrameError::Length { want: 14, got: 2 },
+    ),
+    (
+        Placed,
+        b"\x05\x01",
+        2,
+        FrameError::Length { want: 54, got: 2 },
+    ),
+    (Placed, b"\x04\x02", 14, FrameError::Version { got: 2 }),
+    (
+        Placed,
+        b"\x04\x01",
+        14,
+        FrameError::Field {
+            name: Name::Position,
+            got: 0,
+        },
+    ),
+    (
+        Placed,
+        b"\x04\x01\0\0\0\0\0\0\0\x07",
+        14,
+        FrameError::Field {
+            name: Name::Position,
+            got: 7,
+        },
+    ),
+    (
+        Placed,
+        b"\x04\x01\0\0\0\0\0\0\0\x06",
+        14,
+        FrameError::Field {
+            name: Name::Epoch,
+            got: 0,
+        },
+    ),
+    (
+        Placed,
+        b"\x04\x01\0\0\0\0\0\0\0\x06\0\0\0\x03",
+        14,
+        FrameError::Field {
+            name: Name::Epoch,
+            got: 3,
+        },
+    ),
+    (
+        Write,
+        b"\x01\x01\0\0\0\x02",
+        46,
+        FrameError::Field {
+            name: Name::Client,
+            got: 2,
+        },
+    ),
+    (
+        Write,
+        b"\x01\x01\0\0\0\0\0\0\0\x02",
+        46,
+        FrameError::Field {
+            name: Name::Turn,
+            got: 2,
+        },
+    ),
+    (
+        Write,
+        b"\x01\x01\0\0\0\0\0\0\0\0\0\0\0\x08",
+        46,
+        FrameError::Field {
+            name: Name::First,
+            got: 8,
+        },
+    ),
+    (
+        Write,
+        b"\x01\x01\0\0\0\0\0\0\0\0\0\0\0\0\0\0\0\x08",
+        46,
+        FrameError::Field {
+            name: Name::Second,
+            got: 8,
+        },
+    ),
+    (
+        Write,
+        b"\x01\x01\0\0\0\0\0\0\0\0\0\0\0\0\0\0\0\0\0\0\0\x40",
+        46,
+        FrameError::Field {
+            name: Name::Hit,
+            got: 64,
+        },
+    ),
+    (
+        Write,
+        b"\x01\x01\0\0\0\0\0\0\0\x02\0\0\0\0\0\0\0\0\0\0\0\x40",
+        46,
+        FrameError::Field {
+            name: Name::Turn,
+            got: 2,
+        },
+    ),
+    (
+        Reply,
+        b"\x03\x01",
+        333,
+        FrameError::Length {
+            want: 334,
+            got: 333,
+        },
+    ),
+];
+
 #[test]
-fn other_frames_refused(rt: HostRuntime) -> Result<(), Fail> {
-    use Frame::{Placed, Reply, Write};
+fn first_fault_named(rt: HostRuntime) -> Result<(), Fail> {
     let shape = small_shape()?;
-    for (frame, front, len, error) in [
-        (Placed, b"".as_slice(), 0, length(54, 0)),
-        (Placed, b"\x06", 1, length(54, 1)),
-        (Placed, b"\x06\x01", 2, Some(FrameError::Kind { got: 6 })),
-        (Placed, b"\x04\x01", 2, length(14, 2)),
-        (Placed, b"\x05\x01", 2, length(54, 2)),
-        (
-            Placed,
-            b"\x04\x02",
-            14,
-            Some(FrameError::Version { got: 2 }),
-        ),
-        (Placed, b"\x04\x01", 14, field(Name::Position, 0)),
-        (
-            Placed,
-            b"\x04\x01\0\0\0\0\0\0\0\x07",
-            14,
-            field(Name::Position, 7),
-        ),
-        (
-            Placed,
-            b"\x04\x01\0\0\0\0\0\0\0\x06",
-            14,
-            field(Name::Epoch, 0),
-        ),
-        (
-            Placed,
-            b"\x04\x01\0\0\0\0\0\0\0\x06\0\0\0\x03",
-            14,
-            field(Name::Epoch, 3),
-        ),
-        (Placed, b"\x04\x01\0\0\0\0\0\0\0\x06\0\0\0\x02", 14, None),
-        (Write, b"\x01\x01\0\0\0\x02", 46, field(Name::Client, 2)),
-        (
-            Write,
-            b"\x01\x01\0\0\0\0\0\0\0\x02",
-            46,
-            field(Name::Turn, 2),
-        ),
-        (
-            Write,
-            b"\x01\x01\0\0\0\0\0\0\0\0\0\0\0\x08",
-            46,
-            field(Name::First, 8),
-        ),
-        (
-            Write,
-            b"\x01\x01\0\0\0\0\0\0\0\0\0\0\0\0\0\0\0\x08",
-            46,
-            field(Name::Second, 8),
-        ),
-        (
-            Write,
-            b"\x01\x01\0\0\0\0\0\0\0\0\0\0\0\0\0\0\0\0\0\0\0\x40",
-            46,
-            field(Name::Hit, 64),
-        ),
-        (
-            Write,
-            b"\x01\x01\0\0\0\0\0\0\0\x02\0\0\0\0\0\0\0\0\0\0\0\x40",
-            46,
-            field(Name::Turn, 2),
-        ),
-        (Reply, b"\x03\x01", 333, length(334, 333)),
-    ] {
+    for (frame, front, len, error) in REFUSED {
         let bytes = padded(rt.alloc(), front, len)?;
-        assert_eq!(rt;
-            spelled_again(frame, rt.alloc(), &shape, &bytes).err(),
-            error,
-            "{len}"
-        );
+        assert!(rt; spelled_again(frame, rt.alloc(), &shape, &bytes).err() == Some(error));
     }
     Ok(())
 }
@@ -167,58 +213,72 @@ fn cut_reads(rt: HostRuntime) -> Result<(), Fail> {
     let shape = small_shape()?;
     for frame in READS {
         for len in 0..16 {
-            let error = decode_read(rt.alloc(), &shape, &frame[..len]).err();
-            assert_eq!(rt; error, length(16, len as u64));
+            let error = FrameError::Length {
+                want: 16,
+                got: len as u64,
+            };
+            assert!(rt; decode_read(rt.alloc(), &shape, &frame[..len]).err() == Some(error));
         }
     }
     Ok(())
 }
 
-/// The fields of the first write of that run, and of a slot that a reply of it holds.
-const FIELDS: [u8; 44] =
-    *b"\0\0\0\0\0\0\0\0\0\0\0\x01\0\0\0\x01\0\0\0\x31\x31\x33\x59\x58\x31\x31\x31\x31\x31\x31\x31\x31\x31\x31\x31\x31\x31\x31\x31\x31\x31\x31\x31\x31";
+/// The first write of that run, its record, and the slot that a reply of it holds.
+const WRITE: &[u8] =
+    b"\x01\x01\0\0\0\0\0\0\0\0\0\0\0\x01\0\0\0\x01\0\0\0\x31\x31\x33\x59\x58\x31\x31\x31\x31\x31\x31\x31\x31\x31\x31\x31\x31\x31\x31\x31\x31\x31\x31\x31\x31";
+
+const RECORD: &[u8] =
+    b"\x05\x01\0\0\0\0\0\0\0\x01\0\0\0\0\0\0\0\0\0\0\0\x01\0\0\0\x01\0\0\0\x31\x31\x33\x59\x58\x31\x31\x31\x31\x31\x31\x31\x31\x31\x31\x31\x31\x31\x31\x31\x31\x31\x31\x31\x31";
+
+const SLOT: &[u8] =
+    b"\0\0\0\0\0\0\0\x01\0\0\0\x01\0\0\0\x01\x31\x33\x59\x58\x31\x31\x31\x31\x31\x31\x31\x31\x31\x31\x31\x31\x31\x31\x31\x31\x31\x31\x31\x31";
+
+/// A reply, each bucket of which has that slot and no other.
+fn reply(alloc: Global) -> Result<Vec<u8>, AllocError> {
+    let mut bytes = Vec::from_slice(alloc, b"\x03\x01\0\0\0\0\0\0\0\x01\0\0\0\x01")?;
+    for len in [174, 334] {
+        bytes.extend_from_slice(SLOT)?;
+        bytes.resize(len, 0)?;
+    }
+    Ok(bytes)
+}
+
+/// Frames that have no fault.
+const SPELLED: [(Frame, &[u8]); 6] = [
+    (Write, WRITE),
+    (Placed, RECORD),
+    (Placed, b"\x04\x01\0\0\0\0\0\0\0\x03\0\0\0\x01"),
+    (Placed, b"\x04\x01\0\0\0\0\0\0\0\x06\0\0\0\x02"),
+    (Read, b"\x02\x01\0\0\0\0\0\0\0\0\0\0\0\0\0\0"),
+    (Read, b"\x02\x01\0\0\0\0\0\0\0\x01\0\0\0\x01\x23\x23"),
+];
+
+/// Whether bytes decode, and the same bytes are spelled again.
+fn is_spelled_again(frame: Frame, alloc: Global, shape: &Shape, bytes: &[u8]) -> bool {
+    match spelled_again(frame, alloc, shape, bytes) {
+        Ok(again) => again.as_slice() == bytes,
+        Err(_) => false,
+    }
+}
 
 #[test]
 fn round_trips(rt: HostRuntime) -> Result<(), Fail> {
-    one_spelling();
-    each_fault();
-    lengths();
-    before_a_mark();
     let shape = small_shape()?;
-    let mut write = Vec::from_slice(rt.alloc(), b"\x01\x01")?;
-    write.extend_from_slice(&FIELDS)?;
-    let mut record = Vec::from_slice(rt.alloc(), b"\x05\x01\0\0\0\0\0\0\0\x01")?;
-    record.extend_from_slice(&FIELDS)?;
-    let mut reply = Vec::from_slice(rt.alloc(), b"\x03\x01\0\0\0\0\0\0\0\x01\0\0\0\x01")?;
-    for len in [174, 334] {
-        reply.extend_from_slice(b"\0\0\0\0\0\0\0\x01\0\0\0\x01\0\0\0\x01")?;
-        reply.extend_from_slice(&FIELDS[20..])?;
-        reply.resize(len, 0)?;
+    for (frame, bytes) in SPELLED {
+        assert!(rt; is_spelled_again(frame, rt.alloc(), &shape, bytes));
     }
-    for (frame, bytes) in [
-        (Frame::Write, write.as_slice()),
-        (Frame::Placed, record.as_slice()),
-        (Frame::Placed, b"\x04\x01\0\0\0\0\0\0\0\x03\0\0\0\x01"),
-        (Frame::Read, READS[2]),
-        (Frame::Reply, reply.as_slice()),
-    ] {
-        let again = spelled_again(frame, rt.alloc(), &shape, bytes)
-            .ok()
-            .ok_or("a frame")?;
-        assert_eq!(rt; again.as_slice(), bytes);
-    }
+    let reply = reply(rt.alloc())?;
+    assert!(rt; is_spelled_again(Reply, rt.alloc(), &shape, &reply));
     Ok(())
 }
 
 #[test]
 fn fields_of_a_write(rt: HostRuntime) -> Result<(), Fail> {
-    let mut bytes = Vec::from_slice(rt.alloc(), b"\x01\x01")?;
-    bytes.extend_from_slice(&FIELDS)?;
-    let decoded = decode_write(rt.alloc(), &small_shape()?, &bytes);
-    let write = decoded.ok().ok_or("a write")?;
-    assert_eq!(rt; (write.client, write.turn), (0, 0));
-    assert_eq!(rt; (write.first, write.second), (1, 1));
-    assert_eq!(rt; write.hits.as_slice(), [49].as_slice());
-    assert_eq!(rt; write.block.as_slice(), &FIELDS[20..]);
+    let Ok(write) = decode_write(rt.alloc(), &small_shape()?, WRITE) else {
+        return Err("a write".into());
+    };
+    assert!(rt; (write.client, write.turn, write.first, write.second) == (0, 0, 1, 1));
+    assert!(rt; write.hits.as_slice() == [49].as_slice());
+    assert!(rt; write.block.as_slice() == &WRITE[22..]);
     Ok(())
 }
