@@ -1,29 +1,56 @@
-use crate::{History, Item, Items, closes, place, turn};
-use std::test::Fail;
-use tk_shape::Shape;
+ghost use Rattle.std.specs.Prelude.{◌≡◌, IfOk};
+ghost use Rattle.tk_shape.specs.Lengths.{turn_count};
+
+use crate::{History, Item, Items, bad_line_is, closes, lines_tell, place, turn};
+use tk_shape::{Memory, Shape};
 
 #[test]
-fn serial_history_of_two_phases(rt: HostRuntime) -> Result<(), Fail> {
-    let alloc = rt.alloc();
-    let shape = Shape::new([2, 8, 1, 1, 24, 64, 1, 4, 2, 2, 3, 1])
-        .ok()
-        .ok_or("in range")?;
-    assert_eq!(rt; shape.turns(), 6);
-    assert_eq!(rt; shape.clients, 2);
-    assert_eq!(rt; place(&shape, 0), (1, 1));
-    assert_eq!(rt; place(&shape, 5), (2, 3));
-    assert_eq!(rt; turn(&shape, 2, 1), 3);
-    assert!(rt; closes(&shape, 2));
-    assert!(rt; !closes(&shape, 3));
-    let history = History::serial(alloc, &shape).ok().ok_or("memory")?;
-    let clients = [Item::Client(0), Item::Client(1)];
-    let closing = [Item::Client(0), Item::Client(1), Item::Publish];
-    assert_eq!(rt; history.order(1), clients.as_slice());
-    assert_eq!(rt; history.order(5), closing.as_slice());
-    assert_eq!(rt; history.epoch(2, 1), 0);
-    assert_eq!(rt; history.epoch(3, 0), 1);
-    let items = Items::from_vec(closing.to_vec(alloc)?);
-    assert_eq!(rt; items.as_slice().len(), 3);
-    assert_eq!(rt; items.into_vec().len(), 3);
+fn laws_can_be_called(_rt: HostRuntime) {
+    lines_tell();
+    bad_line_is();
+}
+
+/// Two clients, two phases of three ticks.
+fn shape() -> Result<Shape, Memory>
+    ensures clients { IfOk result (λ s. s.clients ≡ 2) }
+    ensures phases { IfOk result (λ s. s.phases ≡ 2) }
+    ensures ticks { IfOk result (λ s. s.ticks ≡ 3) }
+    ensures turns { IfOk result (λ s. turn_count s ≡ 6) }
+{
+    match Shape::new([2, 8, 1, 1, 24, 64, 1, 4, 2, 2, 3, 1]) {
+        Ok(shape) => Ok(shape),
+        Err(_) => Err(Memory),
+    }
+}
+
+#[test]
+fn turns_of_two_phases(rt: HostRuntime) -> Result<(), Memory> {
+    let shape = shape()?;
+    assert!(rt; shape.turns() == 6);
+    assert!(rt; place(&shape, 0) == (1, 1) && place(&shape, 5) == (2, 3));
+    assert!(rt; turn(&shape, 2, 1) == 3);
+    assert!(rt; closes(&shape, 2) && !closes(&shape, 3));
+    Ok(())
+}
+
+/// The order of a turn that closes its phase, and before its end that of one that doesn't.
+const CLOSING: [Item; 3] = [Item::Client(0), Item::Client(1), Item::Publish];
+
+#[test]
+fn serial_history_of_two_phases(rt: HostRuntime) -> Result<(), Memory> {
+    let shape = shape()?;
+    let history = History::serial(rt.alloc(), &shape)?;
+    assert!(rt; history.order(1) == &CLOSING[..2]);
+    assert!(rt; history.order(5) == CLOSING.as_slice());
+    assert!(rt; history.epoch(2, 1) == 0 && history.epoch(3, 0) == 1);
+    Ok(())
+}
+
+#[test]
+fn items_of_a_turn(rt: HostRuntime) -> Result<(), Memory> {
+    let items = Items::from_slice(rt.alloc(), &CLOSING)?;
+    assert!(rt; items.as_slice() == CLOSING.as_slice());
+    let items = Items::from_vec(items.into_vec());
+    assert!(rt; items.as_slice() == CLOSING.as_slice());
     Ok(())
 }

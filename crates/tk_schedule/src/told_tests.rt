@@ -5,7 +5,6 @@ ghost use Rattle.tk_schedule.specs.Schedule.{IsLegal};
 
 use crate::{History, HistoryError, Item, Items, RawHistory, RawKind, RawLine};
 use std::alloc::Global;
-use std::test::Fail;
 use tk_shape::{Memory, Shape, Words};
 
 const FIRST: Item = Item::Client(0);
@@ -62,22 +61,21 @@ fn lines_of(alloc: Global, said: &[Said]) -> Result<RawHistory, Memory> {
     Ok(RawHistory::from_vec(lines))
 }
 
-/// Lines of a history in which each turn has another order.
-fn good() -> [Said<'static>; 6] {
-    [
-        Said::Order(1, 1, &[SECOND, FIRST]),
-        Said::Order(1, 2, &[FIRST, MARK, SECOND]),
-        Said::Reads(1, 2, &[0, 1]),
-        Said::Order(2, 1, &[FIRST, SECOND]),
-        Said::Order(2, 2, &[MARK, SECOND, FIRST]),
-        Said::Reads(2, 2, &[2, 1]),
-    ]
-}
+/// Lines of a history in which each turn has another order, and one line more than it has.
+const LINES: [Said; 7] = [
+    Said::Order(1, 1, &[SECOND, FIRST]),
+    Said::Order(1, 2, &[FIRST, MARK, SECOND]),
+    Said::Reads(1, 2, &[0, 1]),
+    Said::Order(2, 1, &[FIRST, SECOND]),
+    Said::Order(2, 2, &[MARK, SECOND, FIRST]),
+    Said::Reads(2, 2, &[2, 1]),
+    Said::Order(3, 1, &[FIRST, SECOND]),
+];
 
 fn good_history(alloc: Global, shape: &Shape) -> Result<History, HistoryError>
     ensures { IfOk result (λ h. IsLegal shape.now h) }
 {
-    let raw = lines_of(alloc, &good())?;
+    let raw = lines_of(alloc, &LINES[..6])?;
     History::from_raw(alloc, shape, &raw)
 }
 
@@ -90,73 +88,90 @@ fn epoch_of(shape: &Shape, history: &History, turn: u32, client: u32) -> u32
     history.epoch(turn, client)
 }
 
-/// Why lines give no history.
-fn answer(alloc: Global, said: &[Said]) -> Result<Option<HistoryError>, Fail> {
-    let shape = small_shape().ok_or("in range")?;
-    let raw = lines_of(alloc, said).ok().ok_or("memory")?;
-    Ok(History::from_raw(alloc, &shape, &raw).err())
+/// The line that is refused, or 0 where none is.
+fn refused(alloc: Global, said: &[Said]) -> Result<u64, Memory> {
+    let Some(shape) = small_shape() else {
+        return Err(Memory);
+    };
+    let raw = lines_of(alloc, said)?;
+    match History::from_raw(alloc, &shape, &raw) {
+        Ok(_) => Ok(0),
+        Err(HistoryError::Line(line)) => Ok(line),
+        Err(HistoryError::Memory) => Err(Memory),
+    }
 }
 
 #[test]
-fn lines_tell_their_history(rt: HostRuntime) -> Result<(), Fail> {
-    let alloc = rt.alloc();
-    let shape = small_shape().ok_or("in range")?;
-    let raw = lines_of(alloc, &good()).ok().ok_or("memory")?;
-    assert_eq!(rt; raw.as_slice().len(), 7);
-    assert_eq!(rt; raw.into_vec().len(), 7);
-    let Ok(history) = good_history(alloc, &shape) else {
-        return Err(Fail::from("legal"));
+fn lines_tell_their_history(rt: HostRuntime) -> Result<(), HistoryError> {
+    let Some(shape) = small_shape() else {
+        return Err(HistoryError::Memory);
     };
-    let second = [FIRST, MARK, SECOND];
-    assert_eq!(rt; history.order(1), second.as_slice());
-    assert_eq!(rt; epoch_of(&shape, &history, 0, 1), 0);
-    assert_eq!(rt; epoch_of(&shape, &history, 1, 1), 1);
-    assert_eq!(rt; epoch_of(&shape, &history, 2, 0), 1);
-    assert_eq!(rt; epoch_of(&shape, &history, 3, 0), 2);
+    let history = good_history(rt.alloc(), &shape)?;
+    assert!(rt; history.order(1) == [FIRST, MARK, SECOND].as_slice());
+    assert!(rt; epoch_of(&shape, &history, 0, 1) == 0);
+    assert!(rt; epoch_of(&shape, &history, 1, 1) == 1);
+    assert!(rt; epoch_of(&shape, &history, 2, 0) == 1);
+    assert!(rt; epoch_of(&shape, &history, 3, 0) == 2);
     Ok(())
 }
 
 #[test]
-fn first_bad_line_named(rt: HostRuntime) -> Result<(), Fail> {
-    let alloc = rt.alloc();
-    for (index, bad) in [
-        // a client twice, missing, and out of range
-        (0, Said::Order(1, 1, &[FIRST, FIRST])),
-        (0, Said::Order(1, 1, &[FIRST])),
-        (3, Said::Order(2, 1, &[FIRST, Item::Client(2)])),
-        // a mark in a turn that doesn't close, two marks, and none
-        (0, Said::Order(1, 1, &[FIRST, MARK, SECOND])),
-        (1, Said::Order(1, 2, &[FIRST, MARK, SECOND, MARK])),
-        (4, Said::Order(2, 2, &[FIRST, SECOND])),
-        // no epochs, one too many, and one too few
-        (2, Said::Order(2, 1, &[FIRST, SECOND])),
-        (2, Said::Reads(1, 2, &[0, 1, 1])),
-        (5, Said::Reads(2, 2, &[2])),
-        // an epoch that isn't made yet, and one that is too old
-        (2, Said::Reads(1, 2, &[0, 2])),
-        (5, Said::Reads(2, 2, &[0, 1])),
-        // another phase, and another tick
-        (0, Said::Order(2, 1, &[SECOND, FIRST])),
-        (4, Said::Order(2, 1, &[MARK, SECOND, FIRST])),
-        (2, Said::Reads(2, 2, &[0, 1])),
-        (5, Said::Reads(2, 1, &[2, 1])),
-    ] {
-        let mut said = good();
-        if let Some(place) = said.get_mut(index) {
-            *place = bad;
-        }
-        let number = [10, 12, 14, 16, 18, 20].get(index).copied();
-        assert_eq!(rt; answer(alloc, &said)?, number.map(HistoryError::Line));
+fn lines_of_a_history_counted(rt: HostRuntime) -> Result<(), Memory> {
+    let raw = lines_of(rt.alloc(), &LINES[..6])?;
+    assert!(rt; raw.as_slice().len() == 7);
+    assert!(rt; raw.into_vec().len() == 7);
+    Ok(())
+}
+
+/// Which line is told otherwise, its number, and what it says then.
+const BAD: [(usize, u64, Said); 15] = [
+    // a client twice, missing, and out of range
+    (0, 10, Said::Order(1, 1, &[FIRST, FIRST])),
+    (0, 10, Said::Order(1, 1, &[FIRST])),
+    (3, 16, Said::Order(2, 1, &[FIRST, Item::Client(2)])),
+    // a mark in a turn that doesn't close, two marks, and none
+    (0, 10, Said::Order(1, 1, &[FIRST, MARK, SECOND])),
+    (1, 12, Said::Order(1, 2, &[FIRST, MARK, SECOND, MARK])),
+    (4, 18, Said::Order(2, 2, &[FIRST, SECOND])),
+    // no epochs, one too many, and one too few
+    (2, 14, Said::Order(2, 1, &[FIRST, SECOND])),
+    (2, 14, Said::Reads(1, 2, &[0, 1, 1])),
+    (5, 20, Said::Reads(2, 2, &[2])),
+    // an epoch that isn't made yet, and one that is too old
+    (2, 14, Said::Reads(1, 2, &[0, 2])),
+    (5, 20, Said::Reads(2, 2, &[0, 1])),
+    // another phase, and another tick
+    (0, 10, Said::Order(2, 1, &[SECOND, FIRST])),
+    (4, 18, Said::Order(2, 1, &[MARK, SECOND, FIRST])),
+    (2, 14, Said::Reads(2, 2, &[0, 1])),
+    (5, 20, Said::Reads(2, 1, &[2, 1])),
+];
+
+/// The line that is refused where one of the lines says something else.
+fn refused_with(alloc: Global, index: usize, bad: Said) -> Result<u64, Memory> {
+    let mut said = LINES;
+    if index >= said.len() {
+        return Err(Memory);
     }
-    let said = good();
-    for (count, number) in [(0, Some(10)), (2, Some(14)), (5, Some(20)), (6, None)] {
-        assert_eq!(rt;
-            answer(alloc, said.get(..count).ok_or("few")?)?,
-            number.map(HistoryError::Line)
-        );
+    said[index] = bad;
+    refused(alloc, &said[..6])
+}
+
+#[test]
+fn first_bad_line_named(rt: HostRuntime) -> Result<(), Memory> {
+    for (index, number, bad) in BAD {
+        assert!(rt; refused_with(rt.alloc(), index, bad)? == number);
     }
-    let [a, b, c, d, e, f] = said;
-    let more = [a, b, c, d, e, f, Said::Order(3, 1, &[FIRST, SECOND])];
-    assert_eq!(rt; answer(alloc, &more)?, Some(HistoryError::Line(22)));
+    Ok(())
+}
+
+#[test]
+fn too_few_lines_and_too_many(rt: HostRuntime) -> Result<(), Memory> {
+    for (count, number) in [(0, 10), (2, 14), (5, 20), (6, 0), (7, 22)] {
+        let Some(said) = LINES.get(..count) else {
+            return Err(Memory);
+        };
+        assert!(rt; refused(rt.alloc(), said)? == number);
+    }
     Ok(())
 }
