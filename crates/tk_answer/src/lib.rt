@@ -11,6 +11,3 @@ pub use blocks::Blocks;
 pub use each::answer_each;
 pub use laws::parts_are_runs;
 pub use sum::answer;
-
-#[cfg(test)]
-mod tests;

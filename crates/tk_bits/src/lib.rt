@@ -8,6 +8,3 @@ mod vector;
 pub use laws::{answers_join, last_is_computed, shares_join, sums_add};
 pub use shares::{join, share};
 pub use vector::bit;
-
-#[cfg(test)]
-mod tests;

@@ -11,6 +11,3 @@ pub use filter::Filter;
 pub use laws::{pushes_are_shown, windows_go_on};
 pub use tk_shape::Memory;
 pub use window::Window;
-
-#[cfg(test)]
-mod tests;

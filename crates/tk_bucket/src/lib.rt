@@ -14,6 +14,3 @@ pub use memory::Memory;
 pub use packed::Packed;
 pub use slot::SlotRef;
 pub use step2::Step2;
-
-#[cfg(test)]
-mod tests;

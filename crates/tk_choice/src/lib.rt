@@ -31,6 +31,3 @@ pub fn hits(handle: &Handle, number: u32, bits: u32, out: &mut [u32])
 {
     remainders(&handle.seed2, u64::from(number), 1, bits, out);
 }
-
-#[cfg(test)]
-mod tests;

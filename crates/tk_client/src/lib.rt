@@ -29,6 +29,3 @@ pub use got::Got;
 pub use laws::asked_in_range;
 pub use say_error::SayError;
 pub use take_error::TakeError;
-
-#[cfg(test)]
-mod tests;

@@ -23,6 +23,3 @@ pub use numbers::{u32_at, u64_at};
 pub use read_frame::ReadFrame;
 pub use reply_frame::ReplyFrame;
 pub use write_frame::WriteFrame;
-
-#[cfg(test)]
-mod tests;

@@ -6,6 +6,3 @@ mod stream;
 
 pub use handle::Handle;
 pub use stream::{fill, remainders, word};
-
-#[cfg(test)]
-mod tests;

@@ -15,6 +15,3 @@ pub use choose::xor_choose;
 pub use each::xor_choose_each;
 pub use into::xor_into;
 pub use laws::pieces_and_bytes;
-
-#[cfg(test)]
-mod tests;

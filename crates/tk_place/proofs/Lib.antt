@@ -10,6 +10,5 @@ pub mod Moves
 pub mod Orders
 pub mod Paths
 pub mod Reaching
-pub mod Singles
 pub mod Walks
 pub mod Offers

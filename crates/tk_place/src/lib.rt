@@ -16,6 +16,3 @@ pub use scratch::Scratch;
 pub use search::{Found, find};
 pub use slots::Slots;
 pub use step::Step;
-
-#[cfg(test)]
-mod tests;

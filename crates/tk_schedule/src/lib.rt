@@ -17,8 +17,3 @@ pub use item::{Item, Items};
 pub use laws::{bad_line_is, lines_tell};
 pub use raw::{RawHistory, RawKind, RawLine};
 pub use turns::{closes, place, turn};
-
-#[cfg(test)]
-mod tests;
-#[cfg(test)]
-mod told_tests;

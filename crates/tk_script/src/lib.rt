@@ -50,8 +50,3 @@ pub use round_trip::{parse_printed, parse_printed_with};
 pub use say::{Say, Says};
 pub use script::Script;
 pub use tape_text::print_tape;
-
-#[cfg(test)]
-mod print_tests;
-#[cfg(test)]
-mod tests;

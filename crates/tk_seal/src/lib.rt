@@ -14,6 +14,3 @@ pub use masking::{LONGEST_PAD, mask, unmask};
 pub use plain_form::{plain, plain_text};
 pub use sealing::{open, seal};
 pub use text::allowed;
-
-#[cfg(test)]
-mod tests;

@@ -16,6 +16,3 @@ pub use field::Field;
 pub use memory::Memory;
 pub use shape::{Shape, ShapeError};
 pub use words::Words;
-
-#[cfg(test)]
-mod tests;

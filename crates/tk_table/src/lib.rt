@@ -15,8 +15,3 @@ pub use laws::{
 pub use snapshot::Snapshot;
 pub use table::{Put, Table};
 pub use tk_shape::Memory;
-
-#[cfg(test)]
-mod pressure;
-#[cfg(test)]
-mod tests;

@@ -15,6 +15,3 @@ pub use draws::Draws;
 pub use keyed::KeyedDraws;
 pub use laws::one_text_seals;
 pub use tape::{Tape, TapeError};
-
-#[cfg(test)]
-mod tests;

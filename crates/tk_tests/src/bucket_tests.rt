@@ -1,0 +1,82 @@
+ghost use Rattle.std.specs.Prelude.{◌≡◌, IfOk};
+ghost use Rattle.tk_bucket.specs.Sizes.{IsSizes};
+
+use std::alloc::Global;
+use std::test::Fail;
+use tk_answer::Blocks;
+use tk_bucket::{Buckets, Memory, Packed, Step2};
+
+const BLOCK: [u8; 24] = [0x77; 24];
+
+/// An empty table, of which only the sizes are told.
+fn wide(alloc: Global, buckets: u32, depth: u32, block: u32) -> Result<Buckets, Memory>
+    requires { IsSizes buckets depth block }
+    ensures buckets { IfOk result (λ b. b.contents.buckets ≡ buckets) }
+    ensures depth { IfOk result (λ b. b.contents.depth ≡ depth) }
+    ensures block { IfOk result (λ b. b.contents.block ≡ block) }
+{
+    Buckets::new(alloc, buckets, depth, block)
+}
+
+/// The bytes of all buckets from number `i` on.
+fn bytes_from(packed: &Packed, i: u32) -> Option<&[u8]> {
+    if i < packed.count() {
+        Some(packed.run(i))
+    } else {
+        None
+    }
+}
+
+#[test]
+fn slots_written_moved_and_cleared(rt: HostRuntime) -> Result<(), Fail> {
+    let mut buckets = Buckets::new(rt.alloc(), 2, 2, 24).ok().ok_or("memory")?;
+    assert!(rt; buckets.is_empty(1, 0));
+    buckets.write_slot(1, 0, 0x0102030405060708, (0x090a0b0c, 0x0d0e0f10), &BLOCK);
+    buckets.move_slot(Step2 { bucket: 1, slot: 0 }, Step2 { bucket: 0, slot: 1 });
+    assert!(rt; buckets.is_empty(1, 0));
+    let slot = buckets.slot(0, 1);
+    assert_eq!(rt; slot.position, 0x0102030405060708);
+    assert_eq!(rt; slot.first, 0x090a0b0c);
+    assert_eq!(rt; slot.second, 0x0d0e0f10);
+    assert_eq!(rt; slot.block, BLOCK.as_slice());
+    buckets.clear_slot(0, 1);
+    assert!(rt; buckets.is_empty(0, 1));
+    assert_eq!(rt; buckets.slot(0, 1).block, [0; 24].as_slice());
+    Ok(())
+}
+
+#[test]
+fn snapshot_stays(rt: HostRuntime) -> Result<(), Fail> {
+    let mut buckets = Buckets::new(rt.alloc(), 2, 2, 24).ok().ok_or("memory")?;
+    buckets.write_slot(0, 1, 0x0102030405060708, (0x090a0b0c, 0x0d0e0f10), &BLOCK);
+    let early = buckets.snapshot(rt.alloc()).ok().ok_or("memory")?;
+    buckets.write_slot(1, 0, 1, (1, 0), &BLOCK);
+    buckets.clear_slot(0, 1);
+    let late = buckets.snapshot(rt.alloc()).ok().ok_or("memory")?;
+    // the early one has the first record alone, and the late one the second
+    let mut want = [0; 160];
+    want[40..56].copy_from_slice(&[1, 2, 3, 4, 5, 6, 7, 8, 9, 10, 11, 12, 13, 14, 15, 16]);
+    want[56..80].copy_from_slice(&BLOCK);
+    assert_eq!(rt; bytes_from(&early, 0).ok_or("bucket 0")?, want.as_slice());
+    let mut want = [0; 80];
+    want[7] = 1;
+    want[11] = 1;
+    want[16..40].copy_from_slice(&BLOCK);
+    assert_eq!(rt; bytes_from(&late, 1).ok_or("bucket 1")?, want.as_slice());
+    assert_eq!(rt; bytes_from(&late, 0).ok_or("bucket 0")?.len(), 160);
+    Ok(())
+}
+
+#[test]
+fn buckets_of_eight_slots(rt: HostRuntime) -> Result<(), Fail> {
+    let mut buckets = wide(rt.alloc(), 64, 8, 24).ok().ok_or("memory")?;
+    buckets.write_slot(63, 7, u64::MAX, (u32::MAX, 0), &BLOCK);
+    let packed = buckets.snapshot(rt.alloc()).ok().ok_or("memory")?;
+    assert_eq!(rt; packed.count(), 64);
+    assert_eq!(rt; packed.width(), 320);
+    let last = bytes_from(&packed, 63).ok_or("bucket 63")?;
+    assert_eq!(rt; last.len(), 320);
+    assert_eq!(rt; last.get(280..288), Some([0xff; 8].as_slice()));
+    assert_eq!(rt; last.last(), Some(&0x77));
+    Ok(())
+}

@@ -1,0 +1,270 @@
+use std::alloc::Global;
+use std::test::Fail;
+use tk_script::{Cause, Input, Keys, Script, ScriptError, parse, plain_number};
+use tk_shape::{Field, Memory};
+
+/// The front of a script of drawn words, and the rest of it.
+const HEAD: &[u8] = b"talek 1\nshape 2 8 4 4 24 64 1 0 2 2 1 1\ndrawn\n";
+
+const SCRIPT: &[u8] = b"log 0 1\nsay 1 1 0 hi you\nend\n";
+
+/// The front of a script of keys, of one log and one client.
+const KEYED: &[u8] = b"talek 1\nshape 8 8 4 4 24 64 1 0 1 2 1 1\nkeyed\nlog 0\n";
+
+/// Four words of a handle.
+const FOUR: &[u8] = b"00000000000000aB00000000000000aB00000000000000aB00000000000000aB";
+
+/// The last word of a handle, and the line of a seed.
+const SEED: &[u8] =
+    b"00000000000000aB\nseed 0123456789abcDEF0123456789abcDEF0123456789abcDEF0123456789abcDEF";
+
+/// The parts of a text, one behind the other.
+pub(crate) type Parts = &'static [&'static [u8]];
+
+/// Appends the parts of a text.
+pub(crate) fn join(parts: &[&[u8]], text: &mut Vec<u8>) -> Result<(), Memory> {
+    for part in parts {
+        text.extend_from_slice(part)?;
+    }
+    Ok(())
+}
+
+/// The input that parts of a text spell.
+pub(crate) fn parsed(alloc: Global, parts: &[&[u8]]) -> Result<Input, ScriptError> {
+    let mut text = Vec::new(alloc);
+    join(parts, &mut text)?;
+    parse(alloc, &text)
+}
+
+/// Whether a script has one log, which client 0 writes and client 1 follows, and on which one text
+/// is said.
+fn is_drawn(script: &Script) -> bool {
+    if script.keys.is_some() || script.roles.as_slice().len() != 1 {
+        return false;
+    }
+    let [say] = script.says.as_slice() else {
+        return false;
+    };
+    script.shape.numbers() == [2, 8, 4, 4, 24, 64, 1, 0, 2, 2, 1, 1]
+        && script.roles.as_slice()[0].writer == 0
+        && script.roles.as_slice()[0].followers.as_slice() == [1].as_slice()
+        && (say.phase, say.tick, say.log) == (1, 1, 0)
+        && say.text.as_slice() == b"hi you".as_slice()
+}
+
+const DRAWN_INPUT: Parts = &[HEAD, SCRIPT, b"tape\nfill 11 252\nx aB0c\nfill fF 2\nend\n"];
+
+#[test]
+fn drawn_input(rt: HostRuntime) -> Result<(), Fail> {
+    let Input { first, tape } = parsed(rt.alloc(), DRAWN_INPUT)?;
+    assert!(rt; is_drawn(&first));
+    let tape = tape.expect(&rt, "a tape");
+    assert!(rt; tape.got == 256);
+    assert!(rt;
+        tape.bytes.as_slice().get(251..) == Some([0x11, 0xab, 0x0c, 0xff, 0xff].as_slice())
+    );
+    Ok(())
+}
+
+/// Whether there is one handle, of this number, and one seed.
+fn are_one(keys: &Keys, id: u64) -> bool {
+    match (keys.handles.as_slice(), keys.seeds.as_slice()) {
+        ([handle], [_]) => handle.id == id,
+        _ => false,
+    }
+}
+
+const KEYED_INPUT: Parts = &[
+    KEYED,
+    b"handle ",
+    FOUR,
+    FOUR,
+    FOUR,
+    SEED,
+    b"\nsay 2 1 0 \nend\n",
+];
+
+#[test]
+fn keyed_input(rt: HostRuntime) -> Result<(), Fail> {
+    let Input { first, tape } = parsed(rt.alloc(), KEYED_INPUT)?;
+    assert!(rt; tape.is_none());
+    let keys = first.keys.expect(&rt, "keys");
+    assert!(rt; are_one(&keys, 0xab));
+    Ok(())
+}
+
+/// The rest of a drawn input's text, and how many bytes its tape has.
+const TAPES: [(&[u8], u64); 3] = [
+    (b"tape\nfill 11 256\nend", 256),
+    (b"tape\nend\n", 0),
+    (b"tape\nfill 11 2097152\nfill 11 2097152\nend\n", 4194304),
+];
+
+/// How many bytes the tape of an input has, of which 256 are kept at the most; with none, or more
+/// kept, 1.
+fn counted(alloc: Global, tape: &[u8]) -> Result<u64, ScriptError> {
+    let read = parsed(alloc, &[HEAD, SCRIPT, tape])?.tape;
+    match read {
+        Some(tape) if tape.bytes.as_slice().len() <= 256 => Ok(tape.got),
+        _ => Ok(1),
+    }
+}
+
+#[test]
+fn tapes_counted(rt: HostRuntime) -> Result<(), Fail> {
+    for (tape, got) in &TAPES {
+        assert!(rt; counted(rt.alloc(), tape)? == *got);
+    }
+    Ok(())
+}
+
+/// The parts of a text, the line that is refused, and why.
+const REFUSED: [(Parts, u64, Cause); 27] = [
+    (&[HEAD, SCRIPT], 7, Cause::Early),
+    (&[HEAD, SCRIPT, b"tape\nfill 11 256\n"], 9, Cause::Early),
+    (
+        &[HEAD, SCRIPT, b"tape\nfill 11 256\nend\n\n"],
+        10,
+        Cause::After,
+    ),
+    (
+        &[HEAD, SCRIPT, b"tape\nfill 11 0\nfill 11 256\nend\n"],
+        8,
+        Cause::Number { value: 0 },
+    ),
+    (&[HEAD, SCRIPT, b"tape\nfill 1 256\nend\n"], 8, Cause::Form),
+    (
+        &[HEAD, SCRIPT, b"tape\nfill 11 256 \nend\n"],
+        8,
+        Cause::Form,
+    ),
+    (
+        &[HEAD, SCRIPT, b"tape\nx \nfill 11 256\nend\n"],
+        8,
+        Cause::Form,
+    ),
+    (
+        &[HEAD, SCRIPT, b"tape\nfill 11 255\nx 123\nend\n"],
+        9,
+        Cause::Form,
+    ),
+    (&[HEAD, b"log 0 4294967296\n"], 4, Cause::Form),
+    (&[HEAD, b"log 0 01\n"], 4, Cause::Form),
+    (&[HEAD, b"log 0 2\n"], 4, Cause::Number { value: 2 }),
+    (&[HEAD, b"log 0 1 0\n"], 4, Cause::Order),
+    (
+        &[HEAD, b"log 0 1\nsay 3 1 0 a\n"],
+        5,
+        Cause::Number { value: 3 },
+    ),
+    (
+        &[HEAD, b"log 0 1\nsay 2 1 0 a\nsay 1 1 0 b\nend\n"],
+        6,
+        Cause::Order,
+    ),
+    (
+        &[HEAD, b"log 0 1\nsay 1 1 0 abcdefg\n"],
+        5,
+        Cause::Room { room: 6 },
+    ),
+    (
+        &[HEAD, b"log 0 1\nsay 1 1 0 ab\tc\n"],
+        5,
+        Cause::Text { at: 2 },
+    ),
+    (&[HEAD, b"log 0 1\nsay 1 1 0\nend\n"], 5, Cause::Form),
+    (
+        &[
+            KEYED,
+            b"handle ",
+            FOUR,
+            FOUR,
+            b"00000000000000aB00000000000000aB00000000000000aB",
+            SEED,
+            b"\nend\n",
+        ],
+        5,
+        Cause::Form,
+    ),
+    (
+        &[KEYED, b"handle ", FOUR, FOUR, FOUR, SEED, b" \nend\n"],
+        6,
+        Cause::Form,
+    ),
+    (
+        &[
+            KEYED,
+            b"handle ",
+            FOUR,
+            FOUR,
+            FOUR,
+            SEED,
+            b"\nend\ntape\nend\n",
+        ],
+        8,
+        Cause::After,
+    ),
+    (
+        &[KEYED, b"handle ", FOUR, FOUR, FOUR, SEED, b"\n"],
+        7,
+        Cause::Early,
+    ),
+    (
+        &[b"talek 1\nshape ", b"2 8 4 4 24 64 1 0 2 2 1\ndrawn\n"],
+        2,
+        Cause::Form,
+    ),
+    (
+        &[b"talek 1\nshape ", b"9 8 4 5 24 64 1 9 2 2 1 1\ndrawn\n"],
+        2,
+        Cause::Shape {
+            field: Field::Servers,
+            value: 9,
+        },
+    ),
+    (
+        &[b"talek 1\nshape ", b"2 8 4 33 24 64 1 1 2 2 1 1\ndrawn\n"],
+        2,
+        Cause::Shape {
+            field: Field::Retained,
+            value: 33,
+        },
+    ),
+    (
+        &[b"talek 1\nshape ", b"2 8 4 32 24 64 1 0 2 2 1 1\ndrawn\n"],
+        4,
+        Cause::Early,
+    ),
+    (
+        &[b"talek 1\nshape ", b"2 8 4 4 24 64 1 8 2 2 1 1\ndrawn\n"],
+        4,
+        Cause::Early,
+    ),
+    (
+        &[b"talek 1\nshape ", b"2 8 4 4 24 64 1 0 2 2 1 1\ndrown\n"],
+        3,
+        Cause::Form,
+    ),
+];
+
+#[test]
+fn first_bad_line_named(rt: HostRuntime) {
+    for &(parts, line, cause) in &REFUSED {
+        let error = parsed(rt.alloc(), parts).err();
+        assert!(rt; error == Some(ScriptError::Line { line, cause }));
+    }
+}
+
+const NUMBERS: [(&[u8], Option<u64>); 4] = [
+    (b"0", Some(0)),
+    (b"18446744073709551615", Some(u64::MAX)),
+    (b"18446744073709551616", None),
+    (b"+1", None),
+];
+
+#[test]
+fn plain_numbers(rt: HostRuntime) {
+    for (text, number) in &NUMBERS {
+        assert!(rt; plain_number(text) == *number);
+    }
+}
