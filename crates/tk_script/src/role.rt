@@ -1,3 +1,6 @@
+ghost use Rattle.std.specs.Prelude.{◌≡◌};
+
+use std::alloc::AllocError;
 use std::marker::Model;
 use tk_shape::Words;
 
@@ -6,6 +9,17 @@ use tk_shape::Words;
 pub struct Role {
     pub writer: u32,
     pub followers: Words,
+}
+
+impl Clone for Role {
+    ghost is_clone = { λ x y. y ≡ x };
+
+    fn clone(&self) -> Result<Role, AllocError> {
+        Ok(Role {
+            writer: self.writer,
+            followers: self.followers.clone()?,
+        })
+    }
 }
 
 /// The role of each log, by number; seen as their list.
@@ -42,5 +56,14 @@ impl Roles {
         ensures { result.items ≡ self }
     {
         self.items
+    }
+}
+
+impl Clone for Roles {
+    ghost is_clone = { λ x y. y ≡ x };
+
+    fn clone(&self) -> Result<Roles, AllocError> {
+        let items = self.items.to_vec(*self.items.allocator())?;
+        Ok(Roles { items })
     }
 }
