@@ -31,3 +31,4 @@ pub mod PassingOver
 pub mod FalsePositive
 pub mod ClearTests
 pub mod Offers
+pub mod OutcomeLaws

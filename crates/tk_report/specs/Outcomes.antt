@@ -1,9 +1,26 @@
--- The text of what a run left.
-use Rattle.std.specs.Prelude.{ℕ, List}
+-- The text of what a run left, and what the run of a script leaves.
+use Rattle.std.specs.Prelude.{◌≡◌, ℕ, List}
+use Rattle.tk_schedule.specs.declared.history.History.{History}
+use Rattle.tk_script.specs.declared.script.Script.{Script}
+use Rattle.tk_words.specs.Words.{BookWords}
 use Rattle.tk_report.specs.declared.outcome.Outcome.{Outcome}
+use Rattle.tk_report.specs.Clients.{AreClientsAtEnd}
 use Rattle.tk_report.specs.Leaving.{got_by, unsent_by}
-use Rattle.tk_report.specs.Report.{report_text}
+use Rattle.tk_report.specs.Report.{report_text, report_of}
 
 abbrev pub outcome_text : Outcome → List ℕ
 outcome_text o =
     report_text o.shape o.roles o.history (got_by o.clients) (unsent_by o.clients)
+
+-- the run of a script with these words and this history left it
+pub record IsLeftBy (S : Script) (w : BookWords) (H : History) (o : Outcome) : Type 0 where
+  pub shape : o.shape ≡ S.shape
+  pub roles : o.roles ≡ S.roles
+  pub history : o.history ≡ H
+  pub clients : AreClientsAtEnd S w H o.clients
+
+-- its text is the report of the run
+abbrev pub OutcomesReport : Type 0
+OutcomesReport =
+    (S : Script) (w : BookWords) (H : History) (o : Outcome) → IsLeftBy S w H o →
+    outcome_text o ≡ report_of S w H

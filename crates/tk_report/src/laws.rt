@@ -10,6 +10,7 @@ ghost use Rattle.tk_report.specs.Delivered.{EpochsStorable, BytesGiveLookup};
 ghost use Rattle.tk_report.specs.Histories.{ReportsShow, ShowsOne, OrdersAndEpochsTell};
 ghost use Rattle.tk_report.specs.Histories.{EntriesTellOrders, TurnsReadOff};
 ghost use Rattle.tk_report.specs.Leaving.{EndsLeave, EndsReport};
+ghost use Rattle.tk_report.specs.Outcomes.{OutcomesReport};
 ghost use Rattle.tk_report.specs.PassingOver.{HonestPassingOver, RecordsAreShown};
 ghost use Rattle.tk_report.specs.Queues.{QueuesSend};
 
@@ -92,4 +93,5 @@ pub fn laid_out()
 pub fn ends()
     ensures leave { EndsLeave }
     ensures report { EndsReport }
+    ensures outcome { OutcomesReport }
 {}

@@ -1,4 +1,5 @@
 use Rattle.tk_report.proofs.LeavingLaws.{ends-leave, ends-text}
+use Rattle.tk_report.proofs.OutcomeLaws.{outcomes-report}
 use Rattle.tk_report.proofs.laws.ends.Goals as goal
 
 pub returns-clause-leave : goal.returns-clause-leave
@@ -6,3 +7,6 @@ returns-clause-leave c = ends-leave
 
 pub returns-clause-report : goal.returns-clause-report
 returns-clause-report c = ends-text
+
+pub returns-clause-outcome : goal.returns-clause-outcome
+returns-clause-outcome c = outcomes-report
