@@ -1,0 +1,302 @@
+-- What a client takes from the replies to its read.
+use Rattle.std.proofs.Common.{◌≡◌, refl, None, ap, ap₂, sym, subst, ◌∙◌, arith}
+use Rattle.std.proofs.Common.{add-one, ℕ, ◌+◌, ◌<◌, List, [], ◌∷◌, ◌++◌, length, map, Option, Some}
+use Rattle.std.proofs.Common.{zero, suc, ◌≤◌, inl, inr}
+use Rattle.std.specs.Prelude.{slice_index_or, IsSome}
+use Rattle.std.proofs.lemmas.Bool.{cases_lt}
+use Rattle.std.proofs.lemmas.List.FromFn.{length-map-range_with_len}
+use Rattle.std.specs.List.{AllByRecursion, range_with_len}
+use Rattle.std.proofs.lemmas.List.{length-map}
+use Rattle.std.proofs.lemmas.List.Elements.{recursion_from_All, All-from_get_or}
+use Rattle.tk_shape.specs.declared.shape.Shape.{Shape}
+use Rattle.tk_shape.specs.Lengths.{width}
+use Rattle.tk_kernel.specs.Xor.{xor_all}
+use Rattle.tk_kernel.specs.Chosen.{chosen_sum, chosen_from}
+use Rattle.tk_kernel.proofs.Offers.{length-xor_all, AllSized-chosen_from}
+use Rattle.tk_words.specs.Words.{WordBook, BookWords, words_of, opened as opens_to, fresh_vectors}
+use Rattle.tk_frames.specs.declared.read_frame.ReadFrame.{ReadFrame}
+use Rattle.tk_frames.specs.declared.reply_frame.ReplyFrame.{ReplyFrame}
+use Rattle.tk_frames.specs.Ranges.{IsRead, IsReply}
+use Rattle.tk_frames.specs.Spelling.{reply_frame}
+use Rattle.tk_frames.specs.Order.{Record}
+use Rattle.tk_frames.specs.Slots.{slots_in, text_among}
+use Rattle.tk_table.specs.Ordered.{AreOrdered}
+use Rattle.tk_table.specs.Table.{layout}
+use Rattle.tk_bucket.specs.Bytes.{blocks_of}
+use Rattle.tk_table.specs.Laws.{IsStorable, block_at}
+use Rattle.tk_table.proofs.Offers.{layout-laid_out}
+use Rattle.tk_table.proofs.Offers.{layout-read_back, layout-as_read}
+use Rattle.tk_client.specs.declared.target.Target.{Target}
+use Rattle.tk_client.specs.Reader.{at_epoch, after_read}
+use Rattle.tk_client.specs.Client.{ClientState, after_replies}
+use Rattle.tk_client.specs.Replies.{answer_in, frames_in, first_joined, second_joined}
+use Rattle.tk_client.proofs.Offers.{frames_in-spelled}
+use Rattle.tk_client.specs.Asked.{asked, AreWhole, IsPair, pair_for}
+use Rattle.tk_schedule.specs.declared.history.History.{History}
+use Rattle.tk_schedule.specs.Schedule.{IsLegal, epoch_at}
+use Rattle.tk_shape.specs.Lengths.{turn_count}
+use Rattle.tk_words.specs.Words.{IsBook}
+use Rattle.tk_client.proofs.Offers.{asked-in_range, pair-in_range, fresh-whole}
+use Rattle.tk_report.proofs.Offers.{epochs-ordered, epochs-storable}
+use Rattle.tk_script.specs.declared.script.Script.{Script}
+use Rattle.tk_report.specs.Queues.{writing_before}
+use Rattle.tk_report.specs.Report.{lookup, answered, read_over, target_at, reader_before}
+use Rattle.tk_report.specs.Report.{reader_step}
+use Rattle.tk_table.specs.Replies.{reply_to}
+use Rattle.tk_report.specs.Exchange.{read_at}
+use Rattle.tk_run.specs.Clients.{idle, client_before, client_wrote, client_asked}
+use Rattle.tk_run.specs.Rows.{Frame, AreRows}
+use Rattle.tk_run.specs.Servers.{AreReads}
+use Rattle.tk_run.specs.Turns.{reads_for, posed, reply_at, replies_to, replied}
+use Rattle.tk_run.proofs.ReadingLaws.{map-map, epoch-most}
+use Rattle.tk_run.proofs.AskingLaws.{asked-read_at}
+use Rattle.tk_run.proofs.JoiningLaws.{AreBlocks, replies_join}
+
+-- the blocks of a table: one for each bucket, each of a bucket's width
+pub blocks-whole : (shape : Shape) (R : List Record) → AreOrdered shape R →
+    AllByRecursion (IsStorable shape) R → AreBlocks shape (blocks_of (layout shape R))
+blocks-whole shape R ordered storable =
+    let blocks = blocks_of (layout shape R) in
+    let each : length blocks ≡ shape.buckets =
+    length-map (layout shape R) _ ∙ (layout-laid_out shape R ordered).wide
+    in
+    record {
+      each = each;
+      sized =
+          recursion_from_All (λ v. length v ≡ width shape) blocks
+          (All-from_get_or (λ v. length v ≡ width shape) blocks [] (λ k low.
+          (layout-read_back shape R k ordered storable (omega (arith, low, each))).long));
+    }
+
+-- what is taken from the sums of the replies is what is looked up
+pub text-taken : (shape : Shape) (b : WordBook) (R : List Record) (g c e : ℕ) (t : Target)
+    (reads : List ReadFrame) (replies : List ReplyFrame) (first second : List ℕ)
+    (o : Option (List ℕ)) → let w = words_of shape b in
+    AreOrdered shape R → AllByRecursion (IsStorable shape) R →
+    AreWhole shape (fresh_vectors shape b g c) → IsPair shape (pair_for w g c (Some t)) →
+    reads ≡ asked shape b g c e (Some t) → replies ≡ map (reply_to shape R) reads →
+    first ≡ xor_all (width shape) (map (λ (r : ReplyFrame). r.first) replies) →
+    second ≡ xor_all (width shape) (map (λ (r : ReplyFrame). r.second) replies) →
+    o
+    ≡ text_among (w.pair t.log t.number) (opens_to w t.log t.number)
+    (slots_in shape first ++ slots_in shape second) →
+    o ≡ lookup shape w R t.log t.number
+unfolding lookup
+text-taken shape b R g c e t reads replies first second o
+    ordered storable whole within reads_are replies_are first_is second_is text_is =
+    let w = words_of shape b in
+    let pair = w.pair t.log t.number in
+    let opens = opens_to w t.log t.number in
+    let T = layout shape R in
+    let sum = xor_all (width shape) in
+    let join =
+    replies_join shape b R g c e (Some t) whole (blocks-whole shape R ordered storable) within
+    in
+    let all = replies_are ∙ ap (map (reply_to shape R)) reads_are in
+    let first_block : first ≡ block_at T pair.0 =
+    first_is ∙ ap (λ rs. sum (map (λ (r : ReplyFrame). r.first) rs)) all ∙ join.first
+    in
+    let second_block : second ≡ block_at T pair.1 =
+    second_is ∙ ap (λ rs. sum (map (λ (r : ReplyFrame). r.second) rs)) all ∙ join.second
+    in
+    text_is
+    ∙ ap₂ (λ (x y : List ℕ). text_among pair opens (slots_in shape x ++ slots_in shape y))
+    first_block second_block
+    ∙ layout-as_read shape R pair opens ordered storable within.first within.second
+
+-- so the answer to a read is what is looked up for its target
+pub answer-taken : (shape : Shape) (b : WordBook) (R : List Record) (g c e : ℕ) (t : Option Target)
+    (replies : List (List ℕ)) → let w = words_of shape b in
+    AreOrdered shape R → AllByRecursion (IsStorable shape) R →
+    AreWhole shape (fresh_vectors shape b g c) → IsPair shape (pair_for w g c t) →
+    AllByRecursion (IsReply shape) (map (reply_to shape R) (asked shape b g c e t)) →
+    replies ≡ map reply_frame (map (reply_to shape R) (asked shape b g c e t)) →
+    answer_in shape w (frames_in shape replies) t ≡ answered shape w R t
+answer-taken shape b R g c e None replies ordered storable whole within in_range are = refl
+answer-taken shape b R g c e (Some t) replies ordered storable whole within in_range are =
+    let rs = map (reply_to shape R) (asked shape b g c e (Some t)) in
+    ap (λ (fs : List ReplyFrame). answer_in shape (words_of shape b) fs (Some t))
+    (ap (frames_in shape) are ∙ frames_in-spelled shape rs in_range)
+    ∙ text-taken shape b R g c e t (asked shape b g c e (Some t)) rs
+    (first_joined shape rs) (second_joined shape rs) _ ordered storable whole within refl refl refl
+    refl refl
+
+-- ---- in a run
+
+-- the facts of a client's read in a turn
+pub record IsSound (S : Script) (b : WordBook) (H : History) (g c : ℕ) : Type 0 where
+  pub ordered : AreOrdered S.shape (read_over S (words_of S.shape b) H g c)
+  pub storable : AllByRecursion (IsStorable S.shape) (read_over S (words_of S.shape b) H g c)
+  pub whole : AreWhole S.shape (fresh_vectors S.shape b g c)
+  pub pair : IsPair S.shape
+      (pair_for (words_of S.shape b) g c (target_at S (words_of S.shape b) H g c))
+  pub reads : AllByRecursion (IsRead S.shape)
+      (map (read_at S b H g c) (range_with_len 1 S.shape.servers))
+
+-- the replies to a client are those to what it asked
+replies-asked : (S : Script) (b : WordBook) (H : History) (g c : ℕ) →
+    let w = words_of S.shape b in
+    replies_to S b H g S.shape.servers c
+    ≡ map (reply_to S.shape (read_over S w H g c))
+    (asked S.shape b g c (epoch_at H g c) (target_at S w H g c))
+unfolding replies_to
+replies-asked S b H g c =
+    let w = words_of S.shape b in
+    let reply = reply_to S.shape (read_over S w H g c) in
+    sym (map-map reply (read_at S b H g c) (range_with_len 1 S.shape.servers))
+    ∙ ap (map reply) (sym (asked-read_at S b H g c))
+
+sum-long : (shape : Shape) (R : List Record) (vector : List ℕ) → AreOrdered shape R →
+    AllByRecursion (IsStorable shape) R →
+    length (chosen_sum (width shape) (blocks_of (layout shape R)) vector) ≡ width shape
+unfolding chosen_sum
+sum-long shape R vector ordered storable =
+    let blocks = blocks_of (layout shape R) in
+    length-xor_all (width shape) (chosen_from 0 blocks vector)
+    (AllSized-chosen_from (width shape) 0 blocks vector
+    (blocks-whole shape R ordered storable).sized)
+
+-- a reply to a read in range is in range
+reply-in_range : (shape : Shape) (R : List Record) (r : ReadFrame) → AreOrdered shape R →
+    AllByRecursion (IsStorable shape) R → IsRead shape r → IsReply shape (reply_to shape R r)
+reply-in_range shape R r ordered storable in_range =
+    record {
+      client = in_range.client;
+      turn = in_range.turn;
+      epoch = in_range.epoch;
+      first_len = sum-long shape R r.first ordered storable;
+      second_len = sum-long shape R r.second ordered storable;
+    }
+
+each-reply : (shape : Shape) (R : List Record) (reads : List ReadFrame) → AreOrdered shape R →
+    AllByRecursion (IsStorable shape) R → AllByRecursion (IsRead shape) reads →
+    AllByRecursion (IsReply shape) (map (reply_to shape R) reads)
+each-reply shape R [] ordered storable all = tt
+each-reply shape R (r ∷ reads) ordered storable all = (
+  reply-in_range shape R r ordered storable all.0,
+  each-reply shape R reads ordered storable all.1,
+)
+
+replies-in_range : (S : Script) (b : WordBook) (H : History) (g c : ℕ) → IsSound S b H g c →
+    let w = words_of S.shape b in
+    AllByRecursion (IsReply S.shape) (map (reply_to S.shape (read_over S w H g c))
+    (asked S.shape b g c (epoch_at H g c) (target_at S w H g c)))
+replies-in_range S b H g c sound =
+    let w = words_of S.shape b in
+    let R = read_over S w H g c in
+    each-reply S.shape R (asked S.shape b g c (epoch_at H g c) (target_at S w H g c)) sound.ordered
+    sound.storable
+    (subst (AllByRecursion (IsRead S.shape)) (sym (asked-read_at S b H g c)) sound.reads)
+
+reader-next : (S : Script) (w : BookWords) (H : History) (c g : ℕ) →
+    reader_before S w H c (g + 1) ≡ reader_step S w H g c (reader_before S w H c g)
+unfolding reader_before
+reader-next S w H c g = ap (reader_before S w H c) (add-one g)
+
+-- from which it takes what is looked up for its target
+pub client-took : (S : Script) (b : WordBook) (H : History) (g c : ℕ) (old new : ClientState)
+    (replies : List (List ℕ)) → let w = words_of S.shape b in
+    IsSound S b H g c → old ≡ client_asked S w H g c →
+    replies ≡ replied S b H g S.shape.servers c →
+    new ≡ after_replies (words_of old.shape b) replies old → new ≡ client_before S w H (g + 1) c
+unfolding client_asked client_wrote client_before
+client-took S b H g c old new replies sound asked_is replies_are is =
+    let w = words_of S.shape b in
+    let R = read_over S w H g c in
+    let e = epoch_at H g c in
+    let t = target_at S w H g c in
+    let r = reader_before S w H c g in
+    let all = replies_are ∙ ap (map reply_frame) (replies-asked S b H g c) in
+    let answer : answer_in S.shape w (frames_in S.shape replies) t ≡ answered S.shape w R t =
+    answer-taken S.shape b R g c e t replies sound.ordered sound.storable sound.whole sound.pair
+    (replies-in_range S b H g c sound) all
+    in
+    is
+    ∙ ap (λ (s : ClientState). after_replies (words_of s.shape b) replies s) asked_is
+    ∙ ap (λ (o : Option (List ℕ)). idle S.shape c (writing_before S c (g + 1))
+    (after_read S.shape (at_epoch e r) t o)) answer
+    ∙ ap (idle S.shape c (writing_before S c (g + 1))) (sym (reader-next S w H c g))
+
+-- every read of a legal history is sound
+pub all-sound : (S : Script) (b : WordBook) (H : History) (g c : ℕ) → IsBook S.shape b →
+    IsLegal S.shape H → g < turn_count S.shape → c < S.shape.clients → IsSound S b H g c
+all-sound S b H g c serves legal turn_in client_in =
+    let e = epoch_at H g c in
+    let t = target_at S (words_of S.shape b) H g c in
+    record {
+      ordered = epochs-ordered S b H e;
+      storable = epochs-storable S b H e serves legal;
+      whole = fresh-whole S.shape b g c serves turn_in client_in;
+      pair = pair-in_range S.shape b g c t;
+      reads =
+          subst (AllByRecursion (IsRead S.shape)) (asked-read_at S b H g c)
+          (asked-in_range S.shape b g c e t serves turn_in client_in
+          (epoch-most S H g c legal turn_in client_in));
+    }
+
+-- ---- the reads for a server
+
+each-of : {X : Type 0} (P : X → Type 0) (f : ℕ → X) (a n : ℕ) →
+    AllByRecursion P (map f (range_with_len a n)) → (k : ℕ) → a ≤ k → k < a + n → P (f k)
+each-of P f a zero all k low high = absurd (omega (arith, low, high))
+each-of P f a (suc n) all k low high =
+    elim (cases_lt a k) [
+      | inl later ↦
+          each-of P f (a + 1) n all.1 k (omega (arith, later)) (omega (arith, high))
+      | inr first ↦
+          let same : a ≡ k = omega (arith, low, first) in
+          subst (λ (i : ℕ). P (f i)) same all.0
+    ]
+
+all-of : {X : Type 0} (P : X → Type 0) (f : ℕ → X) (a n : ℕ) →
+    ((k : ℕ) → a ≤ k → k < a + n → P (f k)) → AllByRecursion P (map f (range_with_len a n))
+all-of P f a zero each = tt
+all-of P f a (suc n) each = (
+  each a (omega arith) (omega arith),
+  all-of P f (a + 1) n (λ k low high. each k (omega (arith, low)) (omega (arith, high))),
+)
+
+-- what all clients ask of a server in a turn is in range
+reads-in_range : (S : Script) (b : WordBook) (H : History) (g j : ℕ) → IsBook S.shape b →
+    IsLegal S.shape H → g < turn_count S.shape → 1 ≤ j → j ≤ S.shape.servers →
+    AllByRecursion (IsRead S.shape) (reads_for S b H g S.shape.clients j)
+unfolding reads_for
+reads-in_range S b H g j serves legal turn_in low high =
+    all-of (IsRead S.shape) (λ (c : ℕ). read_at S b H g c j) 0 S.shape.clients
+    (λ c from below.
+    each-of (IsRead S.shape) (read_at S b H g c) 1 S.shape.servers
+    (all-sound S b H g c serves legal turn_in (omega (arith, below))).reads j low
+    (omega (arith, high)))
+
+-- so what lies for a server are the frames of reads in range
+pub posed-are : (S : Script) (b : WordBook) (H : History) (g i : ℕ) (rows : List (List Frame))
+    (frames d : List Frame) → IsBook S.shape b → IsLegal S.shape H → g < turn_count S.shape →
+    i < S.shape.servers → AreRows S.shape.servers (posed S b H g S.shape.clients) rows →
+    frames ≡ slice_index_or rows i d →
+    AreReads S.shape (reads_for S b H g S.shape.clients (i + 1)) frames
+posed-are S b H g i rows frames d serves legal turn_in low are is =
+    record {
+      in_range =
+          reads-in_range S b H g (i + 1) serves legal turn_in (omega arith) (omega (arith, low));
+      spelled = is ∙ are.each i d (omega (arith, low, are.counted));
+    }
+
+-- ---- what a client is before it takes replies
+
+module _ (S : Script) (w : BookWords) (H : History) (g c : ℕ) (client : ClientState)
+    (is : client ≡ client_asked S w H g c) where
+  pub asked-shape : client.shape ≡ S.shape
+  unfolding client_asked client_wrote
+  asked-shape = ap (λ (s : ClientState). s.shape) is
+
+  pub asked-open : IsSome client.read
+  unfolding client_asked client_wrote
+  asked-open = subst (λ (s : ClientState). IsSome s.read) (sym is) refl
+
+-- as many replies come as there are servers
+pub replied-counted : (S : Script) (b : WordBook) (H : History) (g n c : ℕ)
+    (replies : List (List ℕ)) → replies ≡ replied S b H g n c → length replies ≡ n
+unfolding replies_to
+replied-counted S b H g n c replies are =
+    ap length are ∙ length-map (map (λ j. reply_at S b H g j c) (range_with_len 1 n)) _
+    ∙ length-map-range_with_len (λ j. reply_at S b H g j c) 1 n

@@ -1,0 +1,145 @@
+-- A server that takes an entry, and one that answers reads.
+use Rattle.std.proofs.Common.{◌≡◌, refl, ap, ap₂, sym, ◌∙◌, arith, ℕ, zero, suc, ◌+◌, ◌-◌, ◌<◌, ◌≤◌}
+use Rattle.std.proofs.Common.{List, [], ◌∷◌, ◌++◌, length, map, take, flat_map, append_assoc}
+use Rattle.std.proofs.Common.{append-nil}
+use Rattle.std.proofs.Common.{add-one}
+use Rattle.std.specs.Prelude.{slice_index_or}
+use Rattle.std.specs.List.{AllByRecursion}
+use Rattle.std.proofs.lemmas.List.{length-map, drop_at, take_at}
+use Rattle.std.proofs.lemmas.Nat.{from_be_bytes-to_be_bytes_4, mul-le}
+use Rattle.tk_shape.specs.declared.shape.Shape.{Shape}
+use Rattle.tk_shape.specs.Lengths.{vector_len}
+use Rattle.tk_frames.specs.declared.entry.Placed.{Placed}
+use Rattle.tk_frames.specs.declared.read_frame.ReadFrame.{ReadFrame}
+use Rattle.tk_frames.specs.Fields.{number_at, read_in}
+use Rattle.tk_frames.specs.Order.{before}
+use Rattle.tk_frames.specs.Ranges.{IsRead}
+use Rattle.tk_frames.specs.Spelling.{read_frame, reply_frame}
+use Rattle.tk_frames.specs.InOrder.{mark_count}
+use Rattle.tk_frames.proofs.Offers.{marks-append}
+use Rattle.tk_replica.specs.Replies.{reply_for, reply_due, reply_bytes}
+use Rattle.tk_report.specs.Exchange.{bytes_of, with_reply}
+use Rattle.tk_run.specs.Rows.{Frame, in_pairs}
+use Rattle.tk_run.specs.Servers.{AreReads, answered}
+
+-- ---- an entry
+
+-- the epoch before the last isn't lower with one entry more
+pub floor-below : (E : List Placed) (p : Placed) (floor last : ℕ) → floor ≡ mark_count E - 1 →
+    last ≡ mark_count (E ++ p ∷ []) → floor ≤ last - 1
+floor-below E p floor last low high = omega (arith, low, high, marks-append E (p ∷ []))
+
+-- ---- reads
+
+take-none : (xs : List Frame) → take 0 xs ≡ []
+take-none [] = refl
+take-none (x ∷ xs) = refl
+
+-- one pair more
+pairs-next : (fs rs : List Frame) (i : ℕ) (d e : Frame) → i < length fs → i < length rs →
+    in_pairs (take (suc i) fs) (take (suc i) rs)
+    ≡ in_pairs (take i fs) (take i rs) ++ (slice_index_or fs i d ++ slice_index_or rs i e)
+pairs-next [] rs i d e low below = absurd (omega (arith, low))
+pairs-next (f ∷ fs) [] i d e low below = absurd (omega (arith, below))
+pairs-next (f ∷ fs) (r ∷ rs) zero d e low below =
+    ap₂ (λ (xs ys : List Frame). (f ++ r) ++ in_pairs xs ys) (take-none fs) (take-none rs)
+    ∙ append-nil (f ++ r)
+pairs-next (f ∷ fs) (r ∷ rs) (suc i) d e low below =
+    let so_far = in_pairs (take i fs) (take i rs) in
+    let both = slice_index_or fs i d ++ slice_index_or rs i e in
+    ap (λ (bytes : List ℕ). (f ++ r) ++ bytes)
+    (pairs-next fs rs i d e (omega (arith, low)) (omega (arith, below)))
+    ∙ sym (append_assoc (f ++ r) so_far both)
+
+-- a read and its reply are seen behind the pairs so far
+pub pairs-seen : (fs rs : List Frame) (i : ℕ) (f r : Frame) (first old mid new : List ℕ) →
+    i < length fs → i < length rs → f ≡ slice_index_or fs i f → r ≡ slice_index_or rs i r →
+    old ≡ first ++ in_pairs (take i fs) (take i rs) → mid ≡ old ++ f → new ≡ mid ++ r →
+    new ≡ first ++ in_pairs (take (i + 1) fs) (take (i + 1) rs)
+pairs-seen fs rs i f r first old mid new low below here there so_far one two =
+    let pairs = in_pairs (take i fs) (take i rs) in
+    two ∙ ap (λ (bytes : List ℕ). bytes ++ r) one
+    ∙ append_assoc old f r
+    ∙ ap (λ (bytes : List ℕ). bytes ++ (f ++ r)) so_far
+    ∙ append_assoc first pairs (f ++ r)
+    ∙ ap₂ (λ (xs ys : Frame). first ++ (pairs ++ (xs ++ ys))) here there
+    ∙ ap (λ (bytes : List ℕ). first ++ bytes) (sym (pairs-next fs rs i f r low below))
+    ∙ ap (λ (n : ℕ). first ++ in_pairs (take n fs) (take n rs)) (sym (add-one i))
+
+-- ---- what is answered
+
+-- a read is what its spelling spells
+read-spelled : (shape : Shape) (r : ReadFrame) → IsRead shape r →
+    read_in shape (read_frame r) ≡ r
+read-spelled shape r is =
+    let bytes = read_frame r in
+    let turns =
+    mul-le shape.phases shape.ticks 256 64 shape.in_range.phases_high shape.in_range.ticks_high
+    in
+    let client : number_at 2 bytes ≡ r.client =
+    from_be_bytes-to_be_bytes_4 r.client (omega (arith, is.client, shape.in_range.clients_high))
+    in
+    let turn : number_at 6 bytes ≡ r.turn =
+    from_be_bytes-to_be_bytes_4 r.turn (omega (arith, is.turn, turns))
+    in
+    let epoch : number_at 10 bytes ≡ r.epoch =
+    from_be_bytes-to_be_bytes_4 r.epoch (omega (arith, is.epoch, shape.in_range.phases_high))
+    in
+    let first = take_at r.first r.second (vector_len shape) is.first_len in
+    let second = drop_at r.first r.second (vector_len shape) is.first_len in
+    λ i. record {
+      client = client i;
+      turn = turn i;
+      epoch = epoch i;
+      first = first i;
+      second = second i;
+    }
+
+one-reply : (shape : Shape) (E : List Placed) (r : ReadFrame) → IsRead shape r →
+    reply_bytes shape E (read_frame r) ≡ reply_frame (reply_for shape E r)
+unfolding reply_due
+one-reply shape E r in_range =
+    ap (λ (x : ReadFrame). reply_frame (reply_for shape E x)) (read-spelled shape r in_range)
+
+each-reply : (shape : Shape) (E : List Placed) (reads : List ReadFrame) →
+    AllByRecursion (IsRead shape) reads →
+    map (reply_bytes shape E) (map read_frame reads)
+    ≡ map reply_frame (map (reply_for shape E) reads)
+each-reply shape E [] all = refl
+each-reply shape E (r ∷ reads) all =
+    ap₂ (λ (x : Frame) (xs : List Frame). x ∷ xs) (one-reply shape E r all.0)
+    (each-reply shape E reads all.1)
+
+-- the replies to frames are those to the reads that they spell
+pub replies-are : (shape : Shape) (E : List Placed) (reads : List ReadFrame)
+    (frames replies : List Frame) → AreReads shape reads frames →
+    replies ≡ map (reply_bytes shape E) frames →
+    replies ≡ map reply_frame (map (reply_for shape E) reads)
+replies-are shape E reads frames replies are is =
+    is ∙ ap (map (reply_bytes shape E)) are.spelled ∙ each-reply shape E reads are.in_range
+
+pub replies-counted : (shape : Shape) (E : List Placed) (frames replies : List Frame) →
+    replies ≡ map (reply_bytes shape E) frames → length replies ≡ length frames
+replies-counted shape E frames replies is = ap length is ∙ length-map frames _
+
+each-pair : (shape : Shape) (E : List Placed) (reads : List ReadFrame) →
+    in_pairs (map read_frame reads) (map reply_frame (map (reply_for shape E) reads))
+    ≡ flat_map (λ r. bytes_of (with_reply shape (before E r.epoch) r)) reads
+unfolding with_reply
+each-pair shape E [] = refl
+each-pair shape E (r ∷ reads) =
+    let read = read_frame r in
+    let reply = reply_frame (reply_for shape E r) in
+    let rest = flat_map (λ x. bytes_of (with_reply shape (before E x.epoch) x)) reads in
+    ap (λ (bytes : List ℕ). (read ++ reply) ++ bytes) (each-pair shape E reads)
+    ∙ ap (λ (bytes : List ℕ). (read ++ bytes) ++ rest) (sym (append-nil reply))
+
+-- what is seen of reads and replies is what a server sees of reads that it answers
+pub pairs-are : (shape : Shape) (E : List Placed) (reads : List ReadFrame)
+    (frames replies : List Frame) (bytes old new : List ℕ) → AreReads shape reads frames →
+    replies ≡ map reply_frame (map (reply_for shape E) reads) →
+    old ≡ bytes → new ≡ old ++ in_pairs frames replies → new ≡ bytes ++ answered shape E reads
+unfolding answered
+pairs-are shape E reads frames replies bytes old new are replied was is =
+    is ∙ ap₂ (λ (xs ys : List Frame). old ++ in_pairs xs ys) are.spelled replied
+    ∙ ap₂ (λ (xs ys : List ℕ). xs ++ ys) was (each-pair shape E reads)

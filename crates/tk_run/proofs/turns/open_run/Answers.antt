@@ -1,0 +1,17 @@
+-- Each part of a run is opened as it is before the first turn.
+use Rattle.std.proofs.Common.{sym}
+use Rattle.tk_words.specs.Words.{words_of}
+use Rattle.tk_report.proofs.Offers.{said-none}
+use Rattle.tk_run.proofs.PlacingLaws.{servers-first}
+use Rattle.tk_run.proofs.turns.open_run.Goals as goal
+
+pub returns : goal.returns
+returns c b H =
+    let S = c.args.script.now in
+    let words = words_of S.shape b in
+    record {
+      said = sym (said-none S);
+      clients = c.in_ok-open_clients.ensures words H;
+      servers =
+          servers-first S words H c.in_ok-open_servers.field-0.items c.in_ok-open_servers.ensures;
+    }

@@ -1,0 +1,15 @@
+-- A run that isn't opened gives the taps nothing.
+use Rattle.std.proofs.Common.{ℕ}
+use Rattle.tk_report.specs.Exchange.{exchange, bytes_of}
+use Rattle.tk_run.proofs.ErrorLaws.{on_err}
+use Rattle.tk_run.proofs.GivingLaws.{fronts-none}
+use Rattle.tk_run.proofs.turns.take_turns.Goals as goal
+
+pub returns-in_err-run-clause-err : goal.returns-in_err-run-clause-err
+returns-in_err-run-clause-err g c =
+    let S = c.args.plan.now.script.now in
+    let book = g.D.Draws.book c.args.plan.now.draws.now in
+    let H = c.args.plan.now.history.now in
+    on_err _ c.from_residual.result
+    (fronts-none S.shape.servers (λ (j : ℕ). bytes_of (exchange S book H j))
+    (g.T.Taps.tap c.args.taps.now))

@@ -1,0 +1,81 @@
+-- A server of a run: the entries that its replica has applied, and what it saw.
+use Rattle.std.specs.Prelude.{◌≡◌, ℕ, ◌+◌, ◌-◌, ◌<◌, List, [], length, map, flat_map}
+use Rattle.std.specs.Prelude.{slice_index_or}
+use Rattle.std.specs.List.{AllByRecursion}
+use Rattle.tk_shape.specs.declared.shape.Shape.{Shape}
+use Rattle.tk_frames.specs.declared.entry.Placed.{Placed}
+use Rattle.tk_frames.specs.declared.entry.Entry.{Entry}
+use Rattle.tk_frames.specs.declared.read_frame.ReadFrame.{ReadFrame}
+use Rattle.tk_frames.specs.Ranges.{IsRead}
+use Rattle.tk_frames.specs.Spelling.{read_frame}
+use Rattle.tk_frames.specs.Order.{before}
+use Rattle.tk_frames.specs.InOrder.{IsNext, mark_count}
+use Rattle.tk_replica.specs.Replica.{StandsFor}
+use Rattle.tk_report.specs.Exchange.{bytes_of, with_reply}
+use Rattle.tk_run.specs.declared.server.Server.{Server}
+
+-- Its replica has applied these entries and keeps the last epoch and the one before it, and it saw
+-- these bytes since they were last given away.
+pub record IsServer (shape : Shape) (E : List Placed) (bytes : List ℕ) (s : Server) : Type 0 where
+  pub state : StandsFor shape E s.state
+  pub floor : s.state.floor ≡ mark_count E - 1
+  pub seen : s.seen.items ≡ bytes
+
+-- a server for each number from 1 on; seen gives what each saw
+pub record AreServers (shape : Shape) (E : List Placed) (seen : ℕ → List ℕ)
+    (servers : List Server) : Type 0 where
+  pub counted : length servers ≡ shape.servers
+  pub each : (i : ℕ) (d : Server) → i < length servers →
+      IsServer shape E (seen (i + 1)) (slice_index_or servers i d)
+
+-- a server has seen nothing that isn't given away
+abbrev pub nothing_seen : ℕ → List ℕ
+nothing_seen j = []
+
+-- a server for which this entry is the next one
+pub record MayTake (p : Placed) (s : Server) : Type 0 where
+  pub shape : Shape
+  pub E : List Placed
+  pub bytes : List ℕ
+  pub is : IsServer shape E bytes s
+  pub next : IsNext shape E p
+
+-- servers for which it is
+pub record MayTakeAll (p : Placed) (servers : List Server) : Type 0 where
+  pub shape : Shape
+  pub E : List Placed
+  pub seen : ℕ → List ℕ
+  pub are : AreServers shape E seen servers
+  pub next : IsNext shape E p
+
+-- an entry at the place behind these
+abbrev pub next_placed : List Placed → Entry → Placed
+next_placed E entry = record { position = length E + 1; entry = entry }
+
+-- servers for which this entry is the next one, wherever they stand
+pub record MayPlace (entry : Entry) (servers : List Server) : Type 0 where
+  pub shape : Shape
+  pub E : List Placed
+  pub seen : ℕ → List ℕ
+  pub are : AreServers shape E seen servers
+  pub next : IsNext shape E (next_placed E entry)
+
+-- ---- reads
+
+-- what a server sees of reads that it answers: each with its reply
+unfoldable pub answered : Shape → List Placed → List ReadFrame → List ℕ
+answered shape E reads = flat_map (λ r. bytes_of (with_reply shape (before E r.epoch) r)) reads
+
+-- these are the frames of reads that are in range
+pub record AreReads (shape : Shape) (reads : List ReadFrame) (frames : List (List ℕ)) : Type 0 where
+  pub in_range : AllByRecursion (IsRead shape) reads
+  pub spelled : frames ≡ map read_frame reads
+
+-- a server that is asked such reads
+pub record MayAnswer (frames : List (List ℕ)) (s : Server) : Type 0 where
+  pub shape : Shape
+  pub E : List Placed
+  pub bytes : List ℕ
+  pub reads : List ReadFrame
+  pub is : IsServer shape E bytes s
+  pub are : AreReads shape reads frames

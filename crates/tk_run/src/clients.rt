@@ -1,0 +1,67 @@
+ghost use Rattle.std.specs.Prelude.{◌≡◌, ◌<◌, IfOk};
+ghost use Rattle.tk_schedule.specs.declared.history.History.{History};
+ghost use Rattle.tk_words.specs.Words.{BookWords};
+ghost use Rattle.tk_client.specs.Client.{new_client};
+ghost use Rattle.tk_run.specs.Clients.{AreClients, client_before};
+ghost use Rattle.tk_report.specs.Queues.{writes_of};
+ghost use Rattle.tk_report.specs.Report.{follows_of};
+
+use std::alloc::Global;
+use tk_client::Client;
+use tk_script::Script;
+use tk_shape::Memory;
+
+/// Each client of a script, by number, before the first turn.
+pub(crate) fn open_clients(alloc: Global, script: &Script) -> Result<Vec<Client>, Memory>
+    ensures { (w : BookWords) (H : History) → IfOk result (λ clients.
+        AreClients script.now.shape.clients (client_before script.now w H 0) clients.items) }
+{
+    let mut clients = Vec::new(alloc);
+    for number in 0..script.shape.clients {
+        clients.push(open_client(alloc, script, number)?)?;
+    }
+    Ok(clients)
+}
+
+/// A client of a script, before the first turn.
+fn open_client(alloc: Global, script: &Script, number: u32) -> Result<Client, Memory>
+    requires { number < script.now.shape.clients }
+    ensures { let S = script.now in IfOk result (λ c.
+        c ≡ new_client S.shape number (writes_of S number) (follows_of S number)) }
+{
+    let writes = logs_written(alloc, script, number)?;
+    let follows = logs_followed(alloc, script, number)?;
+    Client::open(
+        alloc,
+        &script.shape,
+        number,
+        writes.as_slice(),
+        follows.as_slice(),
+    )
+}
+
+/// The logs that a client writes, ascending.
+fn logs_written(alloc: Global, script: &Script, client: u32) -> Result<Vec<u32>, Memory>
+    ensures { IfOk result (λ logs. logs.items ≡ writes_of script.now client) }
+{
+    let mut logs = Vec::new(alloc);
+    for log in 0..script.shape.logs {
+        if script.role(log).writer == client {
+            logs.push(log)?;
+        }
+    }
+    Ok(logs)
+}
+
+/// The logs that a client follows, ascending.
+fn logs_followed(alloc: Global, script: &Script, client: u32) -> Result<Vec<u32>, Memory>
+    ensures { IfOk result (λ logs. logs.items ≡ follows_of script.now client) }
+{
+    let mut logs = Vec::new(alloc);
+    for log in 0..script.shape.logs {
+        if script.role(log).followers.as_slice().contains(&client) {
+            logs.push(log)?;
+        }
+    }
+    Ok(logs)
+}

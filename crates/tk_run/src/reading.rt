@@ -1,0 +1,120 @@
+ghost use Rattle.std.specs.Prelude.{◌≡◌, ◌<◌, ◌+◌, length, IfOk, OnOk};
+ghost use Rattle.tk_shape.specs.Lengths.{turn_count};
+ghost use Rattle.tk_schedule.specs.Schedule.{order_at};
+ghost use Rattle.tk_words.specs.Words.{words_of};
+ghost use Rattle.tk_run.specs.Clients.{AreClients, client_wrote, client_asked, client_before};
+ghost use Rattle.tk_run.specs.Rows.{AreRows};
+ghost use Rattle.tk_run.specs.Servers.{AreServers};
+ghost use Rattle.tk_run.specs.Turns.{placed_before, posed, replied, entries_seen, turn_seen};
+
+use crate::asking::ask_all;
+use crate::frames::{Frames, deal, empty_rows};
+use crate::plan::Plan;
+use crate::server::Server;
+use std::alloc::Global;
+use tk_client::Client;
+use tk_shape::Memory;
+use tk_words::Draws;
+
+/// The reads of a turn: all clients ask, each server answers what is for it in one pass, and the
+/// clients take the replies.
+pub(crate) fn read_turn<D: Draws>(
+    alloc: Global,
+    plan: &Plan<D>,
+    turn: u32,
+    clients: &mut [Client],
+    servers: &mut [Server],
+) -> Result<(), Memory>
+    requires turn_in { turn < turn_count plan.now.script.now.shape }
+    requires clients { let S = plan.now.script.now in
+        let words = words_of S.shape (D.book plan.now.draws.now) in
+        AreClients S.shape.clients (client_wrote S words plan.now.history.now turn) clients.old }
+    requires servers { let S = plan.now.script.now in
+        let words = words_of S.shape (D.book plan.now.draws.now) in
+        let history = plan.now.history.now in
+        let all = length (order_at history turn) in
+        AreServers S.shape (placed_before S words history (turn + 1))
+        (entries_seen S words history turn all) servers.old }
+    ensures clients { let S = plan.now.script.now in
+        let words = words_of S.shape (D.book plan.now.draws.now) in
+        OnOk result (AreClients S.shape.clients
+        (client_before S words plan.now.history.now (turn + 1)) clients.new) }
+    ensures servers { let S = plan.now.script.now in
+        let book = D.book plan.now.draws.now in
+        let history = plan.now.history.now in
+        OnOk result (AreServers S.shape
+        (placed_before S (words_of S.shape book) history (turn + 1))
+        (turn_seen S book history turn) servers.new) }
+{
+    let asked = ask_all(alloc, plan, turn, clients, &servers[0])?;
+    let replies = answer_all(alloc, plan, turn, asked.as_slice(), servers)?;
+    take_replies(alloc, plan, turn, replies.as_slice(), clients)
+}
+
+/// Each server answers the reads that are for it. The replies lie in a list for each client, by
+/// server.
+fn answer_all<D: Draws>(
+    alloc: Global,
+    plan: &Plan<D>,
+    turn: u32,
+    asked: &[Frames],
+    servers: &mut [Server],
+) -> Result<Vec<Frames>, Memory>
+    requires turn_in { turn < turn_count plan.now.script.now.shape }
+    requires posed { let S = plan.now.script.now in
+        AreRows S.shape.servers
+        (posed S (D.book plan.now.draws.now) plan.now.history.now turn S.shape.clients) asked.now }
+    requires servers { let S = plan.now.script.now in
+        let words = words_of S.shape (D.book plan.now.draws.now) in
+        let history = plan.now.history.now in
+        let all = length (order_at history turn) in
+        AreServers S.shape (placed_before S words history (turn + 1))
+        (entries_seen S words history turn all) servers.old }
+    ensures replies { let S = plan.now.script.now in
+        let book = D.book plan.now.draws.now in
+        IfOk result (λ rows. AreRows S.shape.clients
+        (replied S book plan.now.history.now turn S.shape.servers) rows.items) }
+    ensures servers { let S = plan.now.script.now in
+        let book = D.book plan.now.draws.now in
+        let history = plan.now.history.now in
+        OnOk result (AreServers S.shape
+        (placed_before S (words_of S.shape book) history (turn + 1))
+        (turn_seen S book history turn) servers.new) }
+{
+    let mut rows = empty_rows(alloc, plan.script.shape.clients)?;
+    'answering: for (i, server) in servers.iter_mut().enumerate() {
+        let replies = server.answer(alloc, asked[i].as_slice())?;
+        deal(rows.as_mut_slice(), replies)?;
+    }
+    Ok(rows)
+}
+
+/// Each client takes the replies to its read.
+fn take_replies<D: Draws>(
+    alloc: Global,
+    plan: &Plan<D>,
+    turn: u32,
+    replies: &[Frames],
+    clients: &mut [Client],
+) -> Result<(), Memory>
+    requires turn_in { turn < turn_count plan.now.script.now.shape }
+    requires replies { let S = plan.now.script.now in
+        AreRows S.shape.clients
+        (replied S (D.book plan.now.draws.now) plan.now.history.now turn S.shape.servers)
+        replies.now }
+    requires clients { let S = plan.now.script.now in
+        let words = words_of S.shape (D.book plan.now.draws.now) in
+        AreClients S.shape.clients (client_asked S words plan.now.history.now turn) clients.old }
+    ensures { let S = plan.now.script.now in
+        let words = words_of S.shape (D.book plan.now.draws.now) in
+        OnOk result (AreClients S.shape.clients
+        (client_before S words plan.now.history.now (turn + 1)) clients.new) }
+{
+    'taking: for (i, client) in clients.iter_mut().enumerate() {
+        // what servers send are the replies to what was asked, so that only memory may be wanting
+        let Ok(()) = client.take_replies(alloc, plan.draws, replies[i].as_slice()) else {
+            return Err(Memory);
+        };
+    }
+    Ok(())
+}

@@ -1,0 +1,57 @@
+ghost use Rattle.std.specs.Prelude.{◌≡◌, ◌≤◌, IfOk, IfErr, OnOk, OnErr};
+ghost use Rattle.tk_io.specs.Content.{Rose};
+ghost use Rattle.tk_schedule.specs.Schedule.{serial_history};
+ghost use Rattle.tk_words.specs.Words.{words_of};
+ghost use Rattle.tk_report.specs.Exchange.{exchange, bytes_of};
+ghost use Rattle.tk_report.specs.Outcomes.{IsLeftBy};
+ghost use Rattle.tk_io.specs.Tapped.{TapsGain, TapsGainFronts, TapsKeepBut};
+
+use crate::plan::Plan;
+use crate::run_error::RunError;
+use crate::turns::take_turns;
+use std::alloc::Global;
+use tk_io::Taps;
+use tk_report::{Clients, Outcome, ends};
+use tk_schedule::History;
+use tk_script::Script;
+use tk_words::Draws;
+
+/// What the serial run of a script leaves. What each server sees goes to its tap, turn after turn.
+pub fn serial<D: Draws, T: Taps>(
+    alloc: Global,
+    script: &Script,
+    draws: &D,
+    taps: &mut T,
+) -> Result<Outcome, RunError>
+    requires one_shape { D.shape draws.now ≡ script.now.shape }
+    ensures left { let words = words_of script.now.shape (D.book draws.now) in
+        IfOk result (IsLeftBy script.now words (serial_history script.now.shape)) }
+    ensures ok { let history = serial_history script.now.shape in
+        OnOk result (TapsGain script.now.shape.servers
+        (λ j. bytes_of (exchange script.now (D.book draws.now) history j))
+        (T.tap taps.old) (T.tap taps.new)) }
+    ensures err { let history = serial_history script.now.shape in
+        OnErr result (TapsGainFronts script.now.shape.servers
+        (λ j. bytes_of (exchange script.now (D.book draws.now) history j))
+        (T.tap taps.old) (T.tap taps.new)) }
+    ensures others { TapsKeepBut script.now.shape.servers (T.tap taps.old) (T.tap taps.new) }
+    ensures rose { IfErr result (λ e. e ≡ RunError.Taps
+        → Rose (T.faults taps.old) (T.faults taps.new)) }
+    ensures counts { T.faults taps.old ≤ T.faults taps.new }
+{
+    let history = History::serial(alloc, &script.shape)?;
+    let roles = script.roles.clone()?;
+    let plan = Plan {
+        script,
+        draws,
+        history: &history,
+    };
+    let clients = Clients::from_vec(take_turns(alloc, &plan, taps)?);
+    ends();
+    Ok(Outcome {
+        shape: script.shape,
+        roles,
+        history,
+        clients,
+    })
+}

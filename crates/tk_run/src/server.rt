@@ -1,0 +1,85 @@
+use std::alloc::Global;
+use tk_frames::{Placed, encode_placed};
+use tk_replica::ReplicaState;
+use tk_shape::{Bytes, Memory, Shape};
+
+/// A server: its replica, and the frames that came and went since they were last given to its tap.
+#[derive(Drop)]
+pub(crate) struct Server {
+    pub state: ReplicaState,
+    pub seen: Vec<u8>,
+}
+
+impl Server {
+    ghost use Rattle.std.specs.Prelude.{◌≡◌, ◌++◌, ◌∷◌, [], ℕ, List, length, map, IfOk, OnOk};
+    ghost use Rattle.tk_shape.specs.declared.shape.Shape.{Shape};
+    ghost use Rattle.tk_frames.specs.declared.entry.Placed.{Placed};
+    ghost use Rattle.tk_frames.specs.declared.read_frame.ReadFrame.{ReadFrame};
+    ghost use Rattle.tk_frames.specs.Spelling.{placed_frame, reply_frame};
+    ghost use Rattle.tk_frames.specs.InOrder.{IsNext};
+    ghost use Rattle.tk_replica.specs.Replies.{reply_for};
+    ghost use Rattle.tk_run.specs.Servers.{IsServer, MayTake, MayAnswer, AreReads, answered};
+    ghost use Rattle.tk_run.specs.Rows.{in_pairs};
+
+    /// A server before any entry.
+    pub(crate) fn open(alloc: Global, shape: &Shape) -> Result<Server, Memory>
+        ensures { IfOk result (IsServer shape.now [] []) }
+    {
+        Ok(Server {
+            state: ReplicaState::open(alloc, shape)?,
+            seen: Vec::new(alloc),
+        })
+    }
+
+    /// Sees the frame of an entry and takes it. The epochs below the one before the last are let
+    /// go.
+    pub(crate) fn take(&mut self, alloc: Global, placed: &Placed) -> Result<(), Memory>
+        requires { MayTake placed.now self.old }
+        ensures { (shape : Shape) (E : List Placed) (bytes : List ℕ)
+            → IsServer shape E bytes self.old → IsNext shape E placed.now
+            → OnOk result
+            (IsServer shape (E ++ placed.now ∷ []) (bytes ++ placed_frame placed.now) self.new) }
+    {
+        encode_placed(placed, &mut self.seen)?;
+        self.state.apply(alloc, placed)?;
+        self.state.release(self.state.last().saturating_sub(1));
+        Ok(())
+    }
+
+    /// The replies to reads, in their order, in one pass over what the server holds. It sees each
+    /// read and its reply.
+    pub(crate) fn answer(&mut self, alloc: Global, frames: &[Bytes]) -> Result<Vec<Bytes>, Memory>
+        requires { MayAnswer frames.now self.old }
+        ensures replies { (shape : Shape) (E : List Placed) (bytes : List ℕ)
+            (reads : List ReadFrame)
+            → IsServer shape E bytes self.old → AreReads shape reads frames.now
+            → IfOk result (λ replies.
+            replies.items ≡ map reply_frame (map (reply_for shape E) reads)) }
+        ensures server { (shape : Shape) (E : List Placed) (bytes : List ℕ)
+            (reads : List ReadFrame)
+            → IsServer shape E bytes self.old → AreReads shape reads frames.now
+            → OnOk result
+            (IsServer shape E (bytes ++ answered shape E reads) self.new) }
+    {
+        // what clients send are reads of epochs that are kept, so that only memory may be wanting
+        let Ok(replies) = self.state.serve_all(alloc, frames) else {
+            return Err(Memory);
+        };
+        self.see(frames, replies.as_slice())?;
+        Ok(replies)
+    }
+
+    /// Sees reads, each with its reply.
+    fn see(&mut self, frames: &[Bytes], replies: &[Bytes]) -> Result<(), Memory>
+        requires { length replies.now ≡ length frames.now }
+        ensures state { self.new.state ≡ self.old.state }
+        ensures seen { OnOk result
+            (self.new.seen.items ≡ self.old.seen.items ++ in_pairs frames.now replies.now) }
+    {
+        for (i, frame) in frames.iter().enumerate() {
+            self.seen.extend_from_slice(frame.as_slice())?;
+            self.seen.extend_from_slice(replies[i].as_slice())?;
+        }
+        Ok(())
+    }
+}

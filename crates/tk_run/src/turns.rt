@@ -1,0 +1,149 @@
+ghost use Rattle.std.specs.Prelude.{◌≡◌, ◌≤◌, ◌<◌, ◌+◌, IfOk, IfErr, OnOk, OnErr};
+ghost use Rattle.tk_io.specs.Content.{Rose};
+ghost use Rattle.tk_shape.specs.Lengths.{turn_count};
+ghost use Rattle.tk_schedule.specs.declared.history.History.{History};
+ghost use Rattle.tk_words.specs.Words.{WordBook, words_of};
+ghost use Rattle.tk_report.specs.Exchange.{exchange, bytes_of};
+ghost use Rattle.tk_io.specs.Tapped.{TapsGain, TapsGainFronts, TapsKeepBut};
+ghost use Rattle.tk_run.specs.Clients.{AreClients, client_before};
+ghost use Rattle.tk_run.specs.Servers.{nothing_seen};
+ghost use Rattle.tk_run.specs.Turns.{IsRunBefore, turn_seen};
+
+use crate::clients::open_clients;
+use crate::plan::Plan;
+use crate::reading::read_turn;
+use crate::run::Run;
+use crate::run_error::RunError;
+use crate::saying::say_turn;
+use crate::servers::open_servers;
+use crate::tapping::give_all;
+use crate::writing::write_turn;
+use std::alloc::Global;
+use tk_client::Client;
+use tk_io::Taps;
+use tk_script::Script;
+use tk_shape::Memory;
+use tk_words::Draws;
+
+/// The clients at the end of a run, turn after turn. What each server sees goes to its tap at the
+/// end of each turn.
+pub(crate) fn take_turns<D: Draws, T: Taps>(
+    alloc: Global,
+    plan: &Plan<D>,
+    taps: &mut T,
+) -> Result<Vec<Client>, RunError>
+    ensures clients { let S = plan.now.script.now in
+        let words = words_of S.shape (D.book plan.now.draws.now) in
+        IfOk result (λ clients. AreClients S.shape.clients
+        (client_before S words plan.now.history.now (turn_count S.shape)) clients.items) }
+    ensures ok { let S = plan.now.script.now in
+        OnOk result (TapsGain S.shape.servers
+        (λ j. bytes_of (exchange S (D.book plan.now.draws.now) plan.now.history.now j))
+        (T.tap taps.old) (T.tap taps.new)) }
+    ensures err { let S = plan.now.script.now in
+        OnErr result (TapsGainFronts S.shape.servers
+        (λ j. bytes_of (exchange S (D.book plan.now.draws.now) plan.now.history.now j))
+        (T.tap taps.old) (T.tap taps.new)) }
+    ensures others { TapsKeepBut plan.now.script.now.shape.servers
+        (T.tap taps.old) (T.tap taps.new) }
+    ensures rose { IfErr result (λ e. e ≡ RunError.Taps
+        → Rose (T.faults taps.old) (T.faults taps.new)) }
+    ensures counts { T.faults taps.old ≤ T.faults taps.new }
+{
+    let mut run = open_run(alloc, plan.script)?;
+    take_all_turns(alloc, plan, &mut run, taps)?;
+    Ok(run.clients)
+}
+
+/// A run before its first turn.
+fn open_run(alloc: Global, script: &Script) -> Result<Run, Memory>
+    ensures { (b : WordBook) (H : History)
+        → IfOk result (IsRunBefore script.now b H 0 nothing_seen) }
+{
+    Ok(Run {
+        said: 0,
+        clients: open_clients(alloc, script)?,
+        servers: open_servers(alloc, &script.shape)?,
+    })
+}
+
+/// All turns of a run, from the first.
+fn take_all_turns<D: Draws, T: Taps>(
+    alloc: Global,
+    plan: &Plan<D>,
+    run: &mut Run,
+    taps: &mut T,
+) -> Result<(), RunError>
+    requires run { IsRunBefore plan.now.script.now (D.book plan.now.draws.now)
+        plan.now.history.now 0 nothing_seen run.old }
+    ensures run { let end = turn_count plan.now.script.now.shape in
+        OnOk result (IsRunBefore plan.now.script.now (D.book plan.now.draws.now)
+        plan.now.history.now end nothing_seen run.new) }
+    ensures ok { let S = plan.now.script.now in
+        OnOk result (TapsGain S.shape.servers
+        (λ j. bytes_of (exchange S (D.book plan.now.draws.now) plan.now.history.now j))
+        (T.tap taps.old) (T.tap taps.new)) }
+    ensures err { let S = plan.now.script.now in
+        OnErr result (TapsGainFronts S.shape.servers
+        (λ j. bytes_of (exchange S (D.book plan.now.draws.now) plan.now.history.now j))
+        (T.tap taps.old) (T.tap taps.new)) }
+    ensures others { TapsKeepBut plan.now.script.now.shape.servers
+        (T.tap taps.old) (T.tap taps.new) }
+    ensures rose { IfErr result (λ e. e ≡ RunError.Taps
+        → Rose (T.faults taps.old) (T.faults taps.new)) }
+    ensures counts { T.faults taps.old ≤ T.faults taps.new }
+{
+    'turns: for turn in 0..plan.script.shape.turns() {
+        take_turn(alloc, plan, turn, run, taps)?;
+    }
+    Ok(())
+}
+
+/// A turn, at the end of which each server's tap gains what the server saw in it.
+fn take_turn<D: Draws, T: Taps>(
+    alloc: Global,
+    plan: &Plan<D>,
+    turn: u32,
+    run: &mut Run,
+    taps: &mut T,
+) -> Result<(), RunError>
+    requires turn_in { turn < turn_count plan.now.script.now.shape }
+    requires run { IsRunBefore plan.now.script.now (D.book plan.now.draws.now)
+        plan.now.history.now turn nothing_seen run.old }
+    ensures run { OnOk result (IsRunBefore plan.now.script.now (D.book plan.now.draws.now)
+        plan.now.history.now (turn + 1) nothing_seen run.new) }
+    ensures ok { let S = plan.now.script.now in
+        OnOk result (TapsGain S.shape.servers
+        (turn_seen S (D.book plan.now.draws.now) plan.now.history.now turn)
+        (T.tap taps.old) (T.tap taps.new)) }
+    ensures err { let S = plan.now.script.now in
+        OnErr result (TapsGainFronts S.shape.servers
+        (turn_seen S (D.book plan.now.draws.now) plan.now.history.now turn)
+        (T.tap taps.old) (T.tap taps.new)) }
+    ensures others { TapsKeepBut plan.now.script.now.shape.servers
+        (T.tap taps.old) (T.tap taps.new) }
+    ensures rose { IfErr result (λ e. e ≡ RunError.Taps
+        → Rose (T.faults taps.old) (T.faults taps.new)) }
+    ensures counts { T.faults taps.old ≤ T.faults taps.new }
+{
+    meet(alloc, plan, turn, run)?;
+    give_all(run.servers.as_mut_slice(), taps)?;
+    Ok(())
+}
+
+/// What clients and servers do in a turn: texts are said, each client writes, and then all read.
+fn meet<D: Draws>(alloc: Global, plan: &Plan<D>, turn: u32, run: &mut Run) -> Result<(), Memory>
+    requires turn_in { turn < turn_count plan.now.script.now.shape }
+    requires run { IsRunBefore plan.now.script.now (D.book plan.now.draws.now)
+        plan.now.history.now turn nothing_seen run.old }
+    ensures run { let S = plan.now.script.now in
+        let seen = turn_seen S (D.book plan.now.draws.now) plan.now.history.now turn in
+        OnOk result (IsRunBefore S (D.book plan.now.draws.now)
+        plan.now.history.now (turn + 1) seen run.new) }
+{
+    let clients = run.clients.as_mut_slice();
+    let servers = run.servers.as_mut_slice();
+    run.said = say_turn(alloc, plan.script, turn, run.said, clients)?;
+    write_turn(alloc, plan, turn, clients, servers)?;
+    read_turn(alloc, plan, turn, clients, servers)
+}
