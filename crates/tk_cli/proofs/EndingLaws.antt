@@ -11,8 +11,8 @@ use Rattle.tk_script.specs.declared.error.ScriptError.{ScriptError}
 use Rattle.tk_script.specs.declared.error.ScriptError.TheVariants as script_error
 use Rattle.tk_script.specs.Reading.{read_input}
 use Rattle.tk_script.specs.Grammar.{lines_of, Spells}
-use Rattle.tk_cli.specs.declared.run_error.RunError.{RunError}
-use Rattle.tk_cli.specs.declared.run_error.RunError.TheVariants as run_error
+use Rattle.tk_run.specs.declared.run_error.RunError.{RunError}
+use Rattle.tk_run.specs.declared.run_error.RunError.TheVariants as run_error
 use Rattle.tk_cli.specs.declared.status.Status.{Status}
 use Rattle.tk_cli.specs.declared.status.Status.TheVariants as status
 use Rattle.tk_cli.specs.Endings.{EndsWith, book_status, script_status, run_status}

@@ -8,8 +8,8 @@ use Rattle.tk_io.specs.Tapped.{TapsGain, TapsGainFronts, TapsKeepBut}
 use Rattle.tk_script.specs.Book.{book_of}
 use Rattle.tk_cli.specs.declared.status.Status.{Status}
 use Rattle.tk_cli.specs.declared.status.Status.TheVariants as status
-use Rattle.tk_cli.specs.Report.{report}
-use Rattle.tk_cli.specs.Exchange.{exchange, bytes_of}
+use Rattle.tk_report.specs.Report.{report}
+use Rattle.tk_report.specs.Exchange.{exchange, bytes_of}
 use Rattle.tk_cli.specs.Endings.{EndsWith}
 use Rattle.tk_cli.specs.Serial.{IsRunOf, RunsTo}
 use Rattle.tk_cli.proofs.EndingLaws.{ended_by}

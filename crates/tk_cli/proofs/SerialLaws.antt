@@ -13,8 +13,8 @@ use Rattle.tk_script.specs.declared.input.RawTape.{RawTape}
 use Rattle.tk_script.specs.declared.input.Input.{Input}
 use Rattle.tk_schedule.specs.Schedule.{serial_history}
 use Rattle.tk_words.specs.Words.{WordBook, keyed, drawn, IsBook}
-use Rattle.tk_cli.specs.Report.{report}
-use Rattle.tk_cli.specs.Exchange.{exchange, bytes_of}
+use Rattle.tk_report.specs.Report.{report}
+use Rattle.tk_report.specs.Exchange.{exchange, bytes_of}
 use Rattle.tk_io.specs.Tapped.{TapsGain, TapsGainFronts, TapsKeepBut}
 use Rattle.tk_script.specs.Book.{book_from, book_of, HasTape, IsWholeTape}
 use Rattle.tk_cli.specs.Serial.{IsRunOf, RunsTo, RunsInto}

@@ -1,5 +1,7 @@
 -- How a run of bytes ends without a report.
 use Rattle.std.specs.Prelude.{◌≡◌, ◌⊎◌, ℕ, List, Option, Err}
+use Rattle.tk_io.specs.declared.reading.ReadError.{ReadError}
+use Rattle.tk_io.specs.declared.reading.ReadError.TheVariants as read_error
 use Rattle.tk_script.specs.declared.cause.Cause.{Cause}
 use Rattle.tk_script.specs.declared.book.BookError.{BookError}
 use Rattle.tk_script.specs.declared.book.BookError.TheVariants as book_error
@@ -8,12 +10,17 @@ use Rattle.tk_script.specs.declared.error.ScriptError.TheVariants as script_erro
 use Rattle.tk_script.specs.declared.input.Input.{Input}
 use Rattle.tk_script.specs.Grammar.{lines_of, Spells}
 use Rattle.tk_script.specs.Reading.{read_input}
-use Rattle.tk_cli.specs.declared.run_error.RunError.{RunError}
-use Rattle.tk_cli.specs.declared.run_error.RunError.TheVariants as run_error
+use Rattle.tk_run.specs.declared.run_error.RunError.{RunError}
+use Rattle.tk_run.specs.declared.run_error.RunError.TheVariants as run_error
 use Rattle.tk_cli.specs.declared.status.Status.{Status}
 use Rattle.tk_cli.specs.declared.status.Status.TheVariants as status
 use Rattle.tk_cli.specs.Serial.{RunsInto, HasOtherTape, TakesAll}
 use Rattle.tk_io.specs.Tapped.{TapsKeep}
+
+abbrev pub read_status : ReadError → Status
+read_status read_error.Memory = status.Memory
+read_status read_error.Fault = status.Read
+read_status read_error.TooLong = status.TooLong
 
 abbrev pub script_status : ScriptError → Status
 script_status (script_error.Line line c) = status.Script line c

@@ -2,16 +2,6 @@ pub mod StatusLines
 pub mod Requests
 pub mod Untouched
 pub mod Handles
-pub mod Queues
-pub mod Entries
-pub mod Report
-pub mod Exchange
-pub mod Clients
-pub mod Servers
-pub mod Notices
-pub mod Turns
-pub mod Runs
-pub mod Shown
 pub mod PassingOver
 pub mod Serial
 pub mod Endings

@@ -7,8 +7,8 @@ use Rattle.tk_script.specs.declared.input.RawTape.{RawTape}
 use Rattle.tk_script.specs.declared.input.Input.{Input}
 use Rattle.tk_script.specs.Grammar.{Spells}
 use Rattle.tk_script.specs.Book.{book_of, IsWholeTape}
-use Rattle.tk_cli.specs.Report.{report}
-use Rattle.tk_cli.specs.Exchange.{exchange, bytes_of}
+use Rattle.tk_report.specs.Report.{report}
+use Rattle.tk_report.specs.Exchange.{exchange, bytes_of}
 use Rattle.tk_io.specs.Tapped.{TapsGain, TapsGainFronts, TapsKeepBut}
 
 -- the report of an input's serial run, and what server j sees of it

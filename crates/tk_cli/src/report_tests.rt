@@ -1,5 +1,5 @@
 use crate::testing::{ONE_TEXT, REPORT, joined, run_serially};
-use crate::{Status, honest_passing_over};
+use crate::{Status, honest_serial_runs};
 use std::test::Fail;
 
 /// The front of a script of two clients, one log and two turns, up to what is said.
@@ -444,7 +444,7 @@ fn reports(rt: HostRuntime) -> Result<(), Fail> {
         assert_eq!(rt; status, Status::Done, "at {name}");
         assert_eq!(rt; written.as_slice(), report, "at {name}");
     }
-    honest_passing_over();
+    honest_serial_runs();
     for (says, tape, log, unsent) in SMALL {
         let (says, tape) = (says.as_bytes(), tape.as_bytes());
         let (log, unsent) = (log.as_bytes(), unsent.as_bytes());

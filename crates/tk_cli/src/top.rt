@@ -5,23 +5,22 @@ ghost use Rattle.tk_cli.specs.Handles.{Puts, handle_text};
 ghost use Rattle.tk_cli.specs.Requests.{AsksHandle, AsksLater, AsksNothing, AsksSerial};
 ghost use Rattle.tk_cli.specs.Serial.{RunsTo, Reports, ReportsFront, TapsFronts};
 ghost use Rattle.tk_cli.specs.Endings.{EndsWith, RefusesLine, RefusesTape};
-ghost use Rattle.tk_cli.specs.Endings.{book_status, run_status, script_status};
-ghost use Rattle.tk_cli.specs.Exchange.{exchange, bytes_of};
-ghost use Rattle.tk_cli.specs.Report.{report};
+ghost use Rattle.tk_report.specs.Exchange.{exchange, bytes_of};
+ghost use Rattle.tk_report.specs.Report.{report};
 ghost use Rattle.tk_io.specs.Tapped.{TapsGain, TapsGainFronts, TapsKeep, TapsKeepBut};
 ghost use Rattle.tk_schedule.specs.Schedule.{serial_history};
 ghost use Rattle.tk_cli.specs.Untouched.{AsksNoInput, IsUntouched, AreTapsUntouched};
 
 use crate::handle_word::run_handle;
 use crate::request::{Request, request_of};
-use crate::run_error::RunError;
-use crate::serial::serial;
 use crate::status::Status;
 use std::alloc::Global;
 use std::sync::Wait;
 use std::thread::Threads;
-use tk_io::{Gate, ReadError, Sink, Source, Taps, put_all, read_all};
-use tk_script::{BookError, Input, Script, ScriptError, parse};
+use tk_io::{Gate, Sink, Source, Taps, put_all, read_all};
+use tk_report::{ends, print_outcome};
+use tk_run::serial;
+use tk_script::{Input, Script, parse};
 use tk_shape::Bytes;
 use tk_words::{Book, Draws};
 
@@ -122,9 +121,7 @@ fn run_serial<S: Source, K: Sink, T: Taps>(
 {
     let text = match read_all(alloc, source, INPUT_LIMIT) {
         Ok(text) => text,
-        Err(ReadError::Memory) => return Status::Memory,
-        Err(ReadError::Fault) => return Status::Read,
-        Err(ReadError::TooLong) => return Status::TooLong,
+        Err(error) => return Status::from(error),
     };
     let report = match report_of(alloc, text.as_slice(), taps) {
         Ok(report) => report,
@@ -152,14 +149,10 @@ fn report_of<T: Taps>(alloc: Global, text: &[u8], taps: &mut T) -> Result<Vec<u8
     let Input {
         first: script,
         tape,
-    } = match parse(alloc, text) {
-        Ok(input) => input,
-        Err(error) => return Err(status_of_script(error)),
-    };
-    match script.book(alloc, tape) {
-        Ok(Book::Keyed(draws)) => report_by(alloc, &script, &draws, taps),
-        Ok(Book::Drawn(draws)) => report_by(alloc, &script, &draws, taps),
-        Err(error) => Err(status_of_book(error)),
+    } = parse(alloc, text)?;
+    match script.book(alloc, tape)? {
+        Book::Keyed(draws) => report_by(alloc, &script, &draws, taps),
+        Book::Drawn(draws) => report_by(alloc, &script, &draws, taps),
     }
 }
 
@@ -187,38 +180,9 @@ fn report_by<D: Draws, T: Taps>(
         → Rose (T.faults taps.old) (T.faults taps.new)) }
     ensures counts { T.faults taps.old ≤ T.faults taps.new }
 {
-    match serial(alloc, script, draws, taps) {
-        Ok(report) => Ok(report),
-        Err(error) => Err(status_of_run(error)),
-    }
-}
-
-/// What tells that a text gives no input.
-fn status_of_script(error: ScriptError) -> Status
-    ensures { result ≡ script_status error }
-{
-    match error {
-        ScriptError::Line { line, cause } => Status::Script { line, cause },
-        ScriptError::Memory => Status::Memory,
-    }
-}
-
-/// What tells that a script and a tape give no words.
-fn status_of_book(error: BookError) -> Status
-    ensures { result ≡ book_status error }
-{
-    match error {
-        BookError::Tape { want, got } => Status::Tape { want, got },
-        BookError::Memory => Status::Memory,
-    }
-}
-
-/// What tells that a run ended early.
-fn status_of_run(error: RunError) -> Status
-    ensures { result ≡ run_status error }
-{
-    match error {
-        RunError::Taps => Status::Write,
-        RunError::Memory => Status::Memory,
-    }
+    let outcome = serial(alloc, script, draws, taps)?;
+    let mut report = Vec::new(alloc);
+    print_outcome(alloc, &outcome, &mut report)?;
+    ends();
+    Ok(report)
 }
