@@ -24,6 +24,7 @@ pub mod Clearing
 pub mod Windows
 pub mod Expiring
 pub mod Emptying
+pub mod Rows
 pub mod Runs
 pub mod Knowing
 pub mod Grids

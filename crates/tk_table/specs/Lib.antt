@@ -7,3 +7,4 @@ pub mod Inside
 pub mod Shown
 pub mod Replies
 pub mod Places
+pub mod Rows

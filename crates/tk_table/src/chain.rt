@@ -5,7 +5,8 @@ ghost use Rattle.tk_bucket.specs.Table.{slot_at, with_slot};
 ghost use Rattle.tk_table.specs.Stands.{slot_with};
 ghost use Rattle.tk_table.specs.Steps.{AreSteps, IsFree, first_of, moved_by, cleared, cleared_in};
 
-use tk_bucket::{Buckets, Step2};
+use crate::indexed::Indexed;
+use tk_bucket::Step2;
 use tk_place::{Scratch, Step};
 
 fn place_of(step: Step) -> Step2
@@ -20,7 +21,7 @@ fn place_of(step: Step) -> Step2
 
 /// Moves each entry of a chain of steps into the slot before it, and writes a record into the last.
 pub(crate) fn store(
-    buckets: &mut Buckets,
+    buckets: &mut Indexed,
     scratch: &Scratch,
     count: u32,
     position: u64,
@@ -48,7 +49,7 @@ pub(crate) fn store(
 }
 
 /// Empties a slot if its entry has this position.
-fn clear_if(buckets: &mut Buckets, place: Step2, position: u64)
+fn clear_if(buckets: &mut Indexed, place: Step2, position: u64)
     requires bucket { place.bucket < buckets.old.contents.buckets }
     requires slot { place.slot < buckets.old.contents.depth }
     ensures { let T = buckets.old.contents.table in
@@ -62,7 +63,7 @@ fn clear_if(buckets: &mut Buckets, place: Step2, position: u64)
 }
 
 /// Empties each slot of a bucket whose entry has this position.
-pub(crate) fn clear_in(buckets: &mut Buckets, depth: u32, bucket: u32, position: u64)
+pub(crate) fn clear_in(buckets: &mut Indexed, depth: u32, bucket: u32, position: u64)
     requires depth { depth ≡ buckets.old.contents.depth }
     requires bucket { bucket < buckets.old.contents.buckets }
     ensures { let T = cleared_in buckets.old.contents.block position buckets.old.contents.table bucket in

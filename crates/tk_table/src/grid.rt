@@ -1,6 +1,5 @@
-ghost use Rattle.std.specs.Prelude.{◌≡◌, ◌<◌, ◌≤◌, ◌↔◌, ℕ, length, position, None, IfOk};
-ghost use Rattle.tk_place.specs.Place.{search_end, lowest_empty};
-ghost use Rattle.tk_bucket.specs.Table.{is_empty, bucket_at};
+ghost use Rattle.std.specs.Prelude.{◌≡◌, ◌<◌, ◌≤◌, ◌↔◌, ℕ, length, None, IfOk};
+ghost use Rattle.tk_place.specs.Place.{search_end};
 ghost use Rattle.tk_bucket.specs.Bytes.{BlockList};
 ghost use Rattle.tk_shape.specs.Lengths.{width};
 ghost use Rattle.tk_table.specs.Table.{empty_table, others_from, placed_in, blocks_of};
@@ -9,11 +8,11 @@ ghost use Rattle.tk_table.specs.Steps.{cleared_all};
 ghost use Rattle.tk_table.specs.Inside.{EachHas, HasPair};
 
 use crate::chain::{clear_in, store};
+use crate::indexed::Indexed;
 use crate::latest::Recent;
 use crate::{Memory, Put, Snapshot};
 use std::alloc::Global;
 use std::marker::Model;
-use tk_bucket::Buckets;
 use tk_place::{Found, Scratch, Slots, find};
 use tk_shape::Shape;
 
@@ -21,7 +20,7 @@ use tk_shape::Shape;
 #[derive(Debug, Drop)]
 pub(crate) struct Grid {
     shape: Shape,
-    buckets: Buckets,
+    buckets: Indexed,
 }
 
 impl Model for Grid {
@@ -42,12 +41,9 @@ impl Grid {
           slots = empty_table shape.now;
         }) }
     {
-        let buckets = Buckets::new(alloc, shape.buckets, shape.depth, shape.block).map_err(
-            |_| Memory,
-        )?;
         Ok(Grid {
             shape: *shape,
-            buckets,
+            buckets: Indexed::new(alloc, shape.buckets, shape.depth, shape.block)?,
         })
     }
 
@@ -99,24 +95,9 @@ impl Grid {
         ensures counted { IfOk result (λ s. length s.blocks ≡ self.old.shape.buckets) }
         ensures kept { self.new ≡ self.old }
     {
-        let packed = self.buckets.snapshot(alloc).map_err(|_| Memory)?;
+        let packed = self.buckets.snapshot(alloc)?;
         Ok(Snapshot::from_packed(packed))
     }
-}
-
-/// The lowest empty slot of a bucket.
-fn lowest_empty(buckets: &Buckets, depth: u32, bucket: u32) -> Option<u32>
-    requires depth { depth ≡ buckets.now.contents.depth }
-    requires bucket { bucket < buckets.now.contents.buckets }
-    ensures { result ≡ position is_empty (bucket_at buckets.now.contents.table bucket) }
-{
-    buckets.sized();
-    for slot in 0..depth {
-        if buckets.is_empty(bucket, slot) {
-            return Some(slot);
-        }
-    }
-    None
 }
 
 impl Slots for Grid {
@@ -133,15 +114,10 @@ impl Slots for Grid {
     }
 
     fn free(&self, bucket: u32) -> Option<u32> {
-        lowest_empty(&self.buckets, self.shape.depth, bucket)
+        self.buckets.free(bucket)
     }
 
     fn other(&self, bucket: u32, slot: u32) -> u32 {
-        let entry = self.buckets.slot(bucket, slot);
-        if entry.first == bucket {
-            entry.second
-        } else {
-            entry.first
-        }
+        self.buckets.other(bucket, slot)
     }
 }

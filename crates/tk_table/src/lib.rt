@@ -3,6 +3,8 @@
 
 mod chain;
 mod grid;
+mod index;
+mod indexed;
 mod latest;
 mod laws;
 mod snapshot;

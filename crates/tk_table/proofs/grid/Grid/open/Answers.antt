@@ -14,5 +14,5 @@ invariant_of-result c =
       table = empty_table shape.buckets shape.depth shape.block;
     }
     in
-    let e : c.in_ok-buckets.buckets.contents ≡ empty = search rules in
+    let e : c.in_ok-new.field-0.contents ≡ empty = search rules in
     rw e (grind (arith, common_steps))
