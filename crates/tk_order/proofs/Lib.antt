@@ -1,0 +1,7 @@
+pub mod Offers
+pub mod Prefixes
+pub mod Turns
+pub mod Legal
+pub mod Moves
+pub mod Growing
+pub mod Opened

@@ -1,0 +1,5 @@
+pub mod Legality
+pub mod Rules
+pub mod Seats
+pub mod Stores
+pub mod Smallest
