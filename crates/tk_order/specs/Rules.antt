@@ -50,7 +50,8 @@ pub record Fits (log : List Placed) (drawn : ℕ) (owner : ℕ → ℕ) (seat : 
   pub owned : Owned log v.claims
   pub mine : (n : ℕ) → Holds n v.claims → (n < drawn) × (owner n ≡ seat)
 
--- the rule: there is one list as long as word 0, word 1 counts the numbers drawn, and each view fits
+-- The rule: there is one list as long as word 0, word 1 counts the numbers drawn, and each view
+-- fits.
 pub record Kept (shape : Shape) (s : State Placed View) : Type 0 where
   pub log : List Placed
   pub drawn : ℕ

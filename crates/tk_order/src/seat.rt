@@ -146,7 +146,8 @@ impl<B: Naming> OrderSeat<B> {
 
     pub(crate) fn into_place(self) -> Place
         ensures { (result.table_id ≡ B.table)
-            × (result.me ≡ (view self.seen result.me.0.told (claims_of self.number self.seen), [])) }
+            × (result.me
+            ≡ (view self.seen result.me.0.told (claims_of self.number self.seen), [])) }
     {
         let OrderSeat {
             place,
