@@ -1,0 +1,9 @@
+pub mod Tapes
+pub mod Masks
+pub mod ReadCells
+pub mod SameWords
+pub mod Changes
+pub mod Seen
+pub mod PrivacyLaws
+pub mod Computing
+pub mod Mirrored

@@ -1,0 +1,165 @@
+-- What a server sees is made of the cells of the normal tape.
+use Rattle.std.proofs.Common.{◌≡◌, ◌≢◌, ℕ, zero, suc, ◌+◌, ◌≤◌, ◌<◌, true, List, [], ◌∷◌, ◌++◌}
+use Rattle.std.proofs.Common.{length, map, drop, flat_map, count_by, get_or, refl, ap, ap₂, sym}
+use Rattle.std.proofs.Common.{◌∙◌, arith, Option, Some, None, ltb-true}
+use Rattle.std.specs.Prelude.{nat_lt}
+use Rattle.std.specs.List.{range_with_len, list_all}
+use Rattle.std.specs.Option.{option_map}
+use Rattle.tk_shape.specs.declared.shape.Shape.{Shape}
+use Rattle.tk_shape.specs.Lengths.{turn_count, tape_len}
+use Rattle.tk_schedule.specs.declared.history.History.{History}
+use Rattle.tk_schedule.specs.declared.item.Item.{Item}
+use Rattle.tk_schedule.specs.declared.item.Item.TheVariants.{Client, Publish}
+use Rattle.tk_schedule.specs.Schedule.{IsLegal, order_at, epoch_at, blank_turn, is_within}
+use Rattle.tk_schedule.proofs.Offers.{turn_within}
+use Rattle.tk_script.specs.declared.script.Script.{Script}
+use Rattle.tk_script.specs.Sent.{Sending, sent, sent_as, writer_of}
+use Rattle.std.proofs.lemmas.Bool.{and_parts}
+use Rattle.tk_words.specs.Words.{DrawnVectors, drawn, words_of, vectors_of, write_cell, read_cell}
+use Rattle.tk_words.specs.Words.{keyed_cell, cell_write, pair_of, hits_of, pad_of, tag_of}
+use Rattle.tk_words.specs.Words.{fresh_write, fresh_vectors}
+use Rattle.tk_frames.specs.declared.write_frame.WriteFrame.{WriteFrame}
+use Rattle.tk_frames.specs.declared.read_frame.ReadFrame.{ReadFrame}
+use Rattle.tk_frames.specs.declared.entry.Placed.{Placed}
+use Rattle.tk_frames.specs.declared.entry.Entry.TheVariants.{Write, Mark}
+use Rattle.tk_frames.specs.Spelling.{placed_frame, read_frame}
+use Rattle.tk_frames.specs.Order.{is_mark_entry}
+use Rattle.tk_client.specs.Writes.{write_of, dummy}
+use Rattle.tk_client.specs.Asked.{frame_with}
+use Rattle.tk_report.specs.Queues.{waiting_of}
+use Rattle.tk_report.specs.Entries.{write_at, placed_from, placed_after, entries_before}
+use Rattle.tk_report.specs.Exchange.{read_pair, read_at, turn_frames, frames_before, read_seen}
+use Rattle.tk_report.specs.Exchange.{view}
+use Rattle.tk_privacy.specs.Privacy.{shown_write_cell, shown_keyed_cell, read_cell_changed}
+use Rattle.tk_privacy.specs.Privacy.{shown_vector, shown_read, normal, cells_view}
+use Rattle.tk_privacy.proofs.Tapes.{IsTape}
+use Rattle.tk_privacy.proofs.Masks.{cell_write-masked}
+use Rattle.tk_privacy.proofs.ReadCells.{first-shown, second-shown}
+use Rattle.tk_privacy.proofs.SameWords.{length-read_cell}
+use Rattle.tk_privacy.proofs.Changes.{normal-IsTape, sent_len}
+
+-- ---- frames that agree, where writes and reads do
+
+same-placed : (f g : ℕ → WriteFrame) (n : ℕ) → ((c : ℕ) → c < n → f c ≡ g c) →
+    (position e : ℕ) (items : List Item) →
+    list_all (is_within n) items ≡ true → placed_from f position e items
+    ≡ placed_from g position e items
+unfolding placed_from
+same-placed f g n same position e [] within = refl
+same-placed f g n same position e (Client c ∷ items) within =
+    let split = and_parts (nat_lt c n) (list_all (is_within n) items) within in
+    ap₂ (λ (w : WriteFrame) (rest : List Placed). record { position = position; entry = Write w }
+    ∷ rest)
+    (same c (ltb-true c n split.0)) (same-placed f g n same (position + 1) e items split.1)
+same-placed f g n same position e (Publish ∷ items) within =
+    ap (λ (rest : List Placed). record { position = position; entry = Mark e } ∷ rest)
+    (same-placed f g n same (position + 1) (e + 1) items within)
+
+same-flat : {X : Type 0} (f g : ℕ → List X) (a n : ℕ) → ((k : ℕ) → k < a + n → f k ≡ g k) →
+    flat_map f (range_with_len a n) ≡ flat_map g (range_with_len a n)
+same-flat f g a zero h = refl
+same-flat {X} f g a (suc n) h =
+    ap₂ (λ (x y : List X). x ++ y) (h a (omega arith))
+    (same-flat f g (a + 1) n (λ k l. h k (omega arith)))
+
+module _ (shape : Shape) (H : History) (legal : IsLegal shape H) (f f' : ℕ → ℕ → WriteFrame)
+    (writes : (g c : ℕ) → g < turn_count shape → c < shape.clients → f g c ≡ f' g c) where
+  same-turn : (g : ℕ) (E : List Placed) → g < turn_count shape → placed_after (f g) E (order_at H g)
+      ≡ placed_after (f' g) E (order_at H g)
+  same-turn g E turn =
+      same-placed (f g) (f' g) shape.clients (λ c client. writes g c turn client) (length E + 1)
+      (count_by is_mark_entry E + 1) (order_at H g)
+      (turn_within shape g (get_or H g blank_turn) (legal.each_turn g turn))
+
+  same-entries : (g : ℕ) → g ≤ turn_count shape → entries_before f H g ≡ entries_before f' H g
+  unfolding entries_before
+  same-entries zero low = refl
+  same-entries (suc g) low =
+      let before = same-entries g (omega arith) in
+      ap (λ (E : List Placed). E ++ placed_after (f g) E (order_at H g)) before
+      ∙ ap (λ ys. entries_before f' H g ++ ys) (same-turn g (entries_before f' H g) (omega arith))
+
+  module _ (r r' : ℕ → ℕ → List (List ℕ))
+      (reads : (g c : ℕ) → g < turn_count shape → c < shape.clients → r g c ≡ r' g c) where
+    same-turn_frames : (g : ℕ) → g < turn_count shape → turn_frames shape H f r g
+        ≡ turn_frames shape H f' r' g
+    same-turn_frames g turn =
+        ap₂ (λ (xs ys : List (List ℕ)). xs ++ ys)
+        (ap (map placed_frame)
+        (ap (λ (E : List Placed). placed_after (f g) E (order_at H g))
+        (same-entries g (omega arith))
+        ∙ same-turn g (entries_before f' H g) turn))
+        (same-flat (r g) (r' g) 0 shape.clients (λ c client. reads g c turn (omega arith)))
+
+    pub same-frames : frames_before shape H f r (turn_count shape)
+        ≡ frames_before shape H f' r' (turn_count shape)
+    unfolding frames_before
+    same-frames =
+        same-flat (turn_frames shape H f r) (turn_frames shape H f' r') 0 (turn_count shape)
+        (λ g turn. same-turn_frames g (omega arith))
+
+-- ---- one script
+
+module _ (S : Script) (H : History) (h j : ℕ) (u : List ℕ) (legal : IsLegal S.shape H)
+    (whole : length u ≡ tape_len S.shape)
+    (low : 1 ≤ h) (high : h ≤ S.shape.servers) (j_low : 1 ≤ j) (j_high : j ≤ S.shape.servers)
+    (differ : j ≢ h) where
+  v : List ℕ
+  v = normal S H h u
+
+  tv : IsTape S.shape (λ g c. shown_write_cell S.shape u g c (sent S g c))
+      (read_cell_changed S H h u)
+      (λ log s. shown_keyed_cell S.shape u (writer_of S log) log s (sent_as S log s)) v
+  unfolding v
+  tv = normal-IsTape S u whole H h
+
+  -- the write of a turn is the shown write cell, whether a text is sent or not
+  write_shown : (g c : ℕ) (o : Option Sending) → sent S g c ≡ o →
+      write_of (words_of S.shape (drawn u)) g c (option_map waiting_of o)
+      ≡ dummy g c (cell_write S.shape (shown_write_cell S.shape u g c o))
+  unfolding fresh_write pair_of hits_of pad_of tag_of
+  write_shown g c None e = refl
+  write_shown g c (Some y) e =
+      ap (dummy g c) (sym (cell_write-masked S.shape y.text (keyed_cell S.shape u y.log y.number)
+      (sent_len S u whole g c y e)))
+
+  writes_seen : (g c : ℕ) → g < turn_count S.shape → c < S.shape.clients →
+      write_at S (words_of S.shape (drawn u)) g c
+      ≡ dummy g c (cell_write S.shape (write_cell S.shape v g c))
+  unfolding write_at
+  writes_seen g c turn client =
+      write_shown g c (sent S g c) refl
+      ∙ ap (λ cell. dummy g c (cell_write S.shape cell)) (sym (tv.writes g c turn client))
+
+  vectors_kept : (g c : ℕ) → g < turn_count S.shape → c < S.shape.clients →
+      vectors_of S.shape (drop 8 (read_cell_changed S H h u g c))
+      ≡ vectors_of S.shape (drop 8 (read_cell S.shape v g c))
+  vectors_kept g c turn client =
+      ap (λ cell. vectors_of S.shape (drop 8 cell)) (sym (tv.reads g c turn client))
+
+  read_shown : (g c : ℕ) → g < turn_count S.shape → c < S.shape.clients →
+      read_at S (drawn u) H g c j ≡ shown_read S.shape H h v j g c
+  unfolding read_at frame_with shown_read fresh_vectors
+  read_shown g c turn client =
+      let cell = read_cell S.shape u g c in
+      let pair = read_pair S (words_of S.shape (drawn u)) H g c in
+      let size = length-read_cell S.shape u g c whole turn client in
+      λ i. record {
+        client = c;
+        turn = g;
+        epoch = epoch_at H g c;
+        first = (sym (first-shown S.shape cell size h j pair low high j_low j_high differ)
+            ∙ ap (λ (vs : DrawnVectors). shown_vector S.shape h j vs.first)
+            (vectors_kept g c turn client)) i;
+        second = (sym (second-shown S.shape cell size h j pair low high j_low j_high differ)
+            ∙ ap (λ (vs : DrawnVectors). shown_vector S.shape h j vs.second)
+            (vectors_kept g c turn client)) i;
+      }
+
+  pub view-is : view S (drawn u) H j ≡ cells_view S.shape H h (normal S H h u) j
+  unfolding cells_view v
+  view-is =
+      same-frames S.shape H legal (write_at S (words_of S.shape (drawn u)))
+      (λ g c. dummy g c (cell_write S.shape (write_cell S.shape v g c))) writes_seen
+      (read_seen S (drawn u) H j) (λ g c. read_frame (shown_read S.shape H h v j g c) ∷ [])
+      (λ g c turn client. ap (λ (f : ReadFrame). read_frame f ∷ []) (read_shown g c turn client))
