@@ -296,7 +296,8 @@ module _ (shape : Shape) (cell : List ℕ) (whole : length cell ≡ read_cell_le
           count = length-pieces (vector_len shape) (shape.servers - 1)
               (drop ((shape.servers - 1) * vector_len shape) (drop 8 cell));
           sized = AllSized-pieces (vector_len shape) (shape.servers - 1)
-              (drop ((shape.servers - 1) * vector_len shape) (drop 8 cell)) (omega (arith, rest_len));
+              (drop ((shape.servers - 1) * vector_len shape) (drop 8 cell))
+              (omega (arith, rest_len));
         };
       }
 

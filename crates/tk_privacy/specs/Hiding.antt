@@ -1,0 +1,37 @@
+-- Read cells with other vectors for one server.
+use Rattle.std.specs.Prelude.{ℕ, ◌-◌, ◌+◌, ◌*◌, List, [], ◌++◌, take, drop, slice_set}
+use Rattle.std.specs.Prelude.{slice_index_or}
+use Rattle.std.specs.List.{concat}
+use Rattle.tk_shape.specs.declared.shape.Shape.{Shape}
+use Rattle.tk_shape.specs.Lengths.{turn_count}
+use Rattle.tk_frames.specs.declared.read_frame.ReadFrame.{ReadFrame}
+use Rattle.tk_words.specs.Words.{vectors_of, read_cell}
+use Rattle.tk_privacy.specs.Privacy.{cells}
+
+-- a read cell with these as server h's vectors of either bucket
+abbrev pub cell_with : Shape → ℕ → List ℕ → List ℕ → List ℕ → List ℕ
+cell_with shape h first second cell =
+    let vectors = vectors_of shape (drop 8 cell) in
+    take 8 cell
+    ++ (concat (slice_set vectors.first (h - 1) first)
+    ++ concat (slice_set vectors.second (h - 1) second))
+
+abbrev pub blank_read : ReadFrame
+blank_read = record { client = 0; turn = 0; epoch = 0; first = []; second = [] }
+
+-- the read of a client's turn, among those of all turns, in each of which they lie by client
+abbrev pub read_in : Shape → List ReadFrame → ℕ → ℕ → ReadFrame
+read_in shape reads g c = slice_index_or reads (g * shape.clients + c) blank_read
+
+-- the read cell of a client's turn with server h's vectors as its read frame has them
+abbrev pub hidden_read : Shape → List ReadFrame → ℕ → List ℕ → ℕ → ℕ → List ℕ
+hidden_read shape reads h u g c =
+    let read = read_in shape reads g c in
+    cell_with shape h read.first read.second (read_cell shape u g c)
+
+-- the read cells of a turn, and of all turns
+abbrev pub reads_of_turn : Shape → List ReadFrame → ℕ → List ℕ → ℕ → List ℕ
+reads_of_turn shape reads h u g = cells shape.clients (hidden_read shape reads h u g)
+
+abbrev pub reads_hidden : Shape → List ReadFrame → ℕ → List ℕ → List ℕ
+reads_hidden shape reads h u = cells (turn_count shape) (reads_of_turn shape reads h u)

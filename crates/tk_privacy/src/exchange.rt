@@ -1,0 +1,194 @@
+ghost use Rattle.std.specs.Prelude.{◌≡◌, ◌<◌, ◌≤◌, ◌+◌, ◌==◌, ◌++◌, length, map, find};
+ghost use Rattle.std.specs.Prelude.{IsTrue, OnOk};
+ghost use Rattle.std.specs.List.{range_with_len};
+ghost use Rattle.std.specs.Option.{option_copied};
+ghost use Rattle.tk_shape.specs.Lengths.{turn_count, cell_len, tape_len};
+ghost use Rattle.tk_seal.specs.Texts.{is_allowed};
+ghost use Rattle.tk_script.specs.Sent.{sent, sent_as, is_numbered, writer_of};
+ghost use Rattle.tk_privacy.specs.Privacy.{masked_cell};
+ghost use Rattle.tk_privacy.specs.Queue.{sent_by};
+ghost use Rattle.tk_privacy.specs.Exchanging.{write_exchanged, writes_of_turn, writes_exchanged};
+ghost use Rattle.tk_privacy.specs.Exchanging.{keyed_exchanged, numbers_of_log, keyeds_exchanged};
+
+use crate::cells::Cells;
+use crate::sendings::Sendings;
+use crate::sent::Sent;
+use crate::way::Way;
+use std::alloc::Global;
+use tk_script::Script;
+use tk_seal::mask;
+use tk_shape::{Memory, Shape};
+
+/// The exchange of the cells of a tape that texts of a script call for: of each write cell in whose
+/// turn a text is sent, and of the cell of the text's number.
+#[derive(Drop)]
+pub(crate) struct Exchange<'a> {
+    pub way: Way,
+    pub script: &'a Script,
+    pub sent: &'a [Sendings],
+    pub cells: &'a Cells<'a>,
+    ghost one_shape: { cells.now.shape.now ≡ script.now.shape },
+    ghost all_sent: { sent.now ≡ map (sent_by script.now)
+        (range_with_len 0 script.now.shape.clients) },
+}
+
+impl<'a> Exchange<'a> {
+    /// Appends all write cells.
+    pub(crate) fn push_writes(&self, alloc: Global, out: &mut Vec<u8>) -> Result<(), Memory>
+        ensures { OnOk result (out.new.items ≡ out.old.items
+            ++ writes_exchanged self.now.way self.now.script.now self.now.cells.now.bytes.now) }
+    {
+        for turn in 0..self.script.shape.turns() {
+            self.push_turn(alloc, turn, out)?;
+        }
+        Ok(())
+    }
+
+    /// Appends the write cells of a turn.
+    fn push_turn(&self, alloc: Global, turn: u32, out: &mut Vec<u8>) -> Result<(), Memory>
+        requires { turn < turn_count self.now.script.now.shape }
+        ensures { OnOk result (out.new.items ≡ out.old.items
+            ++ writes_of_turn self.now.way self.now.script.now self.now.cells.now.bytes.now turn) }
+    {
+        for client in 0..self.script.shape.clients {
+            self.push_write(alloc, turn, client, out)?;
+        }
+        Ok(())
+    }
+
+    /// Appends the write cell of a client's turn.
+    fn push_write(
+        &self,
+        alloc: Global,
+        turn: u32,
+        client: u32,
+        out: &mut Vec<u8>,
+    ) -> Result<(), Memory>
+        requires turn_in { turn < turn_count self.now.script.now.shape }
+        requires client_in { client < self.now.script.now.shape.clients }
+        ensures { let S = self.now.script.now in
+            OnOk result (out.new.items ≡ out.old.items ++ write_exchanged self.now.way S.shape
+            self.now.cells.now.bytes.now turn client (sent S turn client)) }
+    {
+        let Some(found) = self.sent_in(turn, client) else {
+            return push(self.cells.write_cell(turn, client), out);
+        };
+        let cell = self.cells.keyed_cell(found.log, found.number);
+        match self.way {
+            Way::Show => push_masked(alloc, &self.script.shape, found.text.as_slice(), cell, out),
+            Way::Regain => push(cell, out),
+        }
+    }
+
+    /// Appends the cells of all numbers, log after log.
+    pub(crate) fn push_keyeds(&self, alloc: Global, out: &mut Vec<u8>) -> Result<(), Memory>
+        ensures { OnOk result (out.new.items ≡ out.old.items
+            ++ keyeds_exchanged self.now.way self.now.script.now self.now.cells.now.bytes.now) }
+    {
+        for log in 0..self.script.shape.logs {
+            self.push_log(alloc, log, out)?;
+        }
+        Ok(())
+    }
+
+    /// Appends the cells of a log's numbers.
+    fn push_log(&self, alloc: Global, log: u32, out: &mut Vec<u8>) -> Result<(), Memory>
+        requires { log < self.now.script.now.shape.logs }
+        ensures { OnOk result (out.new.items ≡ out.old.items
+            ++ numbers_of_log self.now.way self.now.script.now self.now.cells.now.bytes.now log) }
+    {
+        for number in 0..self.script.shape.turns() {
+            self.push_number(alloc, log, number, out)?;
+        }
+        Ok(())
+    }
+
+    /// Appends the cell of a number of a log.
+    fn push_number(
+        &self,
+        alloc: Global,
+        log: u32,
+        number: u32,
+        out: &mut Vec<u8>,
+    ) -> Result<(), Memory>
+        requires log_in { log < self.now.script.now.shape.logs }
+        requires number_in { number < turn_count self.now.script.now.shape }
+        ensures { let S = self.now.script.now in
+            OnOk result (out.new.items ≡ out.old.items ++ keyed_exchanged self.now.way S.shape
+            self.now.cells.now.bytes.now (writer_of S log) log number (sent_as S log number)) }
+    {
+        let writer = self.script.role(log).writer;
+        let Some(found) = self.sent_as(writer, log, number) else {
+            return push(self.cells.keyed_cell(log, number), out);
+        };
+        let cell = self.cells.write_cell(found.turn, writer);
+        match self.way {
+            Way::Show => push(cell, out),
+            Way::Regain => push_masked(alloc, &self.script.shape, found.text.as_slice(), cell, out),
+        }
+    }
+
+    /// What a client sends in a turn.
+    fn sent_in(&self, turn: u32, client: u32) -> Option<&Sent>
+        requires { client < self.now.script.now.shape.clients }
+        ensures { option_copied result ≡ sent self.now.script.now turn client }
+    {
+        in_turn(self.sent[client as usize].as_slice(), turn)
+    }
+
+    /// What is sent as a number of a log, which this client writes.
+    fn sent_as(&self, writer: u32, log: u32, number: u32) -> Option<&Sent>
+        requires writer_in { writer < self.now.script.now.shape.clients }
+        requires writes { writer_of self.now.script.now log ≡ writer }
+        ensures { option_copied result ≡ sent_as self.now.script.now log number }
+    {
+        as_number(self.sent[writer as usize].as_slice(), log, number)
+    }
+}
+
+/// What is sent in a turn.
+fn in_turn(sent: &[Sent], turn: u32) -> Option<&Sent>
+    ensures { option_copied result ≡ find (λ y. y.turn == turn) sent.now }
+{
+    sent.iter().find(|found| found.turn == turn)
+}
+
+/// What is sent as a number of a log.
+fn as_number(sent: &[Sent], log: u32, number: u32) -> Option<&Sent>
+    ensures { option_copied result ≡ find (is_numbered log number) sent.now }
+{
+    sent.iter()
+        .find(|found| found.log == log && found.number == number)
+}
+
+/// Appends a cell with a text sealed in its block.
+fn push_masked(
+    alloc: Global,
+    shape: &Shape,
+    text: &[u8],
+    cell: &[u8],
+    out: &mut Vec<u8>,
+) -> Result<(), Memory>
+    requires whole { length cell.now ≡ cell_len shape.now }
+    requires allowed { IsTrue (is_allowed text.now) }
+    requires fits { length text.now + 18 ≤ shape.now.block }
+    ensures { OnOk result
+        (out.new.items ≡ out.old.items ++ masked_cell shape.now text.now cell.now) }
+{
+    let (words, block) = cell.split_at(8 + 4 * shape.hits as usize);
+    let (pad, tag) = block.split_at(shape.block as usize - 16);
+    let mut masked = vec![in alloc; 0u8; pad.len()]?;
+    mask(pad, text, masked.as_mut_slice());
+    out.extend_from_slice(words)?;
+    out.extend_from_slice(masked.as_slice())?;
+    out.extend_from_slice(tag)?;
+    Ok(())
+}
+
+/// Appends a cell as it is.
+pub(crate) fn push(cell: &[u8], out: &mut Vec<u8>) -> Result<(), Memory>
+    ensures { OnOk result (out.new.items ≡ out.old.items ++ cell.now) }
+{
+    out.extend_from_slice(cell)?;
+    Ok(())
+}
