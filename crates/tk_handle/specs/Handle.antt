@@ -5,6 +5,12 @@ use Rattle.std.specs.Int.{w32, w64, div_ceil, to_le_bytes, to_be_bytes}
 use Rattle.rand_chacha.specs.ChaCha.{word_at, key_of}
 use Rattle.tk_handle.specs.declared.handle.Handle.{Handle}
 
+-- a place in a stream of words, under a key of 32 bytes
+pub record Place : Type 0 where
+  pub key : List ℕ
+  pub stream : ℕ
+  pub place : ℕ
+
 -- the word at a place of a stream, under a key of 32 bytes
 unfoldable pub word : List ℕ → ℕ → ℕ → ℕ
 word key stream place = word_at 10 (key_of key) stream place

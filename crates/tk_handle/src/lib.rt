@@ -5,4 +5,4 @@ mod handle;
 mod stream;
 
 pub use handle::Handle;
-pub use stream::{fill, remainders, word};
+pub use stream::{Stream, fill, remainders, word};

@@ -1,7 +1,9 @@
-use Rattle.std.proofs.Common.{ap}
-use Rattle.tk_handle.specs.Handle.{word}
+use Rattle.std.proofs.Common.{ap, arith}
+use Rattle.tk_handle.specs.Handle.{Place}
 use Rattle.tk_handle.proofs.stream.word.Goals as goal
 
+pub next_word-requires : goal.next_word-requires
+next_word-requires c = omega (arith, c.requires, ap (λ (p : Place). p.place) c.at.ensures)
+
 pub returns : goal.returns
-unfolding word
-returns c = rw c.words_from.ensures at (ap (λ p. p.0) c.next_word.ensures)
+returns c = rw c.at.ensures at c.next_word.ensures.word
