@@ -1,9 +1,10 @@
 ghost use Rattle.std.specs.Prelude.{◌≡◌, ◌+◌, ◌-◌, ◌≤◌, ◌++◌, length, take, IsTrue, Some, None, IfSome, IfNone, replicate};
 ghost use Rattle.tk_seal.specs.Texts.{is_allowed};
-ghost use Rattle.tk_seal.specs.Seal.{keyed_pad, keyed_tag, keyed_sealed, keyed_opened};
+ghost use Rattle.tk_handle.specs.Handle.{key_bytes};
+ghost use Rattle.tk_seal.specs.Seal.{keyed_tag, keyed_sealed, keyed_opened};
 
 use crate::{LONGEST_PAD, hmac, mask, unmask};
-use tk_handle::{Handle, fill};
+use tk_handle::{Handle, Stream};
 
 /// Seals a text as message `number` of a log: its plain form is masked by a pad, and the tag of what is masked stands behind.
 pub fn seal(handle: &Handle, number: u32, text: &[u8], out: &mut [u8])
@@ -13,12 +14,13 @@ pub fn seal(handle: &Handle, number: u32, text: &[u8], out: &mut [u8])
     requires fits { length text.now + 18 ≤ length out.old }
     ensures { out.new ≡ keyed_sealed (length out.old) handle.now number text.now }
 {
+    let (key, mut words) = message_words(handle, number);
     let mut room = [0; LONGEST_PAD];
     let pad = &mut room[..out.len() - 16];
-    write_pad(handle, number, pad);
+    words.fill(pad);
     let (masked, mark) = out.split_at_mut(pad.len());
     mask(pad, text, masked);
-    mark.copy_from_slice(&tag(handle, number, masked));
+    mark.copy_from_slice(&tag(handle, number, &key, masked));
 }
 
 /// The length of the text that seals to a block as message `number` of a log, if there is one: `out` has it, and zeros
@@ -36,37 +38,40 @@ pub fn open(handle: &Handle, number: u32, block: &[u8], out: &mut [u8]) -> Optio
     ensures zeros { IfNone result (out.new ≡ replicate (length out.new) 0) }
 {
     let (masked, mark) = block.split_at(block.len() - 16);
-    if mark != tag(handle, number, masked).as_slice() {
+    let (key, mut words) = message_words(handle, number);
+    if mark != tag(handle, number, &key, masked).as_slice() {
         out.fill(0);
         return None;
     }
     let mut room = [0; LONGEST_PAD];
     let pad = &mut room[..masked.len()];
-    write_pad(handle, number, pad);
+    words.fill(pad);
     unmask(pad, masked, out)
 }
 
-// Writes the bytes that mask a plain form of `out`'s length.
-fn write_pad(handle: &Handle, number: u32, out: &mut [u8])
-    requires { length out.old ≤ LONGEST_PAD }
-    ensures { out.new ≡ keyed_pad (length out.old + 16) handle.now number }
+// The key of a message's tag, and the words that the bytes of its pad come from.
+fn message_words(handle: &Handle, number: u32) -> ([u8; 32], Stream)
+    ensures key { result.0 ≡ key_bytes handle.now.key number 0 32 }
+    ensures words { result.1 ≡ record { key = handle.now.key; stream = number; place = 16 } }
 {
-    fill(&handle.key, u64::from(number), 16, out);
+    let mut words = Stream::at(&handle.key, u64::from(number), 0);
+    let mut key = [0; 32];
+    words.fill(&mut key);
+    words.skip(8);
+    (key, words)
 }
 
-// The leftmost 16 bytes of the digest of the log, the number and what is masked.
-fn tag(handle: &Handle, number: u32, masked: &[u8]) -> [u8; 16]
-    requires { length masked.now ≤ LONGEST_PAD }
+// The leftmost 16 bytes of the digest of the log, the number and what is masked, under the key of the tag.
+fn tag(handle: &Handle, number: u32, key: &[u8; 32], masked: &[u8]) -> [u8; 16]
+    requires key { key.now ≡ key_bytes handle.now.key number 0 32 }
+    requires short { length masked.now ≤ LONGEST_PAD }
     ensures { result ≡ keyed_tag handle.now number masked.now }
 {
-    let number = u64::from(number);
-    let mut key = [0; 32];
-    fill(&handle.key, number, 0, &mut key);
     let mut head = [0; 16];
     let (id, place) = head.split_at_mut(8);
     id.copy_from_slice(&handle.id.to_be_bytes());
-    place.copy_from_slice(&number.to_be_bytes());
+    place.copy_from_slice(&u64::from(number).to_be_bytes());
     let mut tag = [0; 16];
-    tag.copy_from_slice(&hmac(&key, &head, masked)[..16]);
+    tag.copy_from_slice(&hmac(key, &head, masked)[..16]);
     tag
 }

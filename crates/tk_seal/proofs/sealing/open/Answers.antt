@@ -1,6 +1,7 @@
 use Rattle.std.proofs.Common.{◌≡◌, ◌∙◌, ◌+◌, ◌-◌, ◌<◌, ◌≤◌, ◌^◌, replicate, ap, ap₂, sym, List, ℕ, length, arith}
 use Rattle.std.proofs.lemmas.List.{length-take-le}
 use Rattle.std.proofs.lemmas.Option.{IfSome_then}
+use Rattle.tk_handle.specs.Handle.{key_bytes}
 use Rattle.tk_handle.proofs.Offers.{length-key_bytes}
 use Rattle.tk_seal.specs.Seal.{opened_with, keyed_pad, keyed_tag}
 use Rattle.tk_seal.proofs.SealLaws.{closed_by_mark, opened_by_reading, closed_by_reading, IfNone_then, marks_differ, marks_agree}
@@ -26,12 +27,14 @@ returns-clause-text c =
     let block = c.args.block.now in
     let masked = c.split_at.result.0.now in
     let mark = c.split_at.result.1.now in
-    let pad = c.write_pad.new.out in
+    let pad = c.fill-2.new.out in
     let tag = keyed_tag h c.args.number in
     let room : length masked ≤ length (replicate {A = ℕ} 1008 0) = omega (arith, c.requires.high, c.split_at.ensures.front_len) in
     let whole : length masked + 16 ≡ length block = omega (arith, c.split_at.ensures.front_len, c.requires.low) in
+    let rest : length masked ≡ length block - 16 = omega (arith, whole) in
     let is_pad : pad ≡ keyed_pad (length block) h c.args.number =
-    c.write_pad.ensures ∙ ap (λ n. keyed_pad n h c.args.number) (ap (λ n. n + 16) (length-take-le (length masked) (replicate {A = ℕ} 1008 0) room) ∙ whole) in
+    (rw c.message_words-words.ensures.words at c.fill-2.ensures.bytes)
+    ∙ ap (key_bytes h.key c.args.number 16) (length-take-le (length masked) (replicate {A = ℕ} 1008 0) room ∙ rest) in
     let wide : length masked ≡ length pad =
     c.split_at.ensures.front_len ∙ sym (ap length is_pad ∙ length-key_bytes h.key c.args.number 16 (length block - 16)) in
     IfSome_then c.unmask.result
@@ -44,12 +47,14 @@ returns-clause-none c =
     let block = c.args.block.now in
     let masked = c.split_at.result.0.now in
     let mark = c.split_at.result.1.now in
-    let pad = c.write_pad.new.out in
+    let pad = c.fill-2.new.out in
     let tag = keyed_tag h c.args.number in
     let room : length masked ≤ length (replicate {A = ℕ} 1008 0) = omega (arith, c.requires.high, c.split_at.ensures.front_len) in
     let whole : length masked + 16 ≡ length block = omega (arith, c.split_at.ensures.front_len, c.requires.low) in
+    let rest : length masked ≡ length block - 16 = omega (arith, whole) in
     let is_pad : pad ≡ keyed_pad (length block) h c.args.number =
-    c.write_pad.ensures ∙ ap (λ n. keyed_pad n h c.args.number) (ap (λ n. n + 16) (length-take-le (length masked) (replicate {A = ℕ} 1008 0) room) ∙ whole) in
+    (rw c.message_words-words.ensures.words at c.fill-2.ensures.bytes)
+    ∙ ap (key_bytes h.key c.args.number 16) (length-take-le (length masked) (replicate {A = ℕ} 1008 0) room ∙ rest) in
     let wide : length masked ≡ length pad =
     c.split_at.ensures.front_len ∙ sym (ap length is_pad ∙ length-key_bytes h.key c.args.number 16 (length block - 16)) in
     let small : length pad < 2 ^ 16 = omega (arith, c.requires.high, c.split_at.ensures.front_len) in
