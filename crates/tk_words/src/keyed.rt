@@ -2,7 +2,7 @@ ghost use Rattle.std.specs.Prelude.{◌≡◌, ◌+◌, ◌*◌, ◌%◌, ◌<�
 ghost use Rattle.tk_handle.specs.Handle.{word};
 
 use crate::Draws;
-use tk_handle::{Handle, fill, remainders};
+use tk_handle::{Handle, Stream};
 use tk_shape::Shape;
 
 /// The words of keys: each log's handle, and each client's seed.
@@ -82,18 +82,20 @@ impl Draws for KeyedDraws {
         hits: &mut [u32],
         block: &mut [u8],
     ) -> (u32, u32) {
-        let seed = self.seed(client);
-        let stream = 2 * u64::from(turn);
-        remainders(seed, stream, 2, self.shape.filter_bits, hits);
-        fill(seed, stream, 16, block);
-        stream_pair(seed, stream, self.shape.buckets)
+        let mut words = Stream::at(self.seed(client), 2 * u64::from(turn), 0);
+        let pair = next_pair(&mut words, self.shape.buckets);
+        words.remainders(self.shape.filter_bits, hits);
+        words.skip(14 - self.shape.hits);
+        words.fill(block);
+        pair
     }
 
     fn fresh_read(&self, client: u32, turn: u32, vectors: &mut [u8]) -> (u32, u32) {
-        let seed = self.seed(client);
-        let stream = 2 * u64::from(turn) + 1;
-        fill(seed, stream, 16, vectors);
-        stream_pair(seed, stream, self.shape.buckets)
+        let mut words = Stream::at(self.seed(client), 2 * u64::from(turn) + 1, 0);
+        let pair = next_pair(&mut words, self.shape.buckets);
+        words.skip(14);
+        words.fill(vectors);
+        pair
     }
 
     ghost serves = { λ draws. (draws.handle_each, draws.seed_each) };
@@ -108,13 +110,16 @@ impl Draws for KeyedDraws {
 }
 
 // The two buckets at the front of a stream.
-fn stream_pair(seed: &[u8; 32], stream: u64, buckets: u32) -> (u32, u32)
-    requires { 0 < buckets }
-    ensures pair { result ≡ (word seed.now stream 0 % buckets, word seed.now stream 1 % buckets) }
+fn next_pair(words: &mut Stream, buckets: u32) -> (u32, u32)
+    requires some { 0 < buckets }
+    requires front { words.old.place ≡ 0 }
+    ensures pair { let at = words.old in
+        result ≡ (word at.key at.stream 0 % buckets, word at.key at.stream 1 % buckets) }
     ensures first_in { result.0 < buckets }
     ensures second_in { result.1 < buckets }
+    ensures next { words.new ≡ record words.old { place = 2 } }
 {
     let mut pair = [0; 2];
-    remainders(seed, stream, 0, buckets, &mut pair);
+    words.remainders(buckets, &mut pair);
     (pair[0], pair[1])
 }
