@@ -11,7 +11,7 @@ use tk_kernel::xor_choose_each;
 use tk_shape::Memory;
 
 /// The bytes of a tile.
-const TILE: usize = 32768;
+const TILE: usize = 65536;
 
 /// For each vector the sum of the blocks that it chooses.
 pub(crate) fn summed<B: Blocks>(
