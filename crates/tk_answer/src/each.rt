@@ -8,41 +8,42 @@ use std::alloc::Global;
 use tk_shape::{Bytes, Memory};
 
 /// The answers to many vectors, in their order: for each the sum, without carries, of the blocks that it chooses. Each
-/// vector has one bit for each block, counted as `answer` counts them. All are made in one pass over the blocks.
+/// vector has one bit for each block, counted as `answer` counts them. All are made in one pass over the blocks. The
+/// vectors are taken, so that none of their bytes is copied.
 pub fn answer_each<B: Blocks>(
     alloc: Global,
     blocks: &B,
-    vectors: &[Bytes],
+    vectors: Vec<Bytes>,
 ) -> Result<Vec<Bytes>, Memory>
-    requires { All (λ v. 8 * length v ≡ length (B.blocks blocks.now)) vectors.now }
+    requires { All (λ v. 8 * length v ≡ length (B.blocks blocks.now)) vectors.items }
     ensures { IfOk result (λ sums. sums.items
-        ≡ map (chosen_sum (B.width blocks.now) (B.blocks blocks.now)) vectors.now) }
+        ≡ map (chosen_sum (B.width blocks.now) (B.blocks blocks.now)) vectors.items) }
 {
     if vectors.is_empty() {
         return Ok(Vec::new(alloc));
     }
     let rows = rows_of(alloc, vectors)?;
     let sums = summed(alloc, blocks, rows.as_slice())?;
-    bytes_of(alloc, sums.as_slice())
+    bytes_of(alloc, sums)
 }
 
 // The vectors' bytes.
-fn rows_of(alloc: Global, vectors: &[Bytes]) -> Result<Vec<Vec<u8>>, Memory>
-    ensures { IfOk result (λ rows. map (λ row. row.items) rows.items ≡ vectors.now) }
+fn rows_of(alloc: Global, vectors: Vec<Bytes>) -> Result<Vec<Vec<u8>>, Memory>
+    ensures { IfOk result (λ rows. map (λ row. row.items) rows.items ≡ vectors.items) }
 {
     let mut rows = Vec::new(alloc);
     for vector in vectors {
-        rows.push(Vec::from_slice(alloc, vector.as_slice())?)?;
+        rows.push(vector.into_vec())?;
     }
     Ok(rows)
 }
 
-fn bytes_of(alloc: Global, rows: &[Vec<u8>]) -> Result<Vec<Bytes>, Memory>
-    ensures { IfOk result (λ out. out.items ≡ map (λ row. row.items) rows.now) }
+fn bytes_of(alloc: Global, rows: Vec<Vec<u8>>) -> Result<Vec<Bytes>, Memory>
+    ensures { IfOk result (λ out. out.items ≡ map (λ row. row.items) rows.items) }
 {
     let mut out = Vec::new(alloc);
     for row in rows {
-        out.push(Bytes::from_slice(alloc, row.as_slice())?)?;
+        out.push(Bytes::from_vec(row))?;
     }
     Ok(out)
 }

@@ -67,14 +67,14 @@ impl Epoch {
             ≡ map (λ r. sum_over self.now r.second) reads.now) }
     {
         let vectors = vectors_of(alloc, reads)?;
-        self.sum_each(alloc, vectors.as_slice())
+        self.sum_each(alloc, vectors)
     }
 
     /// For each of these vectors the sum of the blocks that it chooses, all in one pass over the
     /// blocks.
-    fn sum_each(&self, alloc: Global, vectors: &[Bytes]) -> Result<Vec<Bytes>, Memory>
-        requires { All (λ v. 8 * length v ≡ length self.now.blocks.blocks) vectors.now }
-        ensures { IfOk result (λ sums. sums.items ≡ map (sum_over self.now) vectors.now) }
+    fn sum_each(&self, alloc: Global, vectors: Vec<Bytes>) -> Result<Vec<Bytes>, Memory>
+        requires { All (λ v. 8 * length v ≡ length self.now.blocks.blocks) vectors.items }
+        ensures { IfOk result (λ sums. sums.items ≡ map (sum_over self.now) vectors.items) }
     {
         answer_each(alloc, &self.blocks, vectors)
     }

@@ -76,7 +76,7 @@ fn each_vector_answered(rt: HostRuntime) -> Result<(), Fail> {
     for (page, count) in [(8, 0), (3, 3), (8, 3), (3, 27)] {
         let blocks = Paged { bytes, page };
         let vectors = in_turn(alloc, count)?;
-        let sums = answer_each(alloc, &blocks, vectors.as_slice())?;
+        let sums = answer_each(alloc, &blocks, vectors)?;
         assert_eq!(rt; sums.len(), count);
         for (i, sum) in sums.iter().enumerate() {
             let want = [0x0c, 0x00, 0x08][i % 3];

@@ -7,7 +7,7 @@ use Rattle.tk_answer.proofs.each.answer_each.Goals as goal
 pub summed-requires-clause-eights : goal.summed-requires-clause-eights
 summed-requires-clause-eights g c =
     let unlike = eqb-false _ _ (sym c.is_empty.ensures ∙ c.if-is_empty.false) in
-    let some : 0 < length c.args.vectors.now = omega (arith, unlike) in
+    let some : 0 < length c.args.vectors.items = omega (arith, unlike) in
     let first = c.requires 0 [] some in
     omega (arith, first)
 

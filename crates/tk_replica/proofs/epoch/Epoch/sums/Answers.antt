@@ -13,15 +13,15 @@ sum_each-requires c =
     let Fits : List (List ℕ) → Type 0 =
     λ vs. All (λ v. 8 * length v ≡ length epoch.blocks.blocks) vs
     in
-    subst Fits (sym (c.as_slice.ensures.value ∙ c.in_ok-vectors.ensures))
+    subst Fits (sym c.in_ok-vectors.ensures)
     (vectors-fit epoch c.args.reads.now c.requires)
 
 pub returns-clause-first : goal.returns-clause-first
 returns-clause-first c =
     let reads = c.args.reads.now in
     let f = sum_over c.args.self.now in
-    let whole = c.as_slice.ensures.value ∙ c.in_ok-vectors.ensures in
-    IfOk-weaker c.sum_each.result (λ s. s.items ≡ map f c.as_slice.result.now)
+    let whole = c.in_ok-vectors.ensures in
+    IfOk-weaker c.sum_each.result (λ s. s.items ≡ map f c.in_ok-vectors.vectors.items)
     (λ s. take (length reads) s.items ≡ map (λ (r : ReadFrame). f r.first) reads)
     (λ s is. ap (take (length reads)) (is ∙ ap (map f) whole) ∙ firsts-are f reads)
     c.sum_each.ensures
@@ -30,8 +30,8 @@ pub returns-clause-second : goal.returns-clause-second
 returns-clause-second c =
     let reads = c.args.reads.now in
     let f = sum_over c.args.self.now in
-    let whole = c.as_slice.ensures.value ∙ c.in_ok-vectors.ensures in
-    IfOk-weaker c.sum_each.result (λ s. s.items ≡ map f c.as_slice.result.now)
+    let whole = c.in_ok-vectors.ensures in
+    IfOk-weaker c.sum_each.result (λ s. s.items ≡ map f c.in_ok-vectors.vectors.items)
     (λ s. drop (length reads) s.items ≡ map (λ (r : ReadFrame). f r.second) reads)
     (λ s is. ap (drop (length reads)) (is ∙ ap (map f) whole) ∙ seconds-are f reads)
     c.sum_each.ensures

@@ -1,0 +1,28 @@
+-- One more of the vectors, and at the end all of them.
+use Rattle.std.proofs.Common.{◌≡◌, ◌∷◌, [], ◌++◌, ℕ, List, Vec, Global, length, map, sym, ap, ap₂, ◌∙◌, append_assoc, append-nil, arith}
+use Rattle.std.proofs.lemmas.List.{map-append}
+use Rattle.std.specs.Vec.Iter.{into_iter_items}
+use Rattle.tk_answer.proofs.ManySums.{nothing_left}
+use Rattle.tk_answer.proofs.each.rows_of.Goals as goal
+
+pub loop-vector-preserved : goal.loop-vector-preserved
+loop-vector-preserved c =
+    let at = c.loop-vector in
+    let x = c.in-Some.vector in
+    let steps : into_iter_items at.vector-iterator ≡ x ∷ into_iter_items c.next.new.self = c.in-Some.ensures.steps.0 in (
+      append_assoc at.yielded (x ∷ []) _ ∙ rw (← steps) at.invariant.0,
+      ap (map (λ row. row.items)) c.in_ok-push.ensures.items ∙ map-append (λ (row : Vec ℕ Global). row.items) at.rows.items (c.into_vec.result ∷ [])
+          ∙ ap₂ (λ (xs : List (List ℕ)) (y : List ℕ). xs ++ y ∷ []) at.invariant.1 c.into_vec.ensures,
+      let was = at.invariant.2 in
+          let gone = c.in-Some.ensures.steps.1 in
+          let short = ap length steps in
+          omega arith,
+    )
+
+pub returns : goal.returns
+returns c =
+    let at = c.loop-vector in
+    let none = c.in-None.ensures.steps in
+    let empty : into_iter_items at.vector-iterator ≡ [] = nothing_left _ (sym at.invariant.2 ∙ none.0) in
+    let all = sym (append-nil at.yielded) ∙ rw empty at at.invariant.0 ∙ c.into_iter-vector-iterator.ensures.into_iter_gives.0 in
+    at.invariant.1 ∙ all
