@@ -1,34 +1,30 @@
 -- Vectors that lie one behind the other, and the frames that carry them.
-use Rattle.std.proofs.Common.{◌≡◌, ◌≢◌, refl, ap, ap₂, sym, ◌∙◌, subst, arith, IsTrue}
+use Rattle.std.proofs.Common.{◌≡◌, ◌≢◌, ap, ap₂, sym, ◌∙◌, subst, arith, IsTrue}
 use Rattle.std.proofs.Common.{ℕ, zero, suc, ◌+◌, ◌-◌, ◌*◌, ◌/◌, ◌%◌, ◌^◌, ◌<◌, ◌≤◌}
 use Rattle.std.proofs.Common.{List, [], ◌∷◌, ◌++◌, length, map, get_or, take, drop, append_assoc}
-use Rattle.std.proofs.Common.{append-nil, length-append, length-drop, min, Option}
-use Rattle.std.specs.Prelude.{slice_index_or, Result, Ok, Err, OnOk}
-use Rattle.std.specs.List.{AllByRecursion, range_with_len, flat_map, concat}
+use Rattle.std.proofs.Common.{append-nil, length-append, Option}
+use Rattle.std.specs.Prelude.{slice_index_or}
+use Rattle.std.specs.List.{range_with_len, flat_map, concat}
 use Rattle.std.specs.Int.{is_power_of_two}
 use Rattle.std.specs.Int.Count.{ones}
 use Rattle.std.proofs.Math.Seq.{take-append_seam}
 use Rattle.std.proofs.lemmas.Bool.{eqb-true}
-use Rattle.std.proofs.lemmas.List.{length-map, length-take, drop-drop, take_at, drop_at}
+use Rattle.std.proofs.lemmas.List.{drop-drop, take_at, drop_at}
 use Rattle.std.proofs.lemmas.List.Concat.{concat_is}
 use Rattle.std.proofs.lemmas.List.FromFn.{map-range_with_len_more}
 use Rattle.std.proofs.lemmas.Nat.{div-add-mod', ones_cat, zero_from_ones, le-div, mod-mul-add}
 use Rattle.tk_shape.specs.declared.shape.Shape.{Shape}
-use Rattle.tk_shape.specs.Lengths.{turn_count, vector_len}
-use Rattle.tk_handle.specs.Handle.{key_bytes}
+use Rattle.tk_shape.specs.Lengths.{vector_len}
 use Rattle.tk_kernel.specs.Pieces.{pieces, all_pieces, AllSized}
-use Rattle.tk_kernel.specs.Xor.{xor_all}
-use Rattle.tk_kernel.proofs.Offers.{length-xor_bytes, length-xor_all}
 use Rattle.tk_kernel.proofs.Offers.{all_pieces-append, all_pieces_short, all_pieces-concat}
-use Rattle.tk_kernel.proofs.Offers.{concat-all_pieces, length-pieces, AllSized-pieces}
+use Rattle.tk_kernel.proofs.Offers.{concat-all_pieces}
 use Rattle.tk_kernel.proofs.Offers.{AllSized-all_pieces}
-use Rattle.tk_bits.specs.Shares.{unit_vector, last_share, shares}
-use Rattle.tk_words.specs.Words.{WordBook, keyed, drawn, words_of, DrawnVectors, vectors_of}
-use Rattle.tk_words.specs.Words.{fresh_vectors, seed_at, read_cell}
+use Rattle.tk_bits.specs.Shares.{last_share, shares}
+use Rattle.tk_words.specs.Words.{WordBook, words_of, DrawnVectors}
+use Rattle.tk_words.specs.Words.{fresh_vectors}
 use Rattle.tk_frames.specs.declared.read_frame.ReadFrame.{ReadFrame}
-use Rattle.tk_frames.specs.Ranges.{IsRead}
 use Rattle.tk_client.specs.Reader.{Target}
-use Rattle.tk_client.specs.Asked.{pair_for, frame_with, asked, AreWhole, IsPair}
+use Rattle.tk_client.specs.Asked.{pair_for, frame_with, asked, AreWhole}
 
 -- ---- a vector has a bit for each bucket
 

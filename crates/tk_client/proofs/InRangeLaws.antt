@@ -17,13 +17,12 @@ use Rattle.tk_kernel.proofs.Offers.{length-xor_bytes, length-xor_all}
 use Rattle.tk_kernel.proofs.Offers.{length-pieces, AllSized-pieces}
 use Rattle.tk_bits.specs.Shares.{unit_vector, last_share, shares}
 use Rattle.tk_bits.proofs.Offers.{length-unit_vector}
-use Rattle.tk_words.specs.Words.{WordBook, IsBook, keyed, drawn, words_of, vectors_of}
+use Rattle.tk_words.specs.Words.{WordBook, keyed, drawn, words_of, vectors_of}
 use Rattle.tk_words.specs.Words.{pair_of, fresh_pair, fresh_vectors, seed_at, read_cell, read_part}
 use Rattle.tk_words.specs.CellLaws.{place_within, length-piece, length-read_part}
-use Rattle.tk_frames.specs.declared.read_frame.ReadFrame.{ReadFrame}
 use Rattle.tk_frames.specs.Ranges.{IsRead}
 use Rattle.tk_client.specs.Reader.{Target}
-use Rattle.tk_client.specs.Asked.{pair_for, frame_with, asked, AreWhole, IsPair}
+use Rattle.tk_client.specs.Asked.{pair_for, frame_with, asked, AreWhole}
 use Rattle.tk_client.specs.Laws.{AskedAreInRange, PairsAreInRange, VectorsAreWhole}
 
 -- ---- the buckets

@@ -8,4 +8,5 @@ pub mod JoiningLaws
 pub mod TakingLaws
 pub mod RepliesLaws
 pub mod ClientLaws
+pub mod LookingLaws
 pub mod Offers

@@ -9,4 +9,5 @@ pub mod Positions
 pub mod Taken
 pub mod Replies
 pub mod Client
+pub mod Looking
 pub mod Laws

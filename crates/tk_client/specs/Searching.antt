@@ -1,6 +1,6 @@
 -- How a reader looks for what it reads next.
-use Rattle.std.specs.Prelude.{◌<◌, ◌≤◌, ℕ, ◌==◌, nat_lt, Bool, ◌&&◌, cond, All}
-use Rattle.std.specs.Prelude.{List, [], ◌∷◌, map, filter}
+use Rattle.std.specs.Prelude.{◌<◌, ◌≤◌, ℕ, nat_lt, Bool, ◌&&◌, cond, All}
+use Rattle.std.specs.Prelude.{List, map}
 use Rattle.std.specs.Prelude.{Option, Some, None}
 use Rattle.tk_shape.specs.declared.shape.Shape.{Shape}
 use Rattle.tk_shape.specs.Lengths.{turn_count}

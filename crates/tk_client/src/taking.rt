@@ -27,9 +27,11 @@ pub(crate) fn wanted_for<D: Draws>(shape: &Shape, draws: &D, target: Target) -> 
     requires one_shape { D.shape draws.now ≡ shape.now }
     requires log_in { target.log < shape.now.logs }
     requires number_in { target.number < turn_count shape.now }
-    ensures { let words = words_of shape.now (D.book draws.now) in
+    ensures wanted { let words = words_of shape.now (D.book draws.now) in
         let pair = words.pair target.log target.number in
         result ≡ record { log = target.log; number = target.number; pair = pair } }
+    ensures first_in { result.pair.0 < shape.now.buckets }
+    ensures second_in { result.pair.1 < shape.now.buckets }
 {
     Wanted {
         log: target.log,

@@ -1,5 +1,5 @@
 -- The earlier of what the two blocks give is the earliest that both give.
-use Rattle.std.proofs.Common.{◌≡◌, ◌∙◌, refl}
+use Rattle.std.proofs.Common.{◌∙◌}
 use Rattle.tk_words.specs.Words.{words_of, opened}
 use Rattle.tk_client.proofs.TakingLaws.{text_of_two}
 use Rattle.tk_client.proofs.taking.text_in_blocks.Goals as goal

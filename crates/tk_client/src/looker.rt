@@ -1,0 +1,84 @@
+ghost use Rattle.std.specs.Prelude.{◌≡◌, ◌<◌, length, All, IfOk, OnOk, OnErr};
+ghost use Rattle.tk_shape.specs.Lengths.{width};
+ghost use Rattle.tk_words.specs.Words.{words_of};
+ghost use Rattle.tk_client.specs.Reader.{got_in};
+ghost use Rattle.tk_client.specs.Looking.{new_looker, after_look};
+
+use crate::got::Got;
+use crate::looking::text_in_buckets;
+use crate::reader::Reader;
+use crate::sight::Sight;
+use std::alloc::Global;
+use std::marker::Model;
+use tk_answer::Blocks;
+use tk_bloom::Filter;
+use tk_shape::{Memory, Shape};
+use tk_words::Draws;
+
+/// One who follows logs and looks into buckets that lie open, where a client would ask servers.
+/// What it reads next, and what its logs have given, is as it is of a client that asks.
+#[derive(Debug, Drop)]
+pub struct Looker {
+    shape: Shape,
+    reader: Reader,
+}
+
+impl Model for Looker {
+    ghost use Rattle.tk_client.specs.Looking.{LookerState};
+    ghost use Rattle.tk_client.specs.Searching.{AreBelow};
+
+    ghost Value = { LookerState };
+
+    ghost view = { λ l. record { shape = l.shape; reader = l.reader } };
+
+    ghost invariant = { λ l. AreBelow l.shape.logs l.reader.follows };
+}
+
+impl Looker {
+    /// One that knows nothing yet, with the logs that it follows.
+    pub fn open(alloc: Global, shape: &Shape, follows: &[u32]) -> Result<Looker, Memory>
+        requires follows_in { All (λ log. log < shape.now.logs) follows.now }
+        ensures { IfOk result (λ l. l ≡ new_looker shape.now follows.now) }
+    {
+        Ok(Looker {
+            shape: *shape,
+            reader: Reader::new(alloc, follows)?,
+        })
+    }
+
+    /// Reads over an epoch, of which these are the buckets and the filter that shows what is worth
+    /// reading. What the read is for is settled, or tried in vain.
+    pub fn look<D: Draws, B: Blocks>(
+        &mut self,
+        alloc: Global,
+        draws: &D,
+        epoch: u32,
+        filter: &Filter,
+        buckets: &B,
+    ) -> Result<(), Memory>
+        requires one_shape { D.shape draws.now ≡ self.old.shape }
+        requires counted { length (B.blocks buckets.now) ≡ self.old.shape.buckets }
+        requires wide { B.width buckets.now ≡ width self.old.shape }
+        ensures looked { let words = words_of self.old.shape (D.book draws.now) in
+            OnOk result (self.new
+            ≡ after_look words filter.now (B.blocks buckets.now) epoch self.old) }
+        ensures kept { OnErr result (self.new ≡ self.old) }
+    {
+        let sight = Sight {
+            shape: &self.shape,
+            draws,
+            filter,
+        };
+        let target = self.reader.target(&sight, epoch);
+        let text = text_in_buckets(alloc, &self.shape, draws, buckets, target)?;
+        self.reader.take(alloc, &self.shape, epoch, target, text)?;
+        Ok(())
+    }
+
+    /// What a log gave, one for each number below the next; nothing for a log that isn't followed.
+    pub fn log(&self, log: u32) -> &[Got]
+        ensures { result.now ≡ got_in self.now.reader.follows log }
+    {
+        self.reader.got(log)
+    }
+}
