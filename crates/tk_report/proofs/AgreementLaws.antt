@@ -22,7 +22,8 @@ use Rattle.tk_client.specs.Asked.{pair_for, frame_with}
 use Rattle.tk_table.specs.Shown.{is_shown}
 use Rattle.tk_report.specs.Entries.{write_at, entries}
 use Rattle.tk_report.specs.Report.{read_over, answered, reader_before, target_at}
-use Rattle.tk_report.specs.Exchange.{read_pair, read_at, with_reply, read_seen, read_answered, turn_frames, frames_before}
+use Rattle.tk_report.specs.Exchange.{read_pair, read_at, with_reply, read_seen, read_answered}
+use Rattle.tk_report.specs.Exchange.{turn_frames, frames_before}
 use Rattle.tk_report.specs.Agreement.{SameOrders, SameEpochs, MarkedSoFar}
 use Rattle.tk_report.specs.Agreement.{AlikeReadsAgree, AlikeFramesAgree, ReadersAgree}
 use Rattle.tk_report.specs.Agreement.{AlikeAfterTurn, AlikeWhereOpen, AlikeWhereOld}

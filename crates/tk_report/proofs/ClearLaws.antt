@@ -19,7 +19,8 @@ use Rattle.tk_frames.specs.Lists.{IsIn}
 use Rattle.tk_frames.proofs.Offers.{in_from_contains, contains_from_in}
 use Rattle.tk_report.specs.Entries.{entries}
 use Rattle.tk_report.specs.PassingOver.{IsRecordOf}
-use Rattle.tk_report.specs.Delivered.{IsClear, is_number, is_clear_at, is_clear, ClearIsTested, IsWritten}
+use Rattle.tk_report.specs.Delivered.{IsClear, is_number, is_clear_at, is_clear, ClearIsTested}
+use Rattle.tk_report.specs.Delivered.{IsWritten}
 use Rattle.tk_report.proofs.WrittenLaws.{write_at-turn, write_at-client, each-is_written}
 
 -- ---- tests of lists

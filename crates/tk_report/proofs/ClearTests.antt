@@ -16,6 +16,7 @@ pub clear : IsClear script (words_of shape (drawn tape)) (serial_history shape)
 clear = (clear-is_tested script (words_of shape (drawn tape)) (serial_history shape)).0 tested
 
 -- where all drawn bytes are zeros, what holds no text opens to an empty one
-pub not_clear : is_clear script (words_of shape (drawn (replicate 768 0))) (serial_history shape) ≡ false
+pub not_clear : is_clear script (words_of shape (drawn (replicate 768 0))) (serial_history shape)
+    ≡ false
 unfolding computing is_clear
 not_clear = refl

@@ -6,7 +6,8 @@ use Rattle.std.specs.Str.{is_utf8, chars}
 use Rattle.std.specs.Char.{encode_utf8}
 use Rattle.tk_schedule.specs.Schedule.{serial_history}
 use Rattle.tk_words.specs.Pieces.{word_at_byte}
-use Rattle.tk_words.specs.Words.{pair_of, hits_of, pad_of, tag_of, opened, fresh_write, fresh_pair, fresh_vectors}
+use Rattle.tk_words.specs.Words.{pair_of, hits_of, pad_of, tag_of, opened, fresh_write, fresh_pair}
+use Rattle.tk_words.specs.Words.{fresh_vectors}
 use Rattle.tk_frames.specs.Order.{before}
 use Rattle.tk_script.specs.Sent.{sendings_from, sent}
 use Rattle.tk_report.specs.Entries.{write_at, placed_from, entries_before}

@@ -1,31 +1,24 @@
 -- What is retained is delivered as it was written, and nothing else is.
-use Rattle.std.proofs.Common.{◌≡◌, refl, ap, ap₂, sym, ◌∙◌, subst, inl, inr, eq-eqb}
-use Rattle.std.proofs.Common.{ℕ, ◌<◌, cond, ◌&&◌}
+use Rattle.std.proofs.Common.{◌≡◌, refl, ap, sym, ◌∙◌, subst, inl, inr}
+use Rattle.std.proofs.Common.{ℕ, ◌<◌}
 use Rattle.std.proofs.Common.{List, [], ◌∷◌, Option, Some, None}
-use Rattle.std.specs.List.{AllByRecursion}
-use Rattle.std.specs.Option.{option_or, option_map}
-use Rattle.tk_shape.specs.declared.shape.Shape.{Shape}
+use Rattle.std.specs.Option.{option_or}
 use Rattle.tk_shape.specs.Lengths.{turn_count}
 use Rattle.tk_schedule.specs.declared.history.History.{History}
 use Rattle.tk_script.specs.declared.script.Script.{Script}
-use Rattle.tk_script.specs.Sent.{Sending, sent}
-use Rattle.tk_words.specs.Words.{BookWords, words_of, sealed, opened}
+use Rattle.tk_script.specs.Sent.{Sending}
+use Rattle.tk_words.specs.Words.{BookWords, words_of, opened}
 use Rattle.tk_words.specs.Opening.{IsNumber, OpensSealed}
 use Rattle.tk_words.specs.OpeningLaws.{opens_sealed}
-use Rattle.tk_frames.specs.declared.write_frame.WriteFrame.{WriteFrame}
 use Rattle.tk_frames.specs.Order.{Record, records, before}
 use Rattle.tk_frames.specs.Lists.{first_some}
 use Rattle.tk_frames.specs.Slots.{text_in}
 use Rattle.tk_table.specs.Table.{retained}
 use Rattle.tk_frames.specs.Lists.{IsIn}
-use Rattle.tk_frames.proofs.Offers.{in_from_contains, contains_from_in, each-in}
-use Rattle.tk_table.proofs.Offers.{retained-each}
-use Rattle.tk_client.specs.Writes.{write_of}
-use Rattle.tk_report.specs.Queues.{waiting_of}
-use Rattle.tk_report.specs.Entries.{write_at, entries}
+use Rattle.tk_frames.proofs.Offers.{in_from_contains, contains_from_in}
+use Rattle.tk_report.specs.Entries.{entries}
 use Rattle.tk_report.specs.Report.{lookup}
 use Rattle.tk_report.specs.PassingOver.{IsRecordOf, IsNotRetained}
-use Rattle.tk_script.proofs.Offers.{sent-sealable}
 use Rattle.tk_report.specs.Delivered.{IsClear, DeliversAsWritten, SentInRange}
 use Rattle.tk_script.proofs.Offers.{sent-is, sent-once}
 use Rattle.tk_report.proofs.RetainedLaws.{retained-own, none-each, record-gives}

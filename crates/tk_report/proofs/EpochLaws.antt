@@ -1,5 +1,7 @@
 -- Which marks stand before a turn.
-use Rattle.std.proofs.Common.{◌≡◌, ℕ, zero, suc, ◌+◌, ◌*◌, ◌⊎◌, inl, inr, ◌/◌, ◌%◌, ◌-◌, ◌<◌, ◌≤◌, List, [], ◌∷◌, ◌++◌, Bool, cond, refl, ap, sym, ◌∙◌, arith, count_by, add-one, suc-mul, zero-mul, ne_eqb, length, append-nil, append_assoc}
+use Rattle.std.proofs.Common.{◌≡◌, ℕ, zero, suc, ◌+◌, ◌*◌, ◌⊎◌, inl, inr, ◌/◌, ◌%◌, ◌<◌, ◌≤◌}
+use Rattle.std.proofs.Common.{List, [], ◌∷◌, Bool, cond, refl, ap, sym, ◌∙◌, arith, count_by}
+use Rattle.std.proofs.Common.{add-one, suc-mul, zero-mul, ne_eqb, length}
 use Rattle.std.specs.Prelude.{◌==◌}
 use Rattle.std.proofs.lemmas.List.Sums.{sum_by-append, sum_by-cons}
 use Rattle.std.proofs.lemmas.Nat.{div-add-mod', div-mul-add, mod-mul-add}
@@ -9,9 +11,7 @@ use Rattle.tk_shape.specs.Lengths.{turn_count}
 use Rattle.tk_schedule.specs.declared.history.History.{History}
 use Rattle.tk_schedule.specs.Schedule.{IsLegal, is_mark, marks_due, phases_over, order_at}
 use Rattle.tk_frames.specs.declared.write_frame.WriteFrame.{WriteFrame}
-use Rattle.tk_frames.specs.declared.entry.Placed.{Placed}
-use Rattle.tk_frames.specs.Order.{is_mark_entry, before}
-use Rattle.tk_frames.proofs.Offers.{before-settled}
+use Rattle.tk_frames.specs.Order.{is_mark_entry}
 use Rattle.tk_schedule.specs.declared.item.Item.{Item}
 use Rattle.tk_schedule.specs.declared.item.Item.TheVariants.{Client, Publish}
 use Rattle.tk_report.specs.Entries.{placed_after, entries_before}
@@ -28,7 +28,13 @@ one_if b = cond b 1 0
 same_count : (xs : List Item) → count_by is_publish xs ≡ count_by is_mark xs
 same_count [] = refl
 same_count (x ∷ xs) =
-    omega (arith, sum_by-cons (λ y. cond (is_publish y) 1 0) x xs, sum_by-cons (λ y. cond (is_mark y) 1 0) x xs, same_count xs, ap one_if (same_test x))
+    omega (
+      arith,
+      sum_by-cons (λ y. cond (is_publish y) 1 0) x xs,
+      sum_by-cons (λ y. cond (is_mark y) 1 0) x xs,
+      same_count xs,
+      ap one_if (same_test x),
+    )
 
 -- a turn behind turn g, in a phase of t turns
 next_in_phase : (t g : ℕ) → 0 < t → (g + 1) / t ≡ g / t + cond ((g + 1) % t == 0) 1 0
@@ -38,13 +44,26 @@ next_in_phase t g some =
     elim (below_or_last (g % t) t low) [
       | inl in_phase ↦
           let whole : g / t * t + (g % t + 1) ≡ g + 1 = omega (arith, split) in
-          let quotient : (g + 1) / t ≡ g / t = ap (λ n. n / t) (sym whole) ∙ div-mul-add (g / t) t (g % t + 1) in_phase in
-          let rest : (g + 1) % t ≡ g % t + 1 = ap (λ n. n % t) (sym whole) ∙ mod-mul-add (g / t) t (g % t + 1) in_phase in
-          quotient ∙ omega (arith, ap one_if (ap (λ n. n == 0) rest ∙ ne_eqb (g % t + 1) 0 (λ e. omega (arith, e))))
+          let quotient : (g + 1) / t ≡ g / t =
+          ap (λ n. n / t) (sym whole) ∙ div-mul-add (g / t) t (g % t + 1) in_phase
+          in
+          let rest : (g + 1) % t ≡ g % t + 1 =
+          ap (λ n. n % t) (sym whole) ∙ mod-mul-add (g / t) t (g % t + 1) in_phase
+          in
+          quotient ∙ omega (
+            arith,
+            ap one_if (ap (λ n. n == 0) rest ∙ ne_eqb (g % t + 1) 0 (λ e. omega (arith, e))),
+          )
       | inr last ↦
-          let whole : (g / t + 1) * t + 0 ≡ g + 1 = omega (arith, split, last, one_more (g / t) t) in
-          let quotient : (g + 1) / t ≡ g / t + 1 = ap (λ n. n / t) (sym whole) ∙ div-mul-add (g / t + 1) t 0 some in
-          let rest : (g + 1) % t ≡ 0 = ap (λ n. n % t) (sym whole) ∙ mod-mul-add (g / t + 1) t 0 some in
+          let whole : (g / t + 1) * t + 0 ≡ g + 1 =
+          omega (arith, split, last, one_more (g / t) t)
+          in
+          let quotient : (g + 1) / t ≡ g / t + 1 =
+          ap (λ n. n / t) (sym whole) ∙ div-mul-add (g / t + 1) t 0 some
+          in
+          let rest : (g + 1) % t ≡ 0 =
+          ap (λ n. n % t) (sym whole) ∙ mod-mul-add (g / t + 1) t 0 some
+          in
           quotient ∙ omega (arith, ap one_if (ap (λ n. n == 0) rest))
     ]
   where
@@ -56,22 +75,29 @@ next_in_phase t g some =
     below_or_last zero (suc zero) h = inr refl
     below_or_last zero (suc (suc n)) h = inl (omega arith)
     below_or_last (suc r) zero h = absurd (omega (arith, h))
-    below_or_last (suc r) (suc n) h = elim (below_or_last r n (omega (arith, h))) [ inl l ↦ inl (omega (arith, l)) | inr e ↦ inr (omega (arith, e)) ]
+    below_or_last (suc r) (suc n) h =
+        elim (below_or_last r n (omega (arith, h)))
+        [ inl l ↦ inl (omega (arith, l)) | inr e ↦ inr (omega (arith, e)) ]
 
 -- as many marks stand before a turn as phases are over
-pub marks-before : (shape : Shape) (write : ℕ → ℕ → WriteFrame) (H : History) → IsLegal shape H → (g : ℕ) → g ≤ turn_count shape →
+pub marks-before : (shape : Shape) (write : ℕ → ℕ → WriteFrame) (H : History) → IsLegal shape H →
+    (g : ℕ) → g ≤ turn_count shape →
     count_by is_mark_entry (entries_before write H g) ≡ phases_over shape g
 unfolding entries_before
 marks-before shape write H legal zero within =
     let nothing : 0 * shape.ticks + 0 ≡ 0 = omega (arith, zero-mul shape.ticks) in
-    sym (ap (λ n. n / shape.ticks) (sym nothing) ∙ div-mul-add 0 shape.ticks 0 shape.in_range.ticks_low)
+    sym (ap (λ n. n / shape.ticks) (sym nothing)
+    ∙ div-mul-add 0 shape.ticks 0 shape.in_range.ticks_low)
 marks-before shape write H legal (suc g) within =
     let E = entries_before write H g in
     let turn = placed_after (write g) E (order_at H g) in
     let before = marks-before shape write H legal g (omega (arith, within)) in
-    let due : count_by is_mark (order_at H g) ≡ marks_due shape g = (legal.each_turn g (omega (arith, within))).marks in
+    let due : count_by is_mark (order_at H g) ≡ marks_due shape g =
+    (legal.each_turn g (omega (arith, within))).marks
+    in
     let here : count_by is_mark_entry turn ≡ marks_due shape g =
-    marks-placed_from (write g) (length E + 1) (count_by is_mark_entry E + 1) (order_at H g) ∙ same_count (order_at H g) ∙ due
+    marks-placed_from (write g) (length E + 1) (count_by is_mark_entry E + 1) (order_at H g)
+    ∙ same_count (order_at H g) ∙ due
     in
     let next = next_in_phase shape.ticks g shape.in_range.ticks_low in
     sum_by-append (λ q. cond (is_mark_entry q) 1 0) E turn

@@ -1,8 +1,8 @@
 -- What a line says, and which line says it.
-use Rattle.std.proofs.Common.{◌≡◌, refl, ap, ap₂, sym, ◌∙◌, subst, arith}
-use Rattle.std.proofs.Common.{ℕ, zero, suc, ◌<◌, ◌^◌, Bool, true, false, cond}
-use Rattle.std.proofs.Common.{List, [], ◌∷◌, ◌++◌, map, codes, decimal, Option, Some, None}
-use Rattle.std.specs.List.{AllByRecursion, list_all}
+use Rattle.std.proofs.Common.{◌≡◌, refl, ap, ap₂, sym, ◌∙◌, arith}
+use Rattle.std.proofs.Common.{ℕ, ◌<◌, ◌^◌, true, false, cond}
+use Rattle.std.proofs.Common.{List, [], ◌∷◌, map, codes, decimal, Option, Some, None}
+use Rattle.std.specs.List.{AllByRecursion}
 use Rattle.std.specs.Option.{option_map}
 use Rattle.std.specs.Str.{bytes_eq}
 use Rattle.std.proofs.lemmas.List.Splits.{join_with_byte-slice_split}
@@ -267,7 +267,8 @@ by-no_end : (word : List ℕ) (a b : Option ℕ) (rest : List (List ℕ)) →
 by-no_end word a b rest =
     elim (bytes_eq word (codes "order"))
     as (λ t. is_end (cond t (order_said a b (items_spelled rest))
-    (cond (bytes_eq word (codes "reads")) (reads_said a b (numbers_spelled rest)) no_line)) ≡ false) [
+    (cond (bytes_eq word (codes "reads")) (reads_said a b (numbers_spelled rest)) no_line))
+    ≡ false) [
       | true ↦ order-goes a b (items_spelled rest)
       | false ↦ elim (bytes_eq word (codes "reads"))
           as (λ t. is_end (cond t (reads_said a b (numbers_spelled rest)) no_line) ≡ false)

@@ -3,16 +3,16 @@ use Rattle.std.proofs.Common.{◌≡◌, refl, ap, ap₂, sym, ◌∙◌, arith,
 use Rattle.std.proofs.Common.{ℕ, zero, suc, ◌+◌, ◌<◌, ◌==◌, nat_lt, Bool, true, false, cond}
 use Rattle.std.proofs.Common.{List, [], ◌∷◌, ◌++◌, length, map, get_or, Option, Some, None}
 use Rattle.std.specs.Prelude.{flat_map, slice_set, slice_index_or, codes, ◌&&◌}
-use Rattle.std.specs.List.{AllByRecursion, list_all, range_with_len}
+use Rattle.std.specs.List.{AllByRecursion, list_all}
 use Rattle.tk_shape.specs.declared.shape.Shape.{Shape}
 use Rattle.tk_shape.specs.Lengths.{turn_count}
 use Rattle.tk_schedule.specs.declared.history.History.{History}
-use Rattle.tk_schedule.specs.Schedule.{IsLegal, epoch_at}
+use Rattle.tk_schedule.specs.Schedule.{epoch_at}
 use Rattle.tk_script.specs.declared.role.Role.{Role}
 use Rattle.tk_script.specs.declared.say.Say.{Say}
 use Rattle.tk_script.specs.declared.script.Script.{Script}
 use Rattle.tk_script.specs.SoundScript.{is_role, is_ascending}
-use Rattle.tk_script.specs.Sent.{writer_of, unsent_count, blank_role}
+use Rattle.tk_script.specs.Sent.{writer_of, unsent_count}
 use Rattle.std.proofs.lemmas.Bool.{and_parts as parts}
 use Rattle.tk_words.specs.Words.{BookWords}
 use Rattle.tk_client.specs.declared.got.Got.{Got}
@@ -28,7 +28,7 @@ use Rattle.tk_report.specs.Report.{follows_of, target_for, answer_for, reader_be
 use Rattle.tk_report.specs.Report.{line, history_lines, log_lines, unsent_line, role_in}
 use Rattle.tk_report.specs.Report.{report_text, report_of}
 use Rattle.tk_report.specs.Clients.{AreClientsAtEnd, client_before}
-use Rattle.tk_report.specs.Leaving.{IsClientOf, IsOutcome, got_by, unsent_by, EndsLeave, EndsReport}
+use Rattle.tk_report.specs.Leaving.{got_by, unsent_by, EndsLeave, EndsReport}
 use Rattle.tk_report.proofs.QueueLaws.{unsent_waits}
 use Rattle.tk_report.proofs.AgreementLaws.{flat_map-agree}
 
@@ -192,7 +192,8 @@ each-told test P (x ∷ xs) tells all =
     (tells x both.0, each-told test P xs tells both.1)
 
 -- the followers of each log are clients
-followers-in : (shape : Shape) (roles : List Role) (log : ℕ) → list_all (is_role shape) roles ≡ true →
+followers-in : (shape : Shape) (roles : List Role) (log : ℕ) → list_all (is_role shape) roles
+    ≡ true →
     list_all (λ c. nat_lt c shape.clients) (role_in roles log).followers ≡ true
 followers-in shape [] log all = refl
 followers-in shape (role ∷ roles) zero all =

@@ -18,7 +18,8 @@ use Rattle.tk_frames.proofs.Offers.{before-none, before-settled}
 use Rattle.tk_report.specs.Entries.{placed_from, placed_after, entries_before}
 use Rattle.tk_report.proofs.TurnEntries.{is_publish, marks-placed_from}
 use Rattle.tk_report.proofs.EpochLaws.{marks-before}
-use Rattle.tk_report.specs.Agreement.{SameOrders, EntriesAgree, TurnEntriesAgree, StandingMarks, PhasesMarked}
+use Rattle.tk_report.specs.Agreement.{SameOrders, EntriesAgree, TurnEntriesAgree, StandingMarks}
+use Rattle.tk_report.specs.Agreement.{PhasesMarked}
 
 -- ---- the entries of two histories
 
@@ -110,7 +111,8 @@ any-none e (p ∷ E) F none also =
 
 -- no mark of the turns before a turn has number 0, or one above how many they are
 turns-unmarked : (write : ℕ → ℕ → WriteFrame) (H : History) (g e : ℕ) →
-    (e ≡ 0) ⊎ (marks_in (entries_before write H g) < e) → has_mark e (entries_before write H g) ≡ false
+    (e ≡ 0) ⊎ (marks_in (entries_before write H g) < e) → has_mark e (entries_before write H g)
+    ≡ false
 unfolding entries_before
 turns-unmarked write H zero e out = refl
 turns-unmarked write H (suc g) e out =

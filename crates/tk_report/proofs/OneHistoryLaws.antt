@@ -14,7 +14,8 @@ use Rattle.tk_schedule.specs.declared.item.Item.{Item}
 use Rattle.tk_schedule.specs.declared.item.Item.TheVariants.{Client, Publish}
 use Rattle.tk_schedule.specs.declared.history.TurnOrder.{TurnOrder}
 use Rattle.tk_schedule.specs.declared.history.History.{History}
-use Rattle.tk_schedule.specs.Schedule.{phase_of, tick_of, is_closing, phases_over, order_at, epoch_at}
+use Rattle.tk_schedule.specs.Schedule.{phase_of, tick_of, is_closing, phases_over, order_at}
+use Rattle.tk_schedule.specs.Schedule.{epoch_at}
 use Rattle.tk_schedule.specs.Schedule.{blank_turn, is_within, IsTurn, IsLegal}
 use Rattle.tk_schedule.proofs.Offers.{turn_within}
 use Rattle.tk_schedule.proofs.Offers.{epochs_of_open}
@@ -269,7 +270,8 @@ turn-told shape H K g x y low legal also e =
     (sym (append_assoc first reads x) ∙ e ∙ append_assoc other others y)
     in
     let told = behind_three (codes "order") (decimal (phase_of shape g))
-    (decimal (tick_of shape g)) (map item_field (order_at H g)) (map item_field (order_at K g)) cut.0
+    (decimal (tick_of shape g)) (map item_field (order_at H g))
+    (map item_field (order_at K g)) cut.0
     in
     let order = items-same shape.clients (order_at H g) (order_at K g) shape.in_range.clients_high
     (turn_within shape g (turn_of H g) legal) (turn_within shape g (turn_of K g) also) told

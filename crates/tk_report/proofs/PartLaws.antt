@@ -1,7 +1,8 @@
 -- The first part of a line, and what the parts of one spell, read one by one.
-use Rattle.std.proofs.Common.{◌≡◌, ◌≢◌, refl, ap, ap₂, sym, ◌∙◌, subst, arith, codes}
-use Rattle.std.proofs.Common.{ℕ, ◌+◌, ◌-◌, ◌<◌, ◌≤◌, ◌^◌, zero, suc, Bool, true, false, cond}
-use Rattle.std.proofs.Common.{List, [], ◌∷◌, ◌++◌, length, take, drop, get_or, append_assoc, decimal}
+use Rattle.std.proofs.Common.{◌≡◌, ◌≢◌, refl, ap, ap₂, sym, ◌∙◌, arith, codes}
+use Rattle.std.proofs.Common.{ℕ, ◌+◌, ◌<◌, ◌≤◌, ◌^◌, zero, suc, Bool, true, false, cond}
+use Rattle.std.proofs.Common.{List, [], ◌∷◌, ◌++◌, length, take, drop, get_or, append_assoc}
+use Rattle.std.proofs.Common.{decimal}
 use Rattle.std.proofs.Common.{Option, Some, None, ne_eqb, eq-eqb}
 use Rattle.std.specs.Prelude.{◌==◌}
 use Rattle.std.specs.List.{onto_first}
@@ -10,7 +11,7 @@ use Rattle.std.proofs.lemmas.Slice.Eq.{bytes_eq-Decides}
 use Rattle.tk_schedule.specs.declared.item.Item.{Item}
 use Rattle.tk_script.specs.Reading.{parts_of, number_spelled, number_before, numbers_spelled}
 use Rattle.tk_script.proofs.PartLaws.{number_spelled-decimal, number_spelled-is}
-use Rattle.tk_report.specs.ReportLines.{item_spelled, item_before, items_spelled, no_line, kind_in}
+use Rattle.tk_report.specs.ReportLines.{item_before, items_spelled, no_line, kind_in}
 use Rattle.tk_report.specs.ReportLines.{order_said, reads_said, kind_by, kind_said}
 use Rattle.tk_report.specs.Heads.{HasHead}
 
@@ -88,7 +89,8 @@ not-spelled text never =
 
 none-by : (word : List ℕ) (o : Option ℕ) (rest : List (List ℕ)) →
     (kind_by word None o rest ≡ no_line) × (kind_by word o None rest ≡ no_line)
-none-by word o rest = (first (bytes_eq word (codes "order")), second (bytes_eq word (codes "order")) o)
+none-by word o rest =
+    (first (bytes_eq word (codes "order")), second (bytes_eq word (codes "order")) o)
   where
     inner : (t : Bool) → cond t no_line no_line ≡ no_line
     inner true = refl

@@ -1,5 +1,8 @@
 -- A client's queue sends what its script says.
-use Rattle.std.proofs.Common.{◌≡◌, ◌<◌, ◌≤◌, ◌+◌, ℕ, zero, suc, true, false, cond, max, List, [], ◌∷◌, ◌++◌, length, map, filter, find, count_by, drop, refl, sym, ap, subst, ◌∙◌, arith, tests, eqb-true, eq-eqb, ne_eqb, append-nil, append_assoc, length-append}
+use Rattle.std.proofs.Common.{◌≡◌, ◌<◌, ◌≤◌, ◌+◌, ℕ, zero, suc, true, false, cond, max, List, []}
+use Rattle.std.proofs.Common.{◌∷◌, ◌++◌, length, map, filter, find, count_by, drop, refl, sym, ap}
+use Rattle.std.proofs.Common.{subst, ◌∙◌, arith, tests, eqb-true, eq-eqb, ne_eqb, append-nil}
+use Rattle.std.proofs.Common.{append_assoc, length-append}
 use Rattle.std.specs.Prelude.{◌==◌, nat_lt, nat_le, slice_get, Option, Some, None}
 use Rattle.std.specs.List.{range_with_len, AllByRecursion}
 use Rattle.std.specs.Option.{option_map, ForSome}
@@ -10,19 +13,25 @@ use Rattle.tk_shape.specs.declared.shape.Shape.{Shape}
 use Rattle.tk_shape.specs.Lengths.{turn_count}
 use Rattle.tk_script.specs.declared.script.Script.{Script}
 use Rattle.tk_script.specs.declared.say.Say.{Say}
-use Rattle.tk_script.specs.Sent.{Sending, writer_of, sendings_from, sendings, in_run, sent, unsent_count}
+use Rattle.tk_script.specs.Sent.{Sending, writer_of, sendings_from, sendings, in_run, sent}
+use Rattle.tk_script.specs.Sent.{unsent_count}
 use Rattle.tk_client.specs.declared.waiting.Waiting.{Waiting}
-use Rattle.tk_client.specs.Writing.{Writing, new_writing, count_of, with_text, first_waiting, after_write}
+use Rattle.tk_client.specs.Writing.{Writing, new_writing, count_of, with_text, first_waiting}
+use Rattle.tk_client.specs.Writing.{after_write}
 use Rattle.tk_frames.proofs.Offers.{each-filter}
 use Rattle.tk_report.specs.Queues.{QueuesSend}
-use Rattle.tk_report.specs.Queues.{turn_said, writes_of, says_in, with_says, writing_before, writing_said, waiting_of}
-use Rattle.tk_report.proofs.EachLaws.{each-weaker, each-append, each-behind, each-passes, filter-none, filter-swap}
+use Rattle.tk_report.specs.Queues.{turn_said, writes_of, says_in, with_says, writing_before}
+use Rattle.tk_report.specs.Queues.{writing_said, waiting_of}
+use Rattle.tk_report.proofs.EachLaws.{each-weaker, each-append, each-behind, each-passes}
+use Rattle.tk_report.proofs.EachLaws.{filter-none, filter-swap}
 use Rattle.tk_report.proofs.EachLaws.{find-none, find-past, find-filter, count-none, count-all}
 use Rattle.tk_report.proofs.CountLaws.{IsCounted, counted-said, written-range, count_of-unwritten}
-use Rattle.tk_report.proofs.SayOrder.{IsSaid, all-said, turn-in, Rising, rising-from_order, rising-filter}
+use Rattle.tk_report.proofs.SayOrder.{IsSaid, all-said, turn-in, Rising, rising-from_order}
+use Rattle.tk_report.proofs.SayOrder.{rising-filter}
 use Rattle.tk_report.proofs.SayOrder.{now-and-later}
 use Rattle.tk_script.proofs.Offers.{behind, sendings-append, sent-late, number-le-turn}
-use Rattle.tk_script.proofs.Offers.{free_after, free_after-append, of_log, sending_behind, sendings_from-append}
+use Rattle.tk_script.proofs.Offers.{free_after, free_after-append, of_log, sending_behind}
+use Rattle.tk_script.proofs.Offers.{sendings_from-append}
 
 -- the turn in which a text is said
 abbrev own : Shape → Say → ℕ

@@ -1,7 +1,8 @@
 -- The lines of a report's history, and what they tell.
-use Rattle.std.proofs.Common.{◌≡◌, refl, ap, ap₂, sym, ◌∙◌, subst, arith, inl, inr}
-use Rattle.std.proofs.Common.{ℕ, zero, suc, ◌+◌, ◌<◌, ◌≤◌, ◌^◌, Bool, true, false, cond}
-use Rattle.std.proofs.Common.{List, [], ◌∷◌, ◌++◌, length, map, codes, decimal, append_assoc, append-nil}
+use Rattle.std.proofs.Common.{◌≡◌, refl, ap, ap₂, sym, ◌∙◌, subst, arith}
+use Rattle.std.proofs.Common.{ℕ, suc, ◌+◌, ◌<◌, ◌≤◌, ◌^◌, Bool, true, false, cond}
+use Rattle.std.proofs.Common.{List, [], ◌∷◌, ◌++◌, length, map, codes, decimal, append_assoc}
+use Rattle.std.proofs.Common.{append-nil}
 use Rattle.std.proofs.Common.{Some}
 use Rattle.std.specs.Str.{bytes_eq}
 use Rattle.std.specs.Prelude.{flat_map, slice_index, slice_index_or, nat_lt}
@@ -12,13 +13,13 @@ use Rattle.tk_shape.specs.declared.shape.Shape.{Shape}
 use Rattle.tk_shape.specs.Lengths.{turn_count}
 use Rattle.tk_schedule.specs.declared.item.Item.{Item}
 use Rattle.tk_schedule.specs.declared.item.Item.TheVariants.{Client, Publish}
-use Rattle.tk_schedule.specs.declared.raw.RawLine.{RawLine}
 use Rattle.tk_schedule.specs.declared.raw.RawKind.{RawKind}
 use Rattle.tk_schedule.specs.declared.raw.RawKind.TheVariants.{Order, Reads, End}
 use Rattle.tk_schedule.specs.declared.history.TurnOrder.{TurnOrder}
 use Rattle.tk_schedule.specs.declared.history.History.{History}
 use Rattle.tk_schedule.specs.Raw.{is_end, is_none_left, ends_once, kinds}
-use Rattle.tk_schedule.specs.Schedule.{phase_of, tick_of, is_closing, phases_over, order_at, epoch_at}
+use Rattle.tk_schedule.specs.Schedule.{phase_of, tick_of, is_closing, phases_over, order_at}
+use Rattle.tk_schedule.specs.Schedule.{epoch_at}
 use Rattle.tk_schedule.specs.Schedule.{blank_turn, is_within, IsTurn, IsLegal}
 use Rattle.tk_schedule.specs.Due.{bad_line}
 use Rattle.tk_schedule.specs.Told as told
@@ -98,7 +99,9 @@ raw-told n text (l ∷ ls) [] lines own e =
       | true ↦ λ stop _.
           record { rest = text; whole = refl; stop = first-stops text l ls lines stop }
       | false ↦ λ _ same.
-          let is : kind_said l ≡ End = heads (kind_said l) End (kinds (raw_from (n + 1) ls)) [] same in
+          let is : kind_said l ≡ End =
+          heads (kind_said l) End (kinds (raw_from (n + 1) ls)) [] same
+          in
           absurd (no-end (is_end (kind_said l)) (said-no_end l) (ap is_end is))
     ] refl e
   where
@@ -226,7 +229,8 @@ order-own shape H g short small legal =
         (subst (AllByRecursion IsShortItem) is
         (items-short shape.clients (order_at H g) shape.in_range.clients_high within))
         (subst (λ (xs : List Item). AllByRecursion IsField
-        (codes "order" ∷ decimal (phase_of shape g) ∷ decimal (tick_of shape g) ∷ map item_field xs))
+        (codes "order" ∷ decimal (phase_of shape g) ∷ decimal
+        (tick_of shape g) ∷ map item_field xs))
         is (order-fields shape H g small legal)))
 
 -- the epochs of a turn as they are told
@@ -297,7 +301,8 @@ turn-text shape H g legal =
     as (λ b. kind_lines
     (cond b (Reads (phase_of shape g) (tick_of shape g) (turn_of H g).epochs ∷ []) [])
     ≡ cond b (line (codes "reads" ∷ reads_fields shape H g)) []) [
-      | true ↦ append-nil (kind_line (Reads (phase_of shape g) (tick_of shape g) (turn_of H g).epochs))
+      | true ↦ append-nil (kind_line
+          (Reads (phase_of shape g) (tick_of shape g) (turn_of H g).epochs))
           ∙ ap (λ (xs : List (List ℕ)).
           line (codes "reads" ∷ decimal (phase_of shape g) ∷ decimal (tick_of shape g) ∷ xs))
           (sym (epochs-told shape H g legal))
@@ -314,7 +319,8 @@ lines-append (x ∷ xs) ys =
 
 -- these are the turns from turn g on
 abbrev AreFrom : History → ℕ → List TurnOrder → Type 0
-AreFrom H g turns = (i : ℕ) → i < length turns → slice_index_or turns i blank_turn ≡ turn_of H (g + i)
+AreFrom H g turns =
+    (i : ℕ) → i < length turns → slice_index_or turns i blank_turn ≡ turn_of H (g + i)
 
 next-from : (H : History) (g : ℕ) (turn : TurnOrder) (turns : List TurnOrder) →
     AreFrom H g (turn ∷ turns) → AreFrom H (g + 1) turns
@@ -473,7 +479,8 @@ bad-first shape l ls other =
     ap (λ b. cond b (bad_line shape (raw_from 2 ls)) (Some 1)) other
 
 pub bad-behind : (shape : Shape) (l : Line) (ls : List Line) →
-    bytes_eq l (codes "report") ≡ true → bad_report_line shape (l ∷ ls) ≡ bad_line shape (raw_from 2 ls)
+    bytes_eq l (codes "report") ≡ true → bad_report_line shape (l ∷ ls)
+    ≡ bad_line shape (raw_from 2 ls)
 unfolding bad_report_line
 bad-behind shape l ls same =
     ap (λ b. cond b (bad_line shape (raw_from 2 ls)) (Some 1)) same

@@ -1,5 +1,6 @@
 -- Lines of fields, and lists that are written one by one.
-use Rattle.std.proofs.Common.{◌≡◌, ◌<◌, ℕ, ◌+◌, List, [], ◌∷◌, ◌++◌, length, map, flat_map, take, get_or, ap, ap₂, sym, ◌∙◌, append_assoc, append-nil, zero-add}
+use Rattle.std.proofs.Common.{◌≡◌, ◌<◌, ℕ, ◌+◌, List, [], ◌∷◌, ◌++◌, length, map, flat_map, take}
+use Rattle.std.proofs.Common.{get_or, ap, ap₂, sym, ◌∙◌, append_assoc, append-nil, zero-add}
 use Rattle.std.specs.List.{join_with_byte, range_with_len}
 use Rattle.std.proofs.lemmas.List.{flat_map_more, map-id, take_more}
 use Rattle.std.proofs.lemmas.List.FromFn.{map-range_with_len_more}

@@ -1,17 +1,14 @@
 -- A record that is retained is shown, and its text is what is looked up.
 use Rattle.std.proofs.Common.{◌≡◌, refl, ap, ap₂, sym, ◌∙◌, subst, arith, inl, inr, eq-eqb}
 use Rattle.std.proofs.Common.{ℕ, zero, suc, ◌+◌, ◌-◌, Bool, true, false, cond, ◌&&◌, ◌==◌}
-use Rattle.std.proofs.Common.{List, [], ◌∷◌, ◌++◌, length, drop, Option, Some, None}
-use Rattle.std.proofs.Common.{eqb-true, count_by, zero-add, ◌||◌}
+use Rattle.std.proofs.Common.{List, [], ◌∷◌, length, drop, Option, Some, None}
+use Rattle.std.proofs.Common.{eqb-true, ◌||◌}
 use Rattle.std.specs.List.{AllByRecursion, list_all}
 use Rattle.std.specs.Option.{option_or, option_map}
 use Rattle.std.proofs.lemmas.Bool.{both_ways}
 use Rattle.tk_shape.specs.declared.shape.Shape.{Shape}
 use Rattle.tk_shape.specs.Lengths.{turn_count}
-use Rattle.tk_schedule.specs.declared.item.Item.{Item}
-use Rattle.tk_schedule.specs.declared.item.Item.TheVariants.{Client, Publish}
 use Rattle.tk_schedule.specs.declared.history.History.{History}
-use Rattle.tk_schedule.specs.Schedule.{order_at}
 use Rattle.tk_script.specs.declared.script.Script.{Script}
 use Rattle.tk_script.specs.Sent.{Sending, sent}
 use Rattle.std.proofs.lemmas.Bool.{and_parts as parts}
@@ -19,7 +16,7 @@ use Rattle.tk_words.specs.Words.{BookWords, sealed, opened}
 use Rattle.tk_words.specs.Opening.{IsNumber, OpensSealed}
 use Rattle.tk_frames.specs.declared.write_frame.WriteFrame.{WriteFrame}
 use Rattle.tk_frames.specs.declared.entry.Placed.{Placed}
-use Rattle.tk_frames.specs.Order.{Record, is_mark_entry, is_mark_of, records, up_to_mark, before}
+use Rattle.tk_frames.specs.Order.{Record, is_mark_of, records, up_to_mark, before}
 use Rattle.tk_frames.specs.Lists.{first_some}
 use Rattle.tk_table.specs.Ordered.{AscendFrom}
 use Rattle.tk_table.specs.Table.{window, has_position, retained}
@@ -32,7 +29,7 @@ use Rattle.tk_bloom.proofs.Offers.{is_shown-positions_of}
 use Rattle.tk_table.specs.Shown.{pushes_of, is_shown}
 use Rattle.tk_client.specs.Writes.{write_of}
 use Rattle.tk_report.specs.Queues.{waiting_of}
-use Rattle.tk_report.specs.Entries.{write_at, placed_from, placed_after, entries_before}
+use Rattle.tk_report.specs.Entries.{write_at}
 use Rattle.tk_report.specs.Entries.{entries}
 use Rattle.tk_report.proofs.RecordLaws.{ArePlacedFrom}
 use Rattle.tk_report.specs.PassingOver.{IsRecordOf, IsNotRetained, RecordsAreShown}
@@ -85,7 +82,8 @@ each-own (x ∷ xs) all within =
     (within x (inl refl), each-own xs all (λ y there. within y (inr there)))
 
 -- what is retained is among the records
-pub retained-own : (shape : Shape) (R : List Record) (r : Record) → IsIn (retained shape R) r → IsIn R r
+pub retained-own : (shape : Shape) (R : List Record) (r : Record) → IsIn (retained shape R) r →
+    IsIn R r
 retained-own shape R r there =
     each-in (IsIn R) (retained shape R) r
     (retained-each (IsIn R) shape R (each-own R R (λ x h. h))) there
@@ -223,7 +221,9 @@ pub not_found-not_retained : (S : Script) (w : BookWords) (R : List Record) (log
 unfolding lookup
 not_found-not_retained S w R log s opens number none r there known =
     let kept = in_from_contains (retained S.shape R) r there in
-    let gives_none = none-each (text_in (w.pair log s) (opened w log s)) (retained S.shape R) r none kept in
+    let gives_none =
+    none-each (text_in (w.pair log s) (opened w log s)) (retained S.shape R) r none kept
+    in
     some_none known.sending.text
     (sym (record-gives S w log s r opens number known) ∙ gives_none)
   where

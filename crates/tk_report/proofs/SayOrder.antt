@@ -314,7 +314,8 @@ said-rises S g = rises S.shape g S.says
         let more = before-more shape k y says in
         let next = before-more shape (k + 1) y says in
         let rest = rises shape k says in
-        let one : cond {A = ℕ} (is_before shape k y) 1 0 ≤ cond {A = ℕ} (is_before shape (k + 1) y) 1 0 =
+        let one : cond {A = ℕ} (is_before shape k y) 1 0
+        ≤ cond {A = ℕ} (is_before shape (k + 1) y) 1 0 =
         grind (arith, tests)
         in
         omega (arith, more, next, rest, one)
@@ -407,7 +408,8 @@ now-and-later shape g (y ∷ says) rising from =
           record {
             later = y ∷ says;
             is = ap (λ zs. zs ++ y ∷ says)
-                (sym (filter-none (λ (z : Say). turn_said shape z == g) (y ∷ says) (not_now, none)));
+                (sym (filter-none (λ (z : Say). turn_said shape z == g) (y ∷ says)
+                (not_now, none)));
             rising = rising;
             from = (here, others);
           }

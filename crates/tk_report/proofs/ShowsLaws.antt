@@ -8,7 +8,8 @@ use Rattle.tk_schedule.specs.declared.history.History.{History}
 use Rattle.tk_script.specs.declared.script.Script.{Script}
 use Rattle.tk_script.specs.Sent.{unsent_count}
 use Rattle.tk_words.specs.Words.{BookWords, words_of}
-use Rattle.tk_report.specs.Report.{line, role_at, got_of, log_lines, unsent_line, history_lines, report_text, report_of}
+use Rattle.tk_report.specs.Report.{line, role_at, got_of, log_lines, unsent_line, history_lines}
+use Rattle.tk_report.specs.Report.{report_text, report_of}
 use Rattle.tk_report.specs.Shown.{begins_with}
 use Rattle.tk_report.specs.Histories.{ReportsShow}
 
@@ -19,7 +20,8 @@ is_rest rest = begins_with (codes "log") rest || begins_with (codes "unsent") re
 -- lines for each, in front of what may come behind a history, may come behind one too
 each-rest : {X : Type 0} (f : X → List ℕ) →
     ((x : X) (behind : List ℕ) → is_rest behind ≡ true → is_rest (f x ++ behind) ≡ true) →
-    (xs : List X) (behind : List ℕ) → is_rest behind ≡ true → is_rest (flat_map f xs ++ behind) ≡ true
+    (xs : List X) (behind : List ℕ) → is_rest behind ≡ true → is_rest (flat_map f xs ++ behind)
+    ≡ true
 each-rest f keeps [] behind is = is
 each-rest f keeps (x ∷ xs) behind is =
     ap is_rest (append_assoc (f x) (flat_map f xs) behind)
@@ -48,7 +50,9 @@ reports-show S b H legal =
     let w = words_of S.shape b in
     let head = line (codes "report" ∷ []) ++ history_lines S.shape H in
     let logs = flat_map (logs_of S w H) (range_with_len 0 S.shape.logs) in
-    let unsent = flat_map (λ c. unsent_line c (unsent_count S c)) (range_with_len 0 S.shape.clients) in
+    let unsent =
+    flat_map (λ c. unsent_line c (unsent_count S c)) (range_with_len 0 S.shape.clients)
+    in
     let end = line (codes "end" ∷ []) in
     let is : is_rest (logs ++ (unsent ++ end)) ≡ true =
     each-rest (logs_of S w H) (log-rest S w H) (range_with_len 0 S.shape.logs) (unsent ++ end)

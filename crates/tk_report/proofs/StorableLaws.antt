@@ -1,7 +1,8 @@
 -- The writes of a legal history can be stored.
 use Rattle.std.proofs.Common.{◌≡◌, refl, sym, subst, arith, tests}
 use Rattle.std.proofs.Common.{ℕ, zero, suc, ◌+◌, ◌-◌, ◌*◌, ◌<◌, ◌≤◌, true, false, nat_lt}
-use Rattle.std.proofs.Common.{List, [], ◌∷◌, length, count_by, length-append, length-drop, Some, None}
+use Rattle.std.proofs.Common.{List, [], ◌∷◌, length, count_by, length-append, length-drop, Some}
+use Rattle.std.proofs.Common.{None}
 use Rattle.std.specs.Prelude.{if◌then◌else◌}
 use Rattle.std.specs.List.{AllByRecursion, list_all, cons_option}
 use Rattle.std.specs.Option.{option_map}
@@ -23,9 +24,11 @@ use Rattle.tk_kernel.specs.Xor.{xor_bytes}
 use Rattle.tk_kernel.proofs.Offers.{length-xor_bytes}
 use Rattle.tk_seal.specs.Seal.{plain, hmac, keyed_tag}
 use Rattle.tk_seal.proofs.PlainForms.{length-plain}
-use Rattle.tk_words.specs.Words.{WordBook, keyed, drawn, IsBook, words_of, pad_of, tag_of, fresh_write}
+use Rattle.tk_words.specs.Words.{WordBook, keyed, drawn, IsBook, words_of, pad_of, tag_of}
+use Rattle.tk_words.specs.Words.{fresh_write}
 use Rattle.tk_words.specs.Words.{write_cell, keyed_cell, write_part, cell_block, sealed, handle_at}
-use Rattle.tk_words.specs.CellLaws.{place_within, length-write_part, length-piece, length-keyed_cell}
+use Rattle.tk_words.specs.CellLaws.{place_within, length-write_part, length-piece}
+use Rattle.tk_words.specs.CellLaws.{length-keyed_cell}
 use Rattle.tk_words.specs.Opening.{IsNumber}
 use Rattle.tk_words.specs.OpeningLaws.{length-pad_of}
 use Rattle.tk_frames.proofs.Bounds.{turn_count_small}

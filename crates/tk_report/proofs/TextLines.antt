@@ -1,8 +1,9 @@
 -- The first line of a text, and the line that stands behind a history.
-use Rattle.std.proofs.Common.{◌≡◌, ◌≢◌, refl, ap, sym, ◌∙◌, ◌⊎◌, inl, inr, eq-eqb, ne_eqb, eqb-true, arith}
-use Rattle.std.proofs.Common.{ℕ, eqb, Bool, true, false, cond, ◌||◌, ◌==◌}
+use Rattle.std.proofs.Common.{◌≡◌, ◌≢◌, refl, ap, ◌∙◌, ◌⊎◌, inl, inr, ne_eqb, eqb-true}
+use Rattle.std.proofs.Common.{arith}
+use Rattle.std.proofs.Common.{ℕ, Bool, true, false, cond, ◌||◌, ◌==◌}
 use Rattle.std.proofs.Common.{List, [], ◌∷◌, ◌++◌, codes, append_assoc}
-use Rattle.std.specs.Prelude.{nat_eq, drop, length}
+use Rattle.std.specs.Prelude.{drop, length}
 use Rattle.std.proofs.lemmas.Slice.Eq.{starts_is}
 use Rattle.std.proofs.lemmas.Bool.Decides.{Decides-eqb}
 use Rattle.std.specs.List.{onto_first}

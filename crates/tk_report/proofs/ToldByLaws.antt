@@ -22,7 +22,8 @@ use Rattle.tk_report.proofs.TurnEntries.{length-placed_from}
 use Rattle.tk_report.specs.Entries.{write_at, placed_from, placed_after, entries_before}
 use Rattle.tk_report.specs.Agreement.{SameOrders}
 use Rattle.tk_report.proofs.WrittenLaws.{write_at-client}
-use Rattle.tk_report.specs.Histories.{OrdersAndEpochsTell, EntriesTellOrders, item_in, items_in, IsOfTurn, next_mark, TurnsReadOff}
+use Rattle.tk_report.specs.Histories.{OrdersAndEpochsTell, EntriesTellOrders, item_in, items_in}
+use Rattle.tk_report.specs.Histories.{IsOfTurn, next_mark, TurnsReadOff}
 
 -- ---- orders and epochs
 

@@ -17,7 +17,7 @@ use Rattle.tk_words.specs.Words.{WordBook, BookWords, keyed, drawn, words_of, pa
 use Rattle.tk_frames.specs.declared.write_frame.WriteFrame.{WriteFrame}
 use Rattle.tk_frames.specs.declared.entry.Placed.{Placed}
 use Rattle.tk_frames.specs.Order.{Record, is_mark_entry, is_mark_of, records, up_to_mark, before}
-use Rattle.tk_table.specs.Ordered.{AscendFrom, HasBuckets, AreOrdered}
+use Rattle.tk_table.specs.Ordered.{HasBuckets, AreOrdered}
 use Rattle.tk_frames.specs.Lists.{IsIn}
 use Rattle.tk_frames.proofs.Offers.{in_from_contains, in_front, each-in}
 use Rattle.tk_client.specs.declared.waiting.Waiting.{Waiting}

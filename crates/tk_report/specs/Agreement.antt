@@ -91,7 +91,8 @@ pub record ReadsAgree (S : Script) (w : BookWords) (H K : History) (c g : ℕ) :
   pub reader : reader_before S w H c g ≡ reader_before S w K c g
   pub target : target_at S w H g c ≡ target_at S w K g c
   pub pair : read_pair S w H g c ≡ read_pair S w K g c
-  pub answer : answer_for S w H g c (target_at S w H g c) ≡ answer_for S w K g c (target_at S w K g c)
+  pub answer : answer_for S w H g c (target_at S w H g c)
+      ≡ answer_for S w K g c (target_at S w K g c)
 
 abbrev pub AlikeReadsAgree : Type 0
 AlikeReadsAgree =

@@ -1,5 +1,6 @@
 -- What is retained is delivered as it was written, and nothing else is.
-use Rattle.std.specs.Prelude.{◌≡◌, ◌↔◌, ℕ, ◌<◌, ◌==◌, Bool, true, false, not, ◌&&◌, ◌||◌, List, Option, Some, None, is_some, Contains}
+use Rattle.std.specs.Prelude.{◌≡◌, ◌↔◌, ℕ, ◌<◌, ◌==◌, Bool, true, false, not, ◌&&◌, ◌||◌, List}
+use Rattle.std.specs.Prelude.{Option, Some, None, is_some, Contains}
 use Rattle.std.specs.List.{AllByRecursion, list_all, range_with_len}
 use Rattle.tk_schedule.specs.declared.history.History.{History}
 use Rattle.tk_script.specs.declared.script.Script.{Script}

@@ -28,7 +28,8 @@ read_at S b H g c j =
     let size = vector_len S.shape in
     let pair = read_pair S (words_of S.shape b) H g c in
     let drawn = fresh_vectors S.shape b g c in
-    frame_with g c (epoch_at H g c) (shares size pair.0 drawn.first) (shares size pair.1 drawn.second)
+    frame_with g c (epoch_at H g c) (shares size pair.0 drawn.first)
+    (shares size pair.1 drawn.second)
     j
 
 -- a read frame, and behind it the reply over these writes

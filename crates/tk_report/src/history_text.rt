@@ -1,7 +1,9 @@
-ghost use Rattle.std.specs.Prelude.{◌≡◌, ◌<◌, ◌≤◌, ◌++◌, ◌∷◌, [], length, map, flat_map, codes, decimal, slice_index_or, OnOk};
+ghost use Rattle.std.specs.Prelude.{◌≡◌, ◌<◌, ◌≤◌, ◌++◌, ◌∷◌, [], length, map, flat_map, codes};
+ghost use Rattle.std.specs.Prelude.{decimal, slice_index_or, OnOk};
 ghost use Rattle.std.specs.List.{range_with_len, join_with_byte};
 ghost use Rattle.tk_shape.specs.Lengths.{turn_count};
-ghost use Rattle.tk_schedule.specs.Schedule.{IsLegal, blank_turn, phase_of, tick_of, order_at, epoch_at};
+ghost use Rattle.tk_schedule.specs.Schedule.{IsLegal, blank_turn, phase_of, tick_of, order_at};
+ghost use Rattle.tk_schedule.specs.Schedule.{epoch_at};
 ghost use Rattle.tk_report.specs.Report.{line, item_field, turn_lines, history_lines};
 
 use std::alloc::Global;

@@ -1,5 +1,4 @@
 -- The text up to its first space, and the text behind it.
-use Rattle.std.proofs.Common.{◌≡◌}
 use Rattle.std.proofs.lemmas.List.{take_rest}
 use Rattle.tk_report.proofs.PartLaws.{parts-first, parts-whole}
 use Rattle.tk_report.proofs.line_kind.first_part.Goals as goal

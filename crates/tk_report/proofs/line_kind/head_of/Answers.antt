@@ -2,7 +2,8 @@
 use Rattle.std.proofs.Common.{◌≡◌, ◌∷◌, [], List, ℕ, sym, ◌∙◌, Bor, None}
 use Rattle.tk_script.specs.Reading.{parts_of, number_spelled}
 use Rattle.tk_report.proofs.OptionLaws.{none-then, some-then, if-none}
-use Rattle.tk_report.proofs.PartLaws.{kind-one, kind-two, kind-three, kind-no_phase, kind-no_tick, parts-four}
+use Rattle.tk_report.proofs.PartLaws.{kind-one, kind-two, kind-three, kind-no_phase, kind-no_tick}
+use Rattle.tk_report.proofs.PartLaws.{parts-four}
 use Rattle.tk_report.proofs.line_kind.head_of.Goals as goal
 
 -- what stands behind a part

@@ -1,6 +1,5 @@
 -- By its word a line says an order or epochs, or nothing.
 use Rattle.std.proofs.Common.{◌≡◌, ◌∙◌, sym, codes, Bool, true, false}
-use Rattle.std.specs.Str.{bytes_eq}
 use Rattle.std.proofs.lemmas.Slice.Eq.{bytes_eq-Decides}
 use Rattle.tk_report.proofs.OptionLaws.{ok-then}
 use Rattle.tk_report.proofs.PartLaws.{head-order, head-reads, head-other}

@@ -1,5 +1,6 @@
 -- The text up to its first line feed, and the text behind it.
-use Rattle.std.proofs.Common.{◌≡◌, ◌<◌, ◌∷◌, ◌-◌, [], length, take, drop, arith, rules, ap, sym, ◌∙◌, List, ℕ}
+use Rattle.std.proofs.Common.{◌≡◌, ◌<◌, ◌∷◌, ◌-◌, [], length, take, drop, arith, rules, ap, sym}
+use Rattle.std.proofs.Common.{◌∙◌, List, ℕ}
 use Rattle.std.proofs.lemmas.List.{take_rest}
 use Rattle.tk_script.specs.Grammar.{lines_of}
 use Rattle.tk_script.proofs.LineLaws.{lines_of-first, lines_of-whole, lines_of-empty, empty_lines}
