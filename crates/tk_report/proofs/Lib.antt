@@ -32,3 +32,10 @@ pub mod FalsePositive
 pub mod ClearTests
 pub mod Offers
 pub mod OutcomeLaws
+pub mod ListTests
+pub mod ClientsLaws
+pub mod SayingLaws
+pub mod ComingLaws
+pub mod WritingLaws
+pub mod PlacingLaws
+pub mod ReadingLaws

@@ -1,11 +1,14 @@
 -- What the proofs of other crates may cite.
 
 -- entries
-pub use Rattle.tk_report.proofs.TurnEntries.{entry_of, is_publish, length-placed_from, marks-placed_from}
+pub use Rattle.tk_report.proofs.TurnEntries.{entry_of, is_publish, length-placed_from}
+pub use Rattle.tk_report.proofs.TurnEntries.{marks-placed_from}
 pub use Rattle.tk_report.proofs.TurnEntries.{placed_from-append, placed_after-append}
 pub use Rattle.tk_report.proofs.EpochLaws.{marks-before}
-pub use Rattle.tk_report.proofs.WrittenLaws.{write_at-client, write_at-turn, turns-own, entries-placed}
-pub use Rattle.tk_report.proofs.WrittenLaws.{pair-low, each-is_written, before-front, epochs-ordered}
+pub use Rattle.tk_report.proofs.WrittenLaws.{write_at-client, write_at-turn, turns-own}
+pub use Rattle.tk_report.proofs.WrittenLaws.{entries-placed}
+pub use Rattle.tk_report.proofs.WrittenLaws.{pair-low, each-is_written, before-front}
+pub use Rattle.tk_report.proofs.WrittenLaws.{epochs-ordered}
 pub use Rattle.tk_report.proofs.MarkedLaws.{entries-agree, turn_entries-agree, before-standing}
 pub use Rattle.tk_report.proofs.MarkedLaws.{before-made, before-over, before-agree, phases-marked}
 pub use Rattle.tk_report.proofs.StorableLaws.{length-written, epochs-storable}
@@ -24,3 +27,11 @@ pub use Rattle.tk_report.proofs.LaidOutLaws.{layout-gives-lookup, bytes-give-loo
 pub use Rattle.tk_report.proofs.LeavingLaws.{ends-leave, ends-text, writing-logs, reader-logs}
 pub use Rattle.tk_report.proofs.ShowsLaws.{reports-show}
 pub use Rattle.tk_report.proofs.OneHistoryLaws.{shows-one}
+-- clients and entries within a turn
+pub use Rattle.tk_report.proofs.WritingLaws.{after-none, after-next, after-item, after-all}
+pub use Rattle.tk_report.proofs.WritingLaws.{client-below}
+pub use Rattle.tk_report.proofs.ComingLaws.{IsDue, item-due, in-none, in-past}
+pub use Rattle.tk_report.proofs.ComingLaws.{so_far-none, so_far-all}
+pub use Rattle.tk_report.proofs.ListTests.{list_all-at}
+-- what clients know before a run, and in it
+pub use Rattle.tk_report.proofs.ClientsLaws.{clients-first, clients-know}

@@ -1,15 +1,20 @@
--- The clients of a run: what each has to write and knows before a turn.
-use Rattle.std.specs.Prelude.{◌≡◌, ℕ, ◌<◌, List, length, slice_index_or, None}
+-- The clients of a run: what each has to write and knows before a turn, and within it.
+use Rattle.std.specs.Prelude.{◌≡◌, ℕ, ◌+◌, ◌<◌, Bool, cond, List, [], ◌∷◌, length, slice_index_or}
+use Rattle.std.specs.Prelude.{None}
+use Rattle.std.specs.List.{list_any}
 use Rattle.tk_shape.specs.declared.shape.Shape.{Shape}
 use Rattle.tk_shape.specs.Lengths.{turn_count}
 use Rattle.tk_schedule.specs.declared.history.History.{History}
+use Rattle.tk_schedule.specs.declared.item.Item.{Item}
+use Rattle.tk_schedule.specs.Schedule.{is_of}
 use Rattle.tk_script.specs.declared.script.Script.{Script}
 use Rattle.tk_words.specs.Words.{BookWords}
-use Rattle.tk_client.specs.Reader.{Reader}
+use Rattle.tk_client.specs.Reader.{Reader, new_reader}
 use Rattle.tk_client.specs.Writing.{Writing}
 use Rattle.tk_client.specs.Client.{ClientState}
-use Rattle.tk_report.specs.Queues.{writing_before}
-use Rattle.tk_report.specs.Report.{reader_before}
+use Rattle.tk_client.specs.Looking.{LookerState}
+use Rattle.tk_report.specs.Queues.{writing_before, writing_said}
+use Rattle.tk_report.specs.Report.{follows_of, reader_before}
 
 -- a client that waits for no replies
 abbrev pub idle : Shape → ℕ → Writing → Reader → ClientState
@@ -31,3 +36,54 @@ pub record AreClients (count : ℕ) (state : ℕ → ClientState) (clients : Lis
 abbrev pub AreClientsAtEnd : Script → BookWords → History → List ClientState → Type 0
 AreClientsAtEnd S w H clients =
     AreClients S.shape.clients (client_before S w H (turn_count S.shape)) clients
+
+-- ---- what clients write, whatever each knows as a reader
+
+-- what each client knows before turn g, and what each knows first
+abbrev pub known_before : Script → BookWords → History → ℕ → ℕ → Reader
+known_before S w H g c = reader_before S w H c g
+
+abbrev pub known_first : Script → ℕ → Reader
+known_first S c = new_reader (follows_of S c)
+
+-- client c before turn g, where this is what each client knows
+unfoldable pub client_knowing : Script → (ℕ → Reader) → ℕ → ℕ → ClientState
+client_knowing S knows g c = idle S.shape c (writing_before S c g) (knows c)
+
+-- and after the texts of turn g were said
+unfoldable pub client_told : Script → (ℕ → Reader) → ℕ → ℕ → ClientState
+client_told S knows g c = idle S.shape c (writing_said S c g) (knows c)
+
+-- a client that is so, whatever it knows
+pub record IsTold (S : Script) (g c : ℕ) (client : ClientState) : Type 0 where
+  pub knows : ℕ → Reader
+  pub is : client ≡ client_told S knows g c
+
+-- whether one of these items is the write of client c
+abbrev pub has_written : List Item → ℕ → Bool
+has_written items c = list_any (is_of c) items
+
+-- after these items of turn g
+abbrev pub client_after : Script → (ℕ → Reader) → ℕ → List Item → ℕ → ClientState
+client_after S knows g items c =
+    cond (has_written items c) (client_knowing S knows (g + 1) c) (client_told S knows g c)
+
+-- ---- those who look in place of clients
+
+-- one who knows before turn g what client c does
+abbrev pub looker_before : Script → BookWords → History → ℕ → ℕ → LookerState
+looker_before S w H g c = record { shape = S.shape; reader = reader_before S w H c g }
+
+-- one for each number from 0 on, each as it is told
+pub record AreLookers (count : ℕ) (state : ℕ → LookerState) (lookers : List LookerState)
+    : Type 0 where
+  pub counted : length lookers ≡ count
+  pub each : (c : ℕ) (d : LookerState) → c < length lookers →
+      slice_index_or lookers c d ≡ state c
+
+-- clients of which each knows what one of these does
+abbrev pub joined : List ClientState → List LookerState → List ClientState
+joined [] lookers = []
+joined (client ∷ clients) [] = []
+joined (client ∷ clients) (looker ∷ lookers) =
+    record client { reader = looker.reader } ∷ joined clients lookers

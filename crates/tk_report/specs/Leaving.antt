@@ -52,6 +52,10 @@ got_by clients c log = slice_index_or (map (λ k. got_in k.reader.follows log) c
 abbrev pub unsent_by : List ClientState → ℕ → ℕ
 unsent_by clients c = slice_index (map (λ k. length k.writing.waiting) clients) c
 
+-- the report of a history of these roles, of which these clients are left
+abbrev pub left_text : Shape → List Role → History → List ClientState → List ℕ
+left_text shape roles H clients = report_text shape roles H (got_by clients) (unsent_by clients)
+
 -- ---- the clients at the end of a run
 
 -- they are those of an outcome
@@ -65,4 +69,4 @@ abbrev pub EndsReport : Type 0
 EndsReport =
     (S : Script) (w : BookWords) (H : History) (clients : List ClientState) →
     AreClientsAtEnd S w H clients →
-    report_text S.shape S.roles H (got_by clients) (unsent_by clients) ≡ report_of S w H
+    left_text S.shape S.roles H clients ≡ report_of S w H

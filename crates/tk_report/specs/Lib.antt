@@ -12,3 +12,5 @@ pub mod Heads
 pub mod Agreement
 pub mod Histories
 pub mod Delivered
+pub mod Turns
+pub mod Folds

@@ -5,12 +5,11 @@ use Rattle.tk_script.specs.declared.script.Script.{Script}
 use Rattle.tk_words.specs.Words.{BookWords}
 use Rattle.tk_report.specs.declared.outcome.Outcome.{Outcome}
 use Rattle.tk_report.specs.Clients.{AreClientsAtEnd}
-use Rattle.tk_report.specs.Leaving.{got_by, unsent_by}
-use Rattle.tk_report.specs.Report.{report_text, report_of}
+use Rattle.tk_report.specs.Leaving.{left_text}
+use Rattle.tk_report.specs.Report.{report_of}
 
 abbrev pub outcome_text : Outcome → List ℕ
-outcome_text o =
-    report_text o.shape o.roles o.history (got_by o.clients) (unsent_by o.clients)
+outcome_text o = left_text o.shape o.roles o.history o.clients
 
 -- the run of a script with these words and this history left it
 pub record IsLeftBy (S : Script) (w : BookWords) (H : History) (o : Outcome) : Type 0 where

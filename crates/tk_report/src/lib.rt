@@ -1,25 +1,42 @@
-//! What a run delivers, for every legal history: its entries, what each log gives to each follower, the report, and what
-//! each server sees.
+//! What a run delivers, for every legal history: its entries, what each log gives to each follower,
+//! the report, and what each server sees.
 #![tactic(auto)]
 
 mod clients;
+mod folding;
 mod history_text;
 mod laws;
+mod left;
 mod line_kind;
 mod log_text;
+mod opening;
 mod outcome;
 mod outcome_text;
 mod parsing;
+mod plan;
+mod reading;
 mod report_lines;
+mod report_text;
+mod reporting;
+mod saying;
+mod telling;
+mod writing;
 
 pub use clients::Clients;
 pub use laws::{
     agreement, clear, delivered, ends, honest_passing_over, laid_out, marks, one_history,
     queues_send, records_are_shown, told,
 };
+pub use opening::open_clients;
 pub use outcome::Outcome;
 pub use outcome_text::print_outcome;
 pub use parsing::parse_history;
+pub use plan::Plan;
+pub use reporting::report;
+pub use saying::say_turn;
+pub use writing::entry_of;
 
+#[cfg(test)]
+mod report_tests;
 #[cfg(test)]
 mod tests;

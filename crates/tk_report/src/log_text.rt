@@ -3,40 +3,46 @@ ghost use Rattle.std.specs.List.{range_with_len};
 ghost use Rattle.tk_report.specs.Leaving.{got_by};
 ghost use Rattle.tk_report.specs.Report.{line, got_line, got_lines, log_lines, role_in};
 
-use crate::Outcome;
+use crate::left::Left;
+use crate::telling::Telling;
 use std::alloc::Global;
 use tk_client::Got;
 use tk_script::{push_numbers, push_numbers_line};
 use tk_shape::Memory;
 
 /// Appends what each log gave to each of its followers.
-pub(crate) fn push_logs(alloc: Global, outcome: &Outcome, out: &mut Vec<u8>) -> Result<(), Memory>
-    ensures ok { OnOk result (out.new.items ≡ out.old.items
-        ++ flat_map (λ log. flat_map (λ c. log_lines log c (got_by outcome.now.clients c log))
-        (role_in outcome.now.roles log).followers) (range_with_len 0 outcome.now.shape.logs)) }
+pub(crate) fn push_logs<L: Left>(
+    alloc: Global,
+    told: &Telling<L>,
+    out: &mut Vec<u8>,
+) -> Result<(), Memory>
+    ensures ok { let clients = L.clients told.now.left.now in
+        OnOk result (out.new.items ≡ out.old.items
+        ++ flat_map (λ log. flat_map (λ c. log_lines log c (got_by clients c log))
+        (role_in told.now.roles.now log).followers) (range_with_len 0 told.now.shape.now.logs)) }
 {
-    for log in 0..outcome.shape.logs {
-        push_followers(alloc, outcome, log, out)?;
+    for log in 0..told.shape.logs {
+        push_followers(alloc, told, log, out)?;
     }
     Ok(())
 }
 
 /// Appends what a log gave to each of its followers.
-fn push_followers(
+fn push_followers<L: Left>(
     alloc: Global,
-    outcome: &Outcome,
+    told: &Telling<L>,
     log: u32,
     out: &mut Vec<u8>,
 ) -> Result<(), Memory>
-    requires log_in { log < outcome.now.shape.logs }
-    ensures ok { OnOk result (out.new.items ≡ out.old.items
-        ++ flat_map (λ c. log_lines log c (got_by outcome.now.clients c log))
-        (role_in outcome.now.roles log).followers) }
+    requires log_in { log < told.now.shape.now.logs }
+    ensures ok { let clients = L.clients told.now.left.now in
+        OnOk result (out.new.items ≡ out.old.items
+        ++ flat_map (λ c. log_lines log c (got_by clients c log))
+        (role_in told.now.roles.now log).followers) }
 {
-    let clients = outcome.clients.as_slice();
-    let followers = outcome.role(log).followers.as_slice();
+    let followers = told.role(log).followers.as_slice();
     for client in followers {
-        let got = clients[*client as usize].log(log);
+        let got = told.left.got(*client, log);
         push_log(alloc, log, *client, got, out)?;
     }
     Ok(())

@@ -5,6 +5,7 @@ use Rattle.tk_report.specs.Report.{log_lines}
 use Rattle.tk_report.proofs.log_text.push_followers.Given as goal
 
 abbrev pub invariant-loop-client : goal.invariant-loop-client
-invariant-loop-client l =
-    let lines = λ (k : ℕ). log_lines l.log k (got_by l.outcome.clients k l.log) in
+invariant-loop-client g l =
+    let clients = g.L.Left.clients l.told.left.now in
+    let lines = λ (k : ℕ). log_lines l.log k (got_by clients k l.log) in
     l.out.items ≡ l.fn.out.items ++ flat_map lines (take l.client-index l.followers)

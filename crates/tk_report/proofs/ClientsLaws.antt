@@ -1,0 +1,304 @@
+-- The clients before the first turn, and the logs that each writes and follows.
+use Rattle.std.proofs.Common.{◌≡◌, ◌∙◌, refl, ap, ap₂, sym, subst, arith}
+use Rattle.std.proofs.Common.{ℕ, zero, suc, ◌+◌, ◌<◌, ◌≤◌, add-one, append-nil}
+use Rattle.std.proofs.Common.{Bool, true, false, cond, List, [], ◌∷◌, ◌++◌, length, filter}
+use Rattle.std.proofs.Common.{inl, inr, length-append}
+use Rattle.std.proofs.Math.ListN.{get_or-append}
+use Rattle.std.proofs.lemmas.Bool.{cases_lt}
+use Rattle.std.specs.Prelude.{All, slice_index, slice_index_or}
+use Rattle.std.specs.List.{range_with_len, AllByRecursion}
+use Rattle.std.specs.List.Sorted.{IsStrictlyIncreasing}
+use Rattle.std.proofs.lemmas.List.Elements.{filter-append, All-from_recursion}
+use Rattle.tk_schedule.specs.declared.history.History.{History}
+use Rattle.tk_script.specs.declared.script.Script.{Script}
+use Rattle.tk_words.specs.Words.{BookWords}
+use Rattle.tk_client.specs.declared.got.Got.{Got}
+use Rattle.tk_client.specs.Reader.{got_in}
+use Rattle.tk_client.specs.Client.{ClientState, new_client}
+use Rattle.tk_client.specs.Looking.{LookerState, new_looker}
+use Rattle.tk_report.specs.Clients.{AreClients, client_before, client_knowing}
+use Rattle.tk_report.specs.Clients.{known_first, known_before, AreLookers, looker_before, joined}
+use Rattle.tk_report.specs.Leaving.{got_by, unsent_by}
+use Rattle.tk_report.specs.Queues.{writes_of, writing_before}
+use Rattle.tk_report.specs.Report.{follows_of, reader_before}
+
+-- ---- the logs that pass a test
+
+range-more : (a n : ℕ) → range_with_len a (suc n) ≡ range_with_len a n ++ (a + n) ∷ []
+range-more a zero = ap (λ k. k ∷ []) here
+  where
+    here : a ≡ a + 0
+    here = omega arith
+range-more a (suc n) =
+    let behind = range_with_len (a + 1) n in
+    ap (λ ks. a ∷ ks) (range-more (a + 1) n ∙ ap (λ k. behind ++ k ∷ []) there)
+  where
+    there : a + 1 + n ≡ a + suc n
+    there = omega arith
+
+-- the logs below one and the log itself
+range-next : (log : ℕ) → range_with_len 0 (log + 1) ≡ range_with_len 0 log ++ log ∷ []
+range-next log =
+    ap (range_with_len 0) (add-one log) ∙ range-more 0 log
+    ∙ ap (λ k. range_with_len 0 log ++ k ∷ []) here
+  where
+    here : 0 + log ≡ log
+    here = omega arith
+
+one-more : (p : ℕ → Bool) (log : ℕ) (b : Bool) → p log ≡ b →
+    filter p (range_with_len 0 (log + 1))
+    ≡ filter p (range_with_len 0 log) ++ cond b (log ∷ []) []
+one-more p log b here =
+    ap (filter p) (range-next log)
+    ∙ filter-append p (range_with_len 0 log) (log ∷ [])
+    ∙ ap (λ a. filter p (range_with_len 0 log) ++ cond a (log ∷ []) []) here
+
+-- one log more passes
+pub passes-next : (p : ℕ → Bool) (log : ℕ) → p log ≡ true →
+    filter p (range_with_len 0 log) ++ log ∷ [] ≡ filter p (range_with_len 0 (log + 1))
+passes-next p log here = sym (one-more p log true here)
+
+-- or does not
+pub fails-next : (p : ℕ → Bool) (log : ℕ) → p log ≡ false →
+    filter p (range_with_len 0 log) ≡ filter p (range_with_len 0 (log + 1))
+fails-next p log here =
+    sym (one-more p log false here ∙ append-nil (filter p (range_with_len 0 log)))
+
+-- the logs that pass are below all
+below : (p : ℕ → Bool) (a n top : ℕ) → a + n ≤ top →
+    AllByRecursion (λ log. log < top) (filter p (range_with_len a n))
+below p a zero top within = tt
+below p a (suc n) top within =
+    elim (p a) as (λ b. AllByRecursion (λ log. log < top)
+    (cond b (a ∷ filter p (range_with_len (a + 1) n)) (filter p (range_with_len (a + 1) n)))) [
+      | true ↦ (omega (arith, within), below p (a + 1) n top (omega (arith, within)))
+      | false ↦ below p (a + 1) n top (omega (arith, within))
+    ]
+
+pub passing-below : (p : ℕ → Bool) (count : ℕ) →
+    All (λ log. log < count) (filter p (range_with_len 0 count))
+passing-below p count =
+    All-from_recursion (λ log. log < count) (filter p (range_with_len 0 count))
+    (below p 0 count count (omega arith))
+
+from-start : (p : ℕ → Bool) (a n low : ℕ) → low ≤ a →
+    AllByRecursion (λ log. low ≤ log) (filter p (range_with_len a n))
+from-start p a zero low from = tt
+from-start p a (suc n) low from =
+    elim (p a) as (λ b. AllByRecursion (λ log. low ≤ log)
+    (cond b (a ∷ filter p (range_with_len (a + 1) n)) (filter p (range_with_len (a + 1) n)))) [
+      | true ↦ (from, from-start p (a + 1) n low (omega (arith, from)))
+      | false ↦ from-start p (a + 1) n low (omega (arith, from))
+    ]
+
+first-from : (low : ℕ) (xs : List ℕ) → AllByRecursion (λ log. low ≤ log) xs → 0 < length xs →
+    low ≤ slice_index xs 0
+first-from low [] all some = absurd (omega (arith, some))
+first-from low (x ∷ xs) all some = all.0
+
+-- a number below all that follow, which ascend
+below-all : (a : ℕ) (xs : List ℕ) (k : ℕ) → AllByRecursion (λ log. a + 1 ≤ log) xs →
+    ((j : ℕ) → suc j < length xs → slice_index xs j < slice_index xs (suc j)) →
+    suc k < length (a ∷ xs) → slice_index (a ∷ xs) k < slice_index xs k
+below-all a xs zero all rise within =
+    let low : a + 1 ≤ slice_index xs 0 = first-from (a + 1) xs all (omega (arith, within)) in
+    omega (arith, low)
+below-all a xs (suc k) all rise within = rise k (omega (arith, within))
+
+ascends : (p : ℕ → Bool) (a n k : ℕ) → suc k < length (filter p (range_with_len a n)) →
+    slice_index (filter p (range_with_len a n)) k
+    < slice_index (filter p (range_with_len a n)) (suc k)
+ascends p a zero k within = absurd (omega (arith, within))
+ascends p a (suc n) k within =
+    let rest = filter p (range_with_len (a + 1) n) in
+    elim (p a) as (λ b. suc k < length (cond b (a ∷ rest) rest) →
+    slice_index (cond b (a ∷ rest) rest) k < slice_index (cond b (a ∷ rest) rest) (suc k)) [
+      | true ↦ below-all a rest k (from-start p (a + 1) n (a + 1) (omega arith))
+          (λ j. ascends p (a + 1) n j)
+      | false ↦ ascends p (a + 1) n k
+    ]
+    within
+
+-- and they ascend
+pub passing-ascend : (p : ℕ → Bool) (count : ℕ) →
+    IsStrictlyIncreasing (filter p (range_with_len 0 count))
+passing-ascend p count = λ k within.
+    let logs = filter p (range_with_len 0 count) in
+    subst (λ n. slice_index logs k < slice_index logs n) (sym (add-one k))
+    (ascends p 0 count k (omega (arith, within)))
+
+-- ---- lists that grow by the one of the next number
+
+-- the first ones are as they are told
+abbrev pub AreSoFar : {X : Type 0} → (ℕ → X) → List X → Type 0
+AreSoFar {X} state xs = (i : ℕ) (d : X) → i < length xs → slice_index_or xs i d ≡ state i
+
+pub none-yet : {X : Type 0} (state : ℕ → X) → AreSoFar state []
+none-yet state i d low = absurd (omega (arith, low))
+
+at-end : {X : Type 0} (xs : List X) (x d : X) → slice_index_or (xs ++ x ∷ []) (length xs) d ≡ x
+at-end [] x d = refl
+at-end (y ∷ xs) x d = at-end xs x d
+
+-- one more
+pub one-next : {X : Type 0} (state : ℕ → X) (xs more : List X) (x : X) (n : ℕ) →
+    more ≡ xs ++ x ∷ [] → length xs ≡ n → x ≡ state n → AreSoFar state xs → AreSoFar state more
+one-next {X} state xs more x n pushed counted is so_far =
+    subst (AreSoFar state) (sym pushed) longer
+  where
+    longer : AreSoFar state (xs ++ x ∷ [])
+    longer i d low = elim (cases_lt i (length xs)) [
+      | inl earlier ↦ get_or-append xs (x ∷ []) d i earlier ∙ so_far i d earlier
+      | inr later ↦
+          let counts = length-append xs (x ∷ []) in
+          let last : i ≡ length xs = omega (arith, low, later, counts) in
+          ap (λ k. slice_index_or (xs ++ x ∷ []) k d) last
+          ∙ at-end xs x d ∙ is ∙ ap state (sym (last ∙ counted))
+    ]
+
+pub length-next : {X : Type 0} (xs more : List X) (x : X) (n : ℕ) →
+    more ≡ xs ++ x ∷ [] → length xs ≡ n → length more ≡ n + 1
+length-next xs more x n pushed counted =
+    ap length pushed ∙ length-append xs (x ∷ []) ∙ omega (arith, counted)
+
+-- ---- the clients
+
+-- a client before the first turn
+abbrev pub opened : Script → ℕ → ClientState
+opened S c = new_client S.shape c (writes_of S c) (follows_of S c)
+
+opened-knowing : (S : Script) (c : ℕ) → opened S c ≡ client_knowing S (known_first S) 0 c
+unfolding client_knowing writing_before
+opened-knowing S c = refl
+
+-- when all are open they are the clients before the first turn
+pub open-all : (S : Script) (clients : List ClientState) → length clients ≡ S.shape.clients →
+    AreSoFar (opened S) clients →
+    AreClients S.shape.clients (client_knowing S (known_first S) 0) clients
+open-all S clients counted all =
+    record {
+      counted = counted;
+      each = λ c d low. all c d low ∙ opened-knowing S c;
+    }
+
+first-before : (S : Script) (w : BookWords) (H : History) (c : ℕ) →
+    client_knowing S (known_first S) 0 c ≡ client_before S w H 0 c
+unfolding client_knowing client_before reader_before
+first-before S w H c = refl
+
+-- so they are before the first turn of a run
+pub clients-first : (S : Script) (w : BookWords) (H : History) (clients : List ClientState) →
+    AreClients S.shape.clients (client_knowing S (known_first S) 0) clients →
+    AreClients S.shape.clients (client_before S w H 0) clients
+clients-first S w H clients are =
+    record {
+      counted = are.counted;
+      each = λ c d low. are.each c d low ∙ first-before S w H c;
+    }
+
+knowing-before : (S : Script) (w : BookWords) (H : History) (g c : ℕ) →
+    client_before S w H g c ≡ client_knowing S (known_before S w H g) g c
+unfolding client_knowing client_before
+knowing-before S w H g c = refl
+
+-- the clients of a run before a turn know what they know
+pub clients-know : (S : Script) (w : BookWords) (H : History) (g : ℕ)
+    (clients : List ClientState) → AreClients S.shape.clients (client_before S w H g) clients →
+    AreClients S.shape.clients (client_knowing S (known_before S w H g) g) clients
+clients-know S w H g clients are =
+    record {
+      counted = are.counted;
+      each = λ c d low. are.each c d low ∙ knowing-before S w H g c;
+    }
+
+-- ---- those who look in their place
+
+first-look : (S : Script) (w : BookWords) (H : History) (c : ℕ) →
+    new_looker S.shape (follows_of S c) ≡ looker_before S w H 0 c
+unfolding reader_before
+first-look S w H c = refl
+
+pub lookers-first : (S : Script) (w : BookWords) (H : History) (lookers : List LookerState) →
+    AreLookers S.shape.clients (λ c. new_looker S.shape (follows_of S c)) lookers →
+    AreLookers S.shape.clients (looker_before S w H 0) lookers
+lookers-first S w H lookers are =
+    record {
+      counted = are.counted;
+      each = λ c d low. are.each c d low ∙ first-look S w H c;
+    }
+
+length-joined : (clients : List ClientState) (lookers : List LookerState) →
+    length clients ≡ length lookers → length (joined clients lookers) ≡ length clients
+length-joined [] [] same = refl
+length-joined [] (l ∷ lookers) same = refl
+length-joined (k ∷ clients) [] same = absurd (omega (arith, same))
+length-joined (k ∷ clients) (l ∷ lookers) same =
+    ap suc (length-joined clients lookers (omega (arith, same)))
+
+-- there are no more of them than of either
+pub joined-within : (clients : List ClientState) (lookers : List LookerState) (c : ℕ) →
+    c < length (joined clients lookers) → (c < length clients) × (c < length lookers)
+joined-within [] lookers c low = absurd (omega (arith, low))
+joined-within (k ∷ clients) [] c low = absurd (omega (arith, low))
+joined-within (k ∷ clients) (l ∷ lookers) zero low = (omega arith, omega arith)
+joined-within (k ∷ clients) (l ∷ lookers) (suc c) low =
+    let both = joined-within clients lookers c (omega (arith, low)) in
+    (omega (arith, both.0), omega (arith, both.1))
+
+-- what a log gave to the one at a place, and how many texts it has left
+pub got-joined : (clients : List ClientState) (lookers : List LookerState) (log c : ℕ)
+    (looker : LookerState) (got : List Got) → c < length (joined clients lookers) →
+    looker ≡ slice_index_or lookers c looker → got ≡ got_in looker.reader.follows log →
+    got ≡ got_by (joined clients lookers) c log
+got-joined [] lookers log c looker got low here is = absurd (omega (arith, low))
+got-joined (k ∷ clients) [] log c looker got low here is = absurd (omega (arith, low))
+got-joined (k ∷ clients) (l ∷ lookers) log zero looker got low here is =
+    is ∙ ap (λ (x : LookerState). got_in x.reader.follows log) here
+got-joined (k ∷ clients) (l ∷ lookers) log (suc c) looker got low here is =
+    got-joined clients lookers log c looker got (omega (arith, low)) here is
+
+pub unsent-joined : (clients : List ClientState) (lookers : List LookerState) (c : ℕ)
+    (client : ClientState) (count : ℕ) → c < length (joined clients lookers) →
+    client ≡ slice_index_or clients c client → count ≡ length client.writing.waiting →
+    count ≡ unsent_by (joined clients lookers) c
+unsent-joined [] lookers c client count low here is = absurd (omega (arith, low))
+unsent-joined (k ∷ clients) [] c client count low here is = absurd (omega (arith, low))
+unsent-joined (k ∷ clients) (l ∷ lookers) zero client count low here is =
+    is ∙ ap (λ (x : ClientState). length x.writing.waiting) here
+unsent-joined (k ∷ clients) (l ∷ lookers) (suc c) client count low here is =
+    unsent-joined clients lookers c client count (omega (arith, low)) here is
+
+-- the one at a place is the client of the place, and knows what the looker there does
+pub joined-at : (clients : List ClientState) (lookers : List LookerState) (c : ℕ)
+    (d k : ClientState) (l : LookerState) → c < length (joined clients lookers) →
+    slice_index_or (joined clients lookers) c d
+    ≡ record (slice_index_or clients c k) { reader = (slice_index_or lookers c l).reader }
+joined-at [] lookers c d k l low = absurd (omega (arith, low))
+joined-at (x ∷ clients) [] c d k l low = absurd (omega (arith, low))
+joined-at (x ∷ clients) (y ∷ lookers) zero d k l low = refl
+joined-at (x ∷ clients) (y ∷ lookers) (suc c) d k l low =
+    joined-at clients lookers c d k l (omega (arith, low))
+
+knows-reader : (S : Script) (w : BookWords) (H : History) (g c : ℕ) →
+    record (client_knowing S (known_first S) g c) { reader = (looker_before S w H g c).reader }
+    ≡ client_before S w H g c
+unfolding client_knowing client_before
+knows-reader S w H g c = refl
+
+-- clients that write and those who look for them are together the clients of a run
+pub joined-are : (S : Script) (w : BookWords) (H : History) (g : ℕ) (clients : List ClientState)
+    (lookers : List LookerState) →
+    AreClients S.shape.clients (client_knowing S (known_first S) g) clients →
+    AreLookers S.shape.clients (looker_before S w H g) lookers →
+    AreClients S.shape.clients (client_before S w H g) (joined clients lookers)
+joined-are S w H g clients lookers are look =
+    record {
+      counted = length-joined clients lookers (are.counted ∙ sym look.counted) ∙ are.counted;
+      each = λ c d low.
+          let both = joined-within clients lookers c low in
+          let l = looker_before S w H g c in
+          joined-at clients lookers c d d l low
+          ∙ ap₂ (λ (k : ClientState) (m : LookerState). record k { reader = m.reader })
+          (are.each c d both.0) (look.each c l both.1)
+          ∙ knows-reader S w H g c;
+    }

@@ -1,0 +1,141 @@
+-- What a read over an epoch gives.
+use Rattle.std.proofs.Common.{◌≡◌, ◌≢◌, refl, ap, sym, ◌∙◌, subst, arith, add-one}
+use Rattle.std.proofs.Common.{ℕ, ◌+◌, ◌<◌, ◌≤◌, Bool, List, Option, Some, None, length, set}
+use Rattle.std.proofs.Common.{get_or-set_other, get_or-set_same, below_more, length-set}
+use Rattle.std.specs.Prelude.{slice_index_or, Result, Ok, Err, OnOk}
+use Rattle.tk_shape.specs.Lengths.{turn_count}
+use Rattle.tk_schedule.specs.declared.history.History.{History}
+use Rattle.tk_schedule.specs.Schedule.{IsLegal, epoch_at, phases_over}
+use Rattle.tk_script.specs.declared.script.Script.{Script}
+use Rattle.tk_words.specs.Words.{WordBook, BookWords, IsBook, words_of}
+use Rattle.tk_frames.specs.Order.{Record, before}
+use Rattle.tk_table.specs.Table.{layout, blocks_of}
+use Rattle.tk_table.specs.Shown.{is_shown}
+use Rattle.tk_client.specs.declared.target.Target.{Target}
+use Rattle.tk_client.specs.Reader.{Reader, target, at_epoch, after_read}
+use Rattle.tk_client.specs.Asked.{shown_by}
+use Rattle.tk_client.specs.Looking.{LookerState, text_for, after_look}
+use Rattle.tk_replica.specs.declared.epoch.Epoch.{Epoch}
+use Rattle.tk_replica.specs.Epochs.{EpochStandsFor, IsEpochOf}
+use Rattle.tk_report.specs.Clients.{looker_before}
+use Rattle.tk_report.specs.Entries.{entries, write_at}
+use Rattle.tk_report.specs.Report.{answered, reader_step, reader_before}
+use Rattle.tk_report.specs.Turns.{placed_before}
+use Rattle.tk_report.proofs.LaidOutLaws.{bytes-give-lookup}
+use Rattle.tk_report.proofs.MarkedLaws.{before-over}
+
+-- ---- the text of a target
+
+text-answered : (S : Script) (b : WordBook) (H : History) (e : ℕ) (t : Option Target) →
+    IsBook S.shape b → IsLegal S.shape H →
+    let w = words_of S.shape b in
+    let R = before (entries S w H) e in
+    text_for S.shape w (blocks_of (layout S.shape R)) t ≡ answered S.shape w R t
+text-answered S b H e None served legal = refl
+text-answered S b H e (Some t) served legal = bytes-give-lookup S b H e t.log t.number served legal
+
+-- ---- a reader
+
+before-next : (S : Script) (w : BookWords) (H : History) (c g : ℕ) →
+    reader_before S w H c (g + 1) ≡ reader_step S w H g c (reader_before S w H c g)
+unfolding reader_before
+before-next S w H c g = ap (reader_before S w H c) (add-one g)
+
+-- the reader after a read over an epoch of a history
+abbrev step_over : Script → BookWords → History → Reader → ℕ → Reader
+step_over S w H r n =
+    let R = before (entries S w H) n in
+    let t = target S.shape (λ log s. is_shown S.shape R (w.hits log s)) (at_epoch n r) in
+    after_read S.shape (at_epoch n r) t (answered S.shape w R t)
+
+-- an epoch of a history
+abbrev pub IsHeld : Script → WordBook → History → ℕ → Epoch → Type 0
+IsHeld S b H e held =
+    EpochStandsFor S.shape (before (entries S (words_of S.shape b) H) e) held
+
+reader-next : (S : Script) (b : WordBook) (H : History) (g c e : ℕ) (held : Epoch) →
+    IsBook S.shape b → IsLegal S.shape H → IsHeld S b H e held → epoch_at H g c ≡ e →
+    let w = words_of S.shape b in
+    let now = at_epoch e (reader_before S w H c g) in
+    let t = target S.shape (shown_by held.filter w) now in
+    after_read S.shape now t (text_for S.shape w held.blocks.blocks t)
+    ≡ reader_before S w H c (g + 1)
+reader-next S b H g c e held served legal is epoch =
+    let w = words_of S.shape b in
+    let r = reader_before S w H c g in
+    let now = at_epoch e r in
+    let R = before (entries S w H) e in
+    let t = target S.shape (shown_by held.filter w) now in
+    let shows : shown_by held.filter w ≡ (λ log k. is_shown S.shape R (w.hits log k)) =
+    λ i log k. is.shows (w.hits log k) i
+    in
+    ap (λ (blocks : List (List ℕ)). after_read S.shape now t (text_for S.shape w blocks t))
+    is.blocks
+    ∙ ap (after_read S.shape now t) (text-answered S b H e t served legal)
+    ∙ ap (λ (f : ℕ → ℕ → Bool). after_read S.shape now (target S.shape f now)
+    (answered S.shape w R (target S.shape f now))) shows
+    ∙ ap (step_over S w H r) (sym epoch)
+    ∙ sym (before-next S w H c g)
+
+-- what a replica of the entries up to the end of a turn keeps for an epoch that was made by then
+pub held-of : (S : Script) (b : WordBook) (H : History) (g e : ℕ) (held : Epoch) →
+    IsLegal S.shape H → g < turn_count S.shape → e ≤ phases_over S.shape (g + 1) →
+    IsEpochOf S.shape (placed_before S (words_of S.shape b) H (g + 1)) e held → IsHeld S b H e held
+held-of S b H g e held legal within made is =
+    let w = words_of S.shape b in
+    subst (λ (R : List Record). EpochStandsFor S.shape R held)
+    (sym (before-over S.shape (write_at S w) H (g + 1) (turn_count S.shape) e legal
+    (omega (arith, within)) (omega arith) made))
+    is.stands
+
+-- ---- one who looks
+
+-- what a read over open buckets does
+abbrev pub Looks : WordBook → ℕ → Epoch → LookerState → LookerState → Type 0
+Looks b e held old new =
+    new ≡ after_look (words_of old.shape b) held.filter held.blocks.blocks e old
+
+pub looker-next : (S : Script) (b : WordBook) (H : History) (g c e : ℕ) (held : Epoch)
+    (old new : LookerState) → IsBook S.shape b → IsLegal S.shape H → IsHeld S b H e held →
+    epoch_at H g c ≡ e → old ≡ looker_before S (words_of S.shape b) H g c →
+    Looks b e held old new → new ≡ looker_before S (words_of S.shape b) H (g + 1) c
+looker-next S b H g c e held old new served legal is epoch was looks =
+    let w = words_of S.shape b in
+    let looker = looker_before S w H g c in
+    let then : Looks b e held looker new =
+    subst (λ (k : LookerState). Looks b e held k new) was looks
+    in
+    then
+    ∙ ap (λ (r : Reader). looked S r) (reader-next S b H g c e held served legal is epoch)
+  where
+    looked : Script → Reader → LookerState
+    looked T r = record { shape = T.shape; reader = r }
+
+-- ---- lists of which each element has something of its place
+
+-- a new one at a place, behind those below it
+pub below-set : {X : Type 0} (P : ℕ → X → Type 0) (xs : List X) (i : ℕ) (x : X) → i < length xs →
+    ((k : ℕ) (d : X) → k < i → P k (slice_index_or xs k d)) → P i x →
+    (k : ℕ) (d : X) → k < i + 1 → P k (slice_index_or (set xs i x) k d)
+below-set {X} P xs i x within below is k d before =
+    below_more (λ n. (e : X) → P n (slice_index_or (set xs i x) n e)) i
+    (λ n less e.
+    let other : n ≢ i = omega (arith, less) in
+    subst (P n) (sym (get_or-set_other xs i n x e other)) (below n e less))
+    (λ e. subst (P i) (sym (get_or-set_same xs i x e within)) is)
+    k before d
+
+-- those past the place are as they were
+pub past-set : {X : Type 0} (P : ℕ → X → Type 0) (xs : List X) (i : ℕ) (x : X) →
+    ((k : ℕ) (d : X) → i ≤ k → k < length xs → P k (slice_index_or xs k d)) →
+    (k : ℕ) (d : X) → i + 1 ≤ k → k < length (set xs i x) → P k (slice_index_or (set xs i x) k d)
+past-set P xs i x past k d from within =
+    let other : k ≢ i = omega (arith, from) in
+    subst (P k) (sym (get_or-set_other xs i k x d other))
+    (past k d (omega (arith, from)) (omega (arith, within, length-set xs i x)))
+
+-- ---- what holds where a call goes well
+
+pub on-ok : {T E : Type 0} (r : Result T E) (P Q : Type 0) → (P → Q) → OnOk r P → OnOk r Q
+on-ok (Ok x) P Q then holds = then holds
+on-ok (Err e) P Q then holds = tt

@@ -1,0 +1,25 @@
+-- Behind the last turn the clients, with what those in their place know, are as at the end of the
+-- history.
+use Rattle.std.proofs.Common.{◌≡◌, ℕ, subst, arith}
+use Rattle.tk_shape.specs.Lengths.{turn_count}
+use Rattle.tk_words.specs.Words.{words_of}
+use Rattle.tk_report.specs.Clients.{AreClients, client_before, joined}
+use Rattle.tk_report.proofs.ClientsLaws.{joined-are}
+use Rattle.tk_report.proofs.folding.fold_all.Goals as goal
+
+pub turns-init : goal.turns-init
+turns-init g c =
+    c.in_ok-fold.ensures (g.D.Draws.book c.args.plan.now.draws.now) c.args.plan.now.history.now
+
+pub returns : goal.returns
+returns g c =
+    let S = c.args.plan.now.script.now in
+    let words = words_of S.shape (g.D.Draws.book c.args.plan.now.draws.now) in
+    let H = c.args.plan.now.history.now in
+    let clients = c.turns.fold.clients.items in
+    let lookers = c.turns.fold.lookers.items in
+    let all : c.turns.turn ≡ turn_count S.shape = omega arith in
+    subst (λ (n : ℕ). AreClients S.shape.clients (client_before S words H n)
+    (joined clients lookers)) all
+    (joined-are S words H c.turns.turn clients lookers c.turns.invariant.clients
+    c.turns.invariant.lookers)

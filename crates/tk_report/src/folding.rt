@@ -1,0 +1,79 @@
+ghost use Rattle.std.specs.Prelude.{◌≡◌, ◌+◌, ◌<◌, IfOk, OnOk};
+ghost use Rattle.tk_shape.specs.Lengths.{turn_count};
+ghost use Rattle.tk_schedule.specs.declared.history.History.{History};
+ghost use Rattle.tk_words.specs.Words.{WordBook, words_of};
+ghost use Rattle.tk_report.specs.Clients.{AreClientsAtEnd, joined};
+ghost use Rattle.tk_report.specs.Folds.{IsFoldBefore};
+
+use crate::opening::{open_clients, open_lookers};
+use crate::plan::Plan;
+use crate::reading::read_turn;
+use crate::saying::say_turn;
+use crate::writing::write_turn;
+use std::alloc::Global;
+use tk_client::{Client, Looker};
+use tk_replica::ReplicaState;
+use tk_script::Script;
+use tk_shape::Memory;
+use tk_words::Draws;
+
+/// A history as far as it was gone through: how many texts were said, the clients that write, one
+/// for each who reads in its place, and what a server has of the entries.
+#[derive(Drop)]
+pub(crate) struct Fold {
+    pub said: usize,
+    pub clients: Vec<Client>,
+    pub lookers: Vec<Looker>,
+    pub replica: ReplicaState,
+}
+
+/// A history gone through to its end.
+pub(crate) fn fold_all<D: Draws>(alloc: Global, plan: &Plan<D>) -> Result<Fold, Memory>
+    ensures { let S = plan.now.script.now in
+        let words = words_of S.shape (D.book plan.now.draws.now) in
+        IfOk result (λ fold. AreClientsAtEnd S words plan.now.history.now
+        (joined fold.clients.items fold.lookers.items)) }
+{
+    let mut fold = open_fold(alloc, plan.script)?;
+    'turns: for turn in 0..plan.script.shape.turns() {
+        take_turn(alloc, plan, turn, &mut fold)?;
+    }
+    Ok(fold)
+}
+
+/// A history before its first turn.
+fn open_fold(alloc: Global, script: &Script) -> Result<Fold, Memory>
+    ensures { (b : WordBook) (H : History) → IfOk result (IsFoldBefore script.now b H 0) }
+{
+    Ok(Fold {
+        said: 0,
+        clients: open_clients(alloc, script)?,
+        lookers: open_lookers(alloc, script)?,
+        replica: ReplicaState::open(alloc, &script.shape)?,
+    })
+}
+
+/// What happens in a turn: texts are said, the clients write in the history's order, and for each a
+/// read is made over the epoch that the history gives it. The epochs before the newest are read no
+/// more.
+fn take_turn<D: Draws>(
+    alloc: Global,
+    plan: &Plan<D>,
+    turn: u32,
+    fold: &mut Fold,
+) -> Result<(), Memory>
+    requires turn_in { turn < turn_count plan.now.script.now.shape }
+    requires fold { IsFoldBefore plan.now.script.now (D.book plan.now.draws.now)
+        plan.now.history.now turn fold.old }
+    ensures { OnOk result (IsFoldBefore plan.now.script.now (D.book plan.now.draws.now)
+        plan.now.history.now (turn + 1) fold.new) }
+{
+    let clients = fold.clients.as_mut_slice();
+    fold.said = say_turn(alloc, plan.script, turn, fold.said, clients)?;
+    write_turn(alloc, plan, turn, clients, &mut fold.replica)?;
+    let lookers = fold.lookers.as_mut_slice();
+    read_turn(alloc, plan, turn, &fold.replica, lookers)?;
+    let newest = fold.replica.last();
+    fold.replica.release(newest);
+    Ok(())
+}

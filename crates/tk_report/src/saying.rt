@@ -1,0 +1,44 @@
+ghost use Rattle.std.specs.Prelude.{◌≡◌, ◌+◌, ◌<◌, ℕ, length, IfOk, OnOk};
+ghost use Rattle.tk_shape.specs.Lengths.{turn_count};
+ghost use Rattle.tk_client.specs.Reader.{Reader};
+ghost use Rattle.tk_report.specs.Clients.{AreClients, client_knowing, client_told};
+ghost use Rattle.tk_report.specs.Queues.{said_before};
+
+use std::alloc::Global;
+use tk_client::Client;
+use tk_schedule::turn;
+use tk_script::Script;
+use tk_shape::Memory;
+
+/// The texts that are said in a turn, from this place on in the script, join the queues of their
+/// logs' writers. Answers the place behind them.
+pub fn say_turn(
+    alloc: Global,
+    script: &Script,
+    now: u32,
+    said: usize,
+    clients: &mut [Client],
+) -> Result<usize, Memory>
+    requires turn_in { now < turn_count script.now.shape }
+    requires said { said ≡ said_before script.now now }
+    requires counted { length clients.old ≡ script.now.shape.clients }
+    ensures counted { length clients.new ≡ length clients.old }
+    ensures said { IfOk result (λ place. place ≡ said_before script.now (now + 1)) }
+    ensures clients { (knows : ℕ → Reader)
+        → AreClients script.now.shape.clients (client_knowing script.now knows now) clients.old
+        → OnOk result
+        (AreClients script.now.shape.clients (client_told script.now knows now) clients.new) }
+{
+    for place in said..script.says.as_slice().len() {
+        let say = script.say(place);
+        if turn(&script.shape, say.phase, say.tick) != now {
+            return Ok(place);
+        }
+        let writer = &mut clients[script.role(say.log).writer as usize];
+        // the writer of the log says a text of the script, so that only memory may be wanting
+        let Ok(()) = writer.say(alloc, say.log, say.text.as_slice()) else {
+            return Err(Memory);
+        };
+    }
+    Ok(script.says.as_slice().len())
+}
