@@ -1,0 +1,5 @@
+pub mod Offers
+pub mod Prefixes
+pub mod Moves
+pub mod Doors
+pub mod Looks

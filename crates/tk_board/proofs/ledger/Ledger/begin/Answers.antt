@@ -1,0 +1,6 @@
+use Rattle.tk_board.proofs.Looks.{plan_goes_on}
+use Rattle.tk_board.proofs.ledger.Ledger.begin.Goals as goal
+
+pub extend-requires-clause-more : goal.extend-requires-clause-more
+extend-requires-clause-more g c κs within =
+    plan_goes_on _ _ _ _ _ c.draft-made.ensures.plan
