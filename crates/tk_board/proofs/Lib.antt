@@ -2,4 +2,5 @@ pub mod Offers
 pub mod Prefixes
 pub mod Moves
 pub mod Doors
-pub mod Looks
+pub mod Fitting
+pub mod Knowing

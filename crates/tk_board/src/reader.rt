@@ -88,7 +88,7 @@ impl<T: Share> Reader<T> {
     }
 
     /// Takes in what the publisher told. It waits for nobody.
-    #[tactic(auto, using(crate::proofs::Looks::kept_list))]
+    #[tactic(auto, using(crate::proofs::Knowing::kept_list))]
     pub fn learn(&mut self, told: &mut Told<T>) -> Result<(), Memory>
         requires { told.old.board ≡ self.old.board }
         ensures told { told.new ≡ told.old }

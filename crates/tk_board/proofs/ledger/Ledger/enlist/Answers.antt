@@ -1,4 +1,4 @@
-use Rattle.tk_board.proofs.Looks.{plan_goes_on}
+use Rattle.tk_board.proofs.Knowing.{plan_goes_on}
 use Rattle.tk_board.proofs.ledger.Ledger.enlist.Goals as goal
 
 pub extend-requires-clause-more : goal.extend-requires-clause-more

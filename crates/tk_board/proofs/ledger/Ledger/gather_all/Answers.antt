@@ -1,6 +1,6 @@
 use Rattle.std.proofs.Common.{rules, subst}
 use mathlib.Core.List.{IsPrefix}
-use Rattle.tk_board.proofs.Looks.{begin_snoc}
+use Rattle.tk_board.proofs.Knowing.{begin_snoc}
 use Rattle.tk_board.proofs.ledger.Ledger.gather_all.Goals as goal
 
 pub loop-reader-preserved : goal.loop-reader-preserved

@@ -1,7 +1,8 @@
 use Rattle.std.proofs.Common.{rules, ◌≡◌, [], ◌∷◌, ◌++◌, length, false, refl, sym, ap, ◌∙◌, subst}
 use Rattle.std.specs.Arc.{arc_value}
 use Rattle.tk_board.specs.Rules.{drafting}
-use Rattle.tk_board.proofs.Looks.{is_ledger, fit_snoc}
+use Rattle.tk_board.proofs.Fitting.{fit_snoc}
+use Rattle.tk_board.proofs.Knowing.{is_ledger}
 use Rattle.tk_board.proofs.ledger.Ledger.plan.Goals as goal
 
 pub invariant_of-self : goal.invariant_of-self

@@ -1,5 +1,5 @@
 use Rattle.std.proofs.Common.{rules, ◌≡◌, ◌≤◌, length, ◌∙◌, arith}
-use Rattle.tk_board.proofs.Looks.{kept_list}
+use Rattle.tk_board.proofs.Knowing.{kept_list}
 use Rattle.tk_board.proofs.reader.Reader.learn.Goals as goal
 
 pub invariant_of-self-else-number : goal.invariant_of-self-else-number

@@ -1,5 +1,5 @@
 use Rattle.std.proofs.Common.{rules, ◌≡◌, ap, ◌∙◌}
-use Rattle.tk_board.proofs.Looks.{stays}
+use Rattle.tk_board.proofs.Knowing.{stays}
 use Rattle.tk_board.proofs.reader.Reader.look.Goals as goal
 
 pub returns-in_default-2-clause-known : goal.returns-in_default-2-clause-known
