@@ -1,4 +1,3 @@
-use Rattle.atomic_table.specs.Table.{opening}
 use Rattle.tk_board.proofs.Moves.{begins}
 use Rattle.tk_board.proofs.tally.Tally.new.Goals as goal
 
