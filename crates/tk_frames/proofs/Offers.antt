@@ -1,7 +1,9 @@
 -- What the proofs of other crates may cite.
 
--- A reply is read from its spelling.
-pub use Rattle.tk_frames.proofs.Frames.{reply-again}
+-- A read and a reply are read from their spelling.
+pub use Rattle.tk_frames.proofs.Frames.{read-again, reply-again}
+-- How many turns a shape has at most.
+pub use Rattle.tk_frames.proofs.Bounds.{turn_count_small}
 -- What stands before a mark.
 pub use Rattle.tk_frames.proofs.Marks.{before-none, before-settled, before-marked, before-unmarked}
 -- The writes of entries, with one more or with others behind them.

@@ -3,7 +3,6 @@ pub mod Pushes
 pub mod Standing
 pub mod Vectors
 pub mod Halves
-pub mod Reading
 pub mod Replying
 pub mod Several
 pub mod Offers

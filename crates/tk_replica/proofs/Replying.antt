@@ -20,7 +20,7 @@ use Rattle.tk_replica.specs.Epochs.{EpochStandsFor, IsEpochOf}
 use Rattle.tk_replica.specs.Refusals.{frame_error, refusal_behind, IsServeRefusal}
 use Rattle.tk_replica.specs.Replica.{ReplicaView, StandsFor}
 use Rattle.tk_replica.specs.Replies.{reply_over, reply_for, reply_due, IsAsked}
-use Rattle.tk_replica.proofs.Reading.{read-spelled}
+use Rattle.tk_frames.proofs.Offers.{read-again}
 
 -- ---- a refusal
 
@@ -67,4 +67,4 @@ pub for-bytes : (shape : Shape) (E : List Placed) (s : ReplicaView) (bytes : Lis
 unfolding reply_due
 for-bytes shape E s bytes r is asked =
     let in_range = subst (λ sh. IsRead sh r) is.same asked.served.in_range in
-    ap (reply_for shape E) (sym (ap (read_in shape) asked.spelled ∙ read-spelled shape r in_range))
+    ap (reply_for shape E) (sym (ap (read_in shape) asked.spelled ∙ read-again shape r in_range))

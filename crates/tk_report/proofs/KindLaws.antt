@@ -15,9 +15,9 @@ use Rattle.tk_schedule.specs.Raw.{is_end}
 use Rattle.tk_script.specs.Grammar.{Line, fields}
 use Rattle.tk_script.specs.Reading.{parts_of, number_spelled, numbers_spelled}
 use Rattle.tk_script.proofs.Offers.{LacksFeed}
-use Rattle.tk_script.proofs.FieldLaws.{IsWord}
-use Rattle.tk_script.proofs.PartLaws.{number_spelled-decimal, number_spelled-is}
-use Rattle.tk_script.proofs.PartLaws.{numbers_spelled-decimals, numbers_spelled-are}
+use Rattle.tk_script.proofs.Offers.{IsWord}
+use Rattle.tk_script.proofs.Offers.{number_spelled-decimal, number_spelled-is}
+use Rattle.tk_script.proofs.Offers.{numbers_spelled-decimals, numbers_spelled-are}
 use Rattle.tk_report.specs.Report.{item_field}
 use Rattle.tk_report.specs.ReportLines.{no_line, item_spelled, item_before, items_spelled}
 use Rattle.tk_report.specs.ReportLines.{order_said, reads_said, kind_by, kind_in, kind_said, stops}

@@ -22,7 +22,7 @@ use Rattle.tk_schedule.proofs.Offers.{epochs_of_open}
 use Rattle.tk_script.proofs.Offers.{feed_by_test}
 use Rattle.tk_script.proofs.Offers.{all_digits}
 use Rattle.std.proofs.lemmas.Bool.{and_parts as parts}
-use Rattle.tk_frames.proofs.Bounds.{turn_count_small}
+use Rattle.tk_frames.proofs.Offers.{turn_count_small}
 use Rattle.tk_report.specs.Report.{line, item_field, turn_lines, history_lines}
 use Rattle.tk_report.specs.Histories.{ShowsOne}
 use Rattle.tk_report.proofs.LineCuts.{IsField, decimal-field, cut_line, space_by_test}

@@ -10,7 +10,7 @@ use Rattle.std.specs.Str.{bytes_eq}
 use Rattle.std.proofs.lemmas.Slice.Eq.{bytes_eq-Decides}
 use Rattle.tk_schedule.specs.declared.item.Item.{Item}
 use Rattle.tk_script.specs.Reading.{parts_of, number_spelled, number_before, numbers_spelled}
-use Rattle.tk_script.proofs.PartLaws.{number_spelled-decimal, number_spelled-is}
+use Rattle.tk_script.proofs.Offers.{number_spelled-decimal, number_spelled-is}
 use Rattle.tk_report.specs.ReportLines.{item_before, items_spelled, no_line, kind_in}
 use Rattle.tk_report.specs.ReportLines.{order_said, reads_said, kind_by, kind_said}
 use Rattle.tk_report.specs.Heads.{HasHead}

@@ -8,7 +8,7 @@ use Rattle.std.specs.Str.{bytes_eq}
 use Rattle.std.specs.Prelude.{flat_map, slice_index, slice_index_or, nat_lt}
 use Rattle.std.specs.List.{AllByRecursion, list_all, range_with_len}
 use Rattle.std.proofs.Math.Nat.{div-le_self, mod-lt}
-use Rattle.tk_frames.proofs.Bounds.{turn_count_small}
+use Rattle.tk_frames.proofs.Offers.{turn_count_small}
 use Rattle.tk_shape.specs.declared.shape.Shape.{Shape}
 use Rattle.tk_shape.specs.Lengths.{turn_count}
 use Rattle.tk_schedule.specs.declared.item.Item.{Item}
@@ -27,8 +27,8 @@ use Rattle.tk_schedule.specs.Told.{Tells}
 use Rattle.tk_schedule.proofs.Offers.{turn_within}
 use Rattle.tk_script.specs.Grammar.{Line, lines_of}
 use Rattle.tk_script.proofs.Offers.{feed_by_test}
-use Rattle.tk_script.proofs.FieldLaws.{IsWord}
-use Rattle.tk_script.proofs.LineLaws.{no_lines}
+use Rattle.tk_script.proofs.Offers.{IsWord}
+use Rattle.tk_script.proofs.Offers.{no_lines}
 use Rattle.std.proofs.lemmas.Bool.{and_parts as parts}
 use Rattle.tk_report.specs.Report.{line, item_field, turn_lines, history_lines}
 use Rattle.tk_report.specs.ReportLines.{no_line, kind_said, stops, raw_from, bad_report_line}

@@ -23,7 +23,7 @@ use Rattle.tk_handle.proofs.Offers.{length-key_bytes}
 use Rattle.tk_kernel.specs.Xor.{xor_bytes}
 use Rattle.tk_kernel.proofs.Offers.{length-xor_bytes}
 use Rattle.tk_seal.specs.Seal.{plain, hmac, keyed_tag}
-use Rattle.tk_seal.proofs.PlainForms.{length-plain}
+use Rattle.tk_seal.proofs.Offers.{length-plain}
 use Rattle.tk_words.specs.Words.{WordBook, keyed, drawn, IsBook, words_of, pad_of, tag_of}
 use Rattle.tk_words.specs.Words.{fresh_write}
 use Rattle.tk_words.specs.Words.{write_cell, keyed_cell, write_part, cell_block, sealed, handle_at}
@@ -31,7 +31,7 @@ use Rattle.tk_words.specs.CellLaws.{place_within, length-write_part, length-piec
 use Rattle.tk_words.specs.CellLaws.{length-keyed_cell}
 use Rattle.tk_words.specs.Opening.{IsNumber}
 use Rattle.tk_words.specs.OpeningLaws.{length-pad_of}
-use Rattle.tk_frames.proofs.Bounds.{turn_count_small}
+use Rattle.tk_frames.proofs.Offers.{turn_count_small}
 use Rattle.tk_frames.specs.declared.write_frame.WriteFrame.{WriteFrame}
 use Rattle.tk_frames.specs.declared.entry.Placed.{Placed}
 use Rattle.tk_frames.specs.declared.entry.Entry.{Entry}

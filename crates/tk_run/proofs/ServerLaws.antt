@@ -5,18 +5,15 @@ use Rattle.std.proofs.Common.{append-nil}
 use Rattle.std.proofs.Common.{add-one}
 use Rattle.std.specs.Prelude.{slice_index_or}
 use Rattle.std.specs.List.{AllByRecursion}
-use Rattle.std.proofs.lemmas.List.{length-map, drop_at, take_at}
-use Rattle.std.proofs.lemmas.Nat.{from_be_bytes-to_be_bytes_4, mul-le}
+use Rattle.std.proofs.lemmas.List.{length-map}
 use Rattle.tk_shape.specs.declared.shape.Shape.{Shape}
-use Rattle.tk_shape.specs.Lengths.{vector_len}
 use Rattle.tk_frames.specs.declared.entry.Placed.{Placed}
 use Rattle.tk_frames.specs.declared.read_frame.ReadFrame.{ReadFrame}
-use Rattle.tk_frames.specs.Fields.{number_at, read_in}
 use Rattle.tk_frames.specs.Order.{before}
 use Rattle.tk_frames.specs.Ranges.{IsRead}
 use Rattle.tk_frames.specs.Spelling.{read_frame, reply_frame}
 use Rattle.tk_frames.specs.InOrder.{mark_count}
-use Rattle.tk_frames.proofs.Offers.{marks-append}
+use Rattle.tk_frames.proofs.Offers.{marks-append, read-again}
 use Rattle.tk_replica.specs.Replies.{reply_for, reply_due, reply_bytes}
 use Rattle.tk_report.specs.Exchange.{bytes_of, with_reply}
 use Rattle.tk_run.specs.Rows.{Frame, in_pairs}
@@ -68,38 +65,11 @@ pairs-seen fs rs i f r first old mid new low below here there so_far one two =
 
 -- ---- what is answered
 
--- a read is what its spelling spells
-read-spelled : (shape : Shape) (r : ReadFrame) → IsRead shape r →
-    read_in shape (read_frame r) ≡ r
-read-spelled shape r is =
-    let bytes = read_frame r in
-    let turns =
-    mul-le shape.phases shape.ticks 256 64 shape.in_range.phases_high shape.in_range.ticks_high
-    in
-    let client : number_at 2 bytes ≡ r.client =
-    from_be_bytes-to_be_bytes_4 r.client (omega (arith, is.client, shape.in_range.clients_high))
-    in
-    let turn : number_at 6 bytes ≡ r.turn =
-    from_be_bytes-to_be_bytes_4 r.turn (omega (arith, is.turn, turns))
-    in
-    let epoch : number_at 10 bytes ≡ r.epoch =
-    from_be_bytes-to_be_bytes_4 r.epoch (omega (arith, is.epoch, shape.in_range.phases_high))
-    in
-    let first = take_at r.first r.second (vector_len shape) is.first_len in
-    let second = drop_at r.first r.second (vector_len shape) is.first_len in
-    λ i. record {
-      client = client i;
-      turn = turn i;
-      epoch = epoch i;
-      first = first i;
-      second = second i;
-    }
-
 one-reply : (shape : Shape) (E : List Placed) (r : ReadFrame) → IsRead shape r →
     reply_bytes shape E (read_frame r) ≡ reply_frame (reply_for shape E r)
 unfolding reply_due
 one-reply shape E r in_range =
-    ap (λ (x : ReadFrame). reply_frame (reply_for shape E x)) (read-spelled shape r in_range)
+    ap (λ (x : ReadFrame). reply_frame (reply_for shape E x)) (read-again shape r in_range)
 
 each-reply : (shape : Shape) (E : List Placed) (reads : List ReadFrame) →
     AllByRecursion (IsRead shape) reads →

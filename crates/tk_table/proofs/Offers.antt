@@ -3,4 +3,5 @@ pub use Rattle.tk_table.proofs.Ascending.{ascend-last, ascend-above, retained-as
 pub use Rattle.tk_table.proofs.InWindow.{retained-in_window}
 pub use Rattle.tk_table.proofs.RetainedEach.{retained-each}
 pub use Rattle.tk_table.proofs.LaidOut.{layout-laid_out}
+pub use Rattle.tk_table.proofs.AsWritten.{layout-as_written}
 pub use Rattle.tk_table.proofs.BucketBytes.{layout-read_back, layout-as_read}

@@ -3,7 +3,7 @@ use Rattle.std.proofs.Common.{◌≡◌, ◌<◌, ◌∷◌, ◌-◌, [], length
 use Rattle.std.proofs.Common.{◌∙◌, List, ℕ}
 use Rattle.std.proofs.lemmas.List.{take_rest}
 use Rattle.tk_script.specs.Grammar.{lines_of}
-use Rattle.tk_script.proofs.LineLaws.{lines_of-first, lines_of-whole, lines_of-empty, empty_lines}
+use Rattle.tk_script.proofs.Offers.{lines_of-first, lines_of-whole, lines_of-empty, empty_lines}
 use Rattle.tk_report.proofs.report_lines.next_line.Goals as goal
 
 pub returns-in-Some-clause-line : goal.returns-in-Some-clause-line
