@@ -44,7 +44,7 @@ use Rattle.tk_report.specs.Report.{lookup, answered, read_over, target_at, reade
 use Rattle.tk_report.specs.Report.{reader_step}
 use Rattle.tk_table.specs.Replies.{reply_to}
 use Rattle.tk_report.specs.Exchange.{read_at}
-use Rattle.tk_run.specs.Clients.{idle, client_before, client_wrote, client_asked}
+use Rattle.tk_run.specs.Clients.{idle, client_before, client_knowing, client_asked}
 use Rattle.tk_run.specs.Rows.{Frame, AreRows}
 use Rattle.tk_run.specs.Servers.{AreReads}
 use Rattle.tk_run.specs.Turns.{reads_for, posed, reply_at, replies_to, replied}
@@ -199,7 +199,7 @@ pub client-took : (S : Script) (b : WordBook) (H : History) (g c : ℕ) (old new
     IsSound S b H g c → old ≡ client_asked S w H g c →
     replies ≡ replied S b H g S.shape.servers c →
     new ≡ after_replies (words_of old.shape b) replies old → new ≡ client_before S w H (g + 1) c
-unfolding client_asked client_wrote client_before
+unfolding client_asked client_knowing client_before
 client-took S b H g c old new replies sound asked_is replies_are is =
     let w = words_of S.shape b in
     let R = read_over S w H g c in
@@ -286,11 +286,11 @@ posed-are S b H g i rows frames d serves legal turn_in low are is =
 module _ (S : Script) (w : BookWords) (H : History) (g c : ℕ) (client : ClientState)
     (is : client ≡ client_asked S w H g c) where
   pub asked-shape : client.shape ≡ S.shape
-  unfolding client_asked client_wrote
+  unfolding client_asked client_knowing
   asked-shape = ap (λ (s : ClientState). s.shape) is
 
   pub asked-open : IsSome client.read
-  unfolding client_asked client_wrote
+  unfolding client_asked client_knowing
   asked-open = subst (λ (s : ClientState). IsSome s.read) (sym is) refl
 
 -- as many replies come as there are servers

@@ -17,7 +17,7 @@ use Rattle.tk_client.specs.Client.{ClientState, opened, target_over}
 use Rattle.tk_table.specs.Shown.{is_shown}
 use Rattle.tk_report.specs.Report.{target_at, read_over, reader_before}
 use Rattle.tk_report.specs.Exchange.{read_pair, read_at}
-use Rattle.tk_run.specs.Clients.{client_wrote, client_asked}
+use Rattle.tk_run.specs.Clients.{client_knowing, client_wrote, client_asked}
 use Rattle.tk_frames.specs.Order.{Record, before}
 use Rattle.tk_replica.specs.declared.epoch.Epoch.{Epoch}
 use Rattle.tk_replica.specs.Epochs.{IsEpochOf}
@@ -55,7 +55,7 @@ pub target-is : (S : Script) (b : WordBook) (H : History) (g c e : ℕ) (marks :
     (client : ClientState) → let w = words_of S.shape b in
     client ≡ client_wrote S w H g c → e ≡ epoch_at H g c → Shows S b H g c marks →
     target_over (words_of client.shape b) marks e client ≡ target_at S w H g c
-unfolding client_wrote
+unfolding client_knowing
 target-is S b H g c e marks client wrote epoch shows =
     let w = words_of S.shape b in
     let r = reader_before S w H c g in
@@ -73,7 +73,7 @@ pub frames-are : (S : Script) (b : WordBook) (H : History) (g c e : ℕ) (marks 
     map read_frame (asked client.shape b g client.number e
     (target_over (words_of client.shape b) marks e client))
     ≡ map (λ j. read_frame (read_at S b H g c j)) (range_with_len 1 S.shape.servers)
-unfolding client_wrote
+unfolding client_knowing
 frames-are S b H g c e marks client wrote epoch shows =
     let w = words_of S.shape b in
     let asks = λ (n : ℕ) (t : Option Target). map read_frame (asked S.shape b g c n t) in
@@ -105,15 +105,15 @@ client-asked S b H g c e marks client new wrote epoch shows is =
 module _ (S : Script) (w : BookWords) (H : History) (g c : ℕ) (client : ClientState)
     (wrote : client ≡ client_wrote S w H g c) where
   pub wrote-shape : client.shape ≡ S.shape
-  unfolding client_wrote
+  unfolding client_knowing
   wrote-shape = ap (λ (s : ClientState). s.shape) wrote
 
   pub wrote-number : client.number ≡ c
-  unfolding client_wrote
+  unfolding client_knowing
   wrote-number = ap (λ (s : ClientState). s.number) wrote
 
   pub wrote-closed : client.read ≡ None
-  unfolding client_wrote
+  unfolding client_knowing
   wrote-closed = ap (λ (s : ClientState). s.read) wrote
 
 -- what the filter of an epoch shows is what the writes before its mark do

@@ -1,12 +1,7 @@
 pub mod Splits
 pub mod RowsLaws
-pub mod ClientsLaws
-pub mod SayingLaws
-pub mod WritingLaws
 pub mod GivingLaws
 pub mod SeenLaws
-pub mod ComingLaws
-pub mod ListTests
 pub mod ErrorLaws
 pub mod ReadingLaws
 pub mod JoiningLaws

@@ -1,9 +1,9 @@
 -- Servers that take the entries of a turn, one item after the other.
 use Rattle.std.proofs.Common.{◌≡◌, ◌∙◌, ℕ, ◌+◌, ◌<◌, ◌≤◌, ap, sym, subst, arith, List, []}
 use Rattle.std.proofs.Common.{◌∷◌, ◌++◌, length}
-use Rattle.std.proofs.Common.{flat_map}
+use Rattle.std.proofs.Common.{flat_map, append-nil}
+use Rattle.std.proofs.lemmas.Grind.{flat_map-append}
 use Rattle.std.specs.Prelude.{slice_index_or}
-use Rattle.std.proofs.lemmas.List.{take_all}
 use Rattle.tk_shape.specs.declared.shape.Shape.{Shape}
 use Rattle.tk_schedule.specs.declared.history.History.{History}
 use Rattle.tk_schedule.specs.Schedule.{order_at}
@@ -13,11 +13,11 @@ use Rattle.tk_frames.specs.declared.entry.Placed.{Placed}
 use Rattle.tk_frames.specs.declared.entry.Entry.{Entry}
 use Rattle.tk_frames.specs.InOrder.{IsOrder}
 use Rattle.tk_frames.specs.Spelling.{placed_frame}
-use Rattle.tk_report.specs.Entries.{entries_before, placed_after, write_at}
+use Rattle.tk_report.specs.Entries.{entries_before, write_at}
 use Rattle.tk_run.specs.declared.server.Server.{Server}
 use Rattle.tk_run.specs.Servers.{IsServer, AreServers, nothing_seen, next_placed}
 use Rattle.tk_run.specs.Turns.{placed_before, placed_in, placed_so_far, entries_seen}
-use Rattle.tk_run.proofs.ComingLaws.{IsDue, in-none, so_far-none, so_far-all}
+use Rattle.tk_report.proofs.Offers.{IsDue, in-none, in-past, so_far-none, so_far-all}
 
 -- servers of the same entries that saw the same
 pub servers-same : (shape : Shape) (E F : List Placed) (seen saw : ℕ → List ℕ)
@@ -48,6 +48,17 @@ module _ (S : Script) (w : BookWords) (H : History) (g : ℕ) where
       (entries_seen S w H g 0) servers (so_far-none S w H g)
       (λ j low high. sym (ap (flat_map placed_frame) (in-none S w H g))) are
 
+  -- what was seen of one item more
+  due-seen : (i : ℕ) (e : Entry) → IsDue S w H g i e → (j : ℕ) →
+      entries_seen S w H g i j ++ placed_frame (next_placed (placed_so_far S w H g i) e)
+      ≡ entries_seen S w H g (i + 1) j
+  due-seen i e due j =
+      let next = next_placed (placed_so_far S w H g i) e in
+      ap (λ (bytes : List ℕ). entries_seen S w H g i j ++ bytes)
+      (sym (append-nil (placed_frame next)))
+      ∙ sym (flat_map-append placed_frame (placed_in S w H g i) (next ∷ []))
+      ∙ ap (flat_map placed_frame) (sym due.here)
+
   -- the entry of one item more
   pub servers-more : (i : ℕ) (e : Entry) (servers : List Server) → IsDue S w H g i e →
       AreServers S.shape
@@ -60,23 +71,15 @@ module _ (S : Script) (w : BookWords) (H : History) (g : ℕ) where
       (placed_so_far S w H g i ++ next_placed (placed_so_far S w H g i) e ∷ [])
       (placed_so_far S w H g (i + 1))
       (λ j. entries_seen S w H g i j ++ placed_frame (next_placed (placed_so_far S w H g i) e))
-      (entries_seen S w H g (i + 1)) servers due.more (λ j low high. due.seen j) are
+      (entries_seen S w H g (i + 1)) servers due.more (λ j low high. due-seen i e due j) are
 
   -- and of all
-  in-past : (i : ℕ) → length (order_at H g) ≤ i →
-      placed_in S w H g i ≡ placed_in S w H g (length (order_at H g))
-  unfolding placed_in
-  in-past i past =
-      ap (placed_after (write_at S w g) (placed_before S w H g))
-      (take_all i (order_at H g) past
-      ∙ sym (take_all (length (order_at H g)) (order_at H g) (omega arith)))
-
   pub servers-all : (i : ℕ) (servers : List Server) → length (order_at H g) ≤ i →
       AreServers S.shape (placed_so_far S w H g i) (entries_seen S w H g i) servers →
       AreServers S.shape (placed_before S w H (g + 1))
       (entries_seen S w H g (length (order_at H g))) servers
   servers-all i servers past are =
-      let same = in-past i past in
+      let same = in-past S w H g i past in
       servers-same S.shape (placed_so_far S w H g i) (placed_before S w H (g + 1))
       (entries_seen S w H g i) (entries_seen S w H g (length (order_at H g))) servers
       (ap (λ (ps : List Placed). placed_before S w H g ++ ps) same ∙ so_far-all S w H g)

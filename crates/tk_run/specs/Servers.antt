@@ -12,6 +12,7 @@ use Rattle.tk_frames.specs.Order.{before}
 use Rattle.tk_frames.specs.InOrder.{IsNext, mark_count}
 use Rattle.tk_replica.specs.Replica.{StandsFor}
 use Rattle.tk_report.specs.Exchange.{bytes_of, with_reply}
+pub use Rattle.tk_report.specs.Turns.{next_placed}
 use Rattle.tk_run.specs.declared.server.Server.{Server}
 
 -- Its replica has applied these entries and keeps the last epoch and the one before it, and it saw
@@ -47,10 +48,6 @@ pub record MayTakeAll (p : Placed) (servers : List Server) : Type 0 where
   pub seen : ℕ → List ℕ
   pub are : AreServers shape E seen servers
   pub next : IsNext shape E p
-
--- an entry at the place behind these
-abbrev pub next_placed : List Placed → Entry → Placed
-next_placed E entry = record { position = length E + 1; entry = entry }
 
 -- servers for which this entry is the next one, wherever they stand
 pub record MayPlace (entry : Entry) (servers : List Server) : Type 0 where

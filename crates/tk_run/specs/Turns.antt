@@ -1,49 +1,26 @@
 -- A run as it stands within a turn.
-use Rattle.std.specs.Prelude.{◌≡◌, ℕ, ◌+◌, List, ◌++◌, flat_map, map, take}
+use Rattle.std.specs.Prelude.{◌≡◌, ℕ, ◌+◌, List, flat_map, map}
 use Rattle.std.specs.List.{range_with_len}
 use Rattle.tk_schedule.specs.declared.history.History.{History}
-use Rattle.tk_schedule.specs.Schedule.{order_at}
 use Rattle.tk_script.specs.declared.script.Script.{Script}
 use Rattle.tk_words.specs.Words.{WordBook, BookWords, words_of}
-use Rattle.tk_schedule.specs.declared.item.Item.{Item}
-use Rattle.tk_schedule.specs.declared.item.Item.TheVariants.{Client, Publish}
-use Rattle.tk_frames.specs.declared.write_frame.WriteFrame.{WriteFrame}
-use Rattle.tk_frames.specs.declared.entry.Placed.{Placed}
-use Rattle.tk_frames.specs.declared.entry.Entry.{Entry}
-use Rattle.tk_frames.specs.declared.entry.Entry.TheVariants.{Write, Mark}
 use Rattle.tk_frames.specs.declared.read_frame.ReadFrame.{ReadFrame}
 use Rattle.tk_frames.specs.declared.reply_frame.ReplyFrame.{ReplyFrame}
 use Rattle.tk_frames.specs.Spelling.{placed_frame, read_frame, reply_frame}
-use Rattle.tk_report.specs.Entries.{write_at, entries_before, placed_after}
+use Rattle.tk_report.specs.Entries.{write_at}
 use Rattle.tk_report.specs.Exchange.{turn_frames, frames_before, read_at, read_answered, bytes_of}
 use Rattle.tk_table.specs.Replies.{reply_to}
 use Rattle.tk_report.specs.Report.{read_over}
 use Rattle.tk_report.specs.Queues.{said_before}
 use Rattle.tk_run.specs.declared.run.Run.{Run}
 use Rattle.tk_run.specs.Clients.{AreClients, client_before}
+pub use Rattle.tk_report.specs.Turns.{placed_before, placed_so_far, entry_due}
+unfoldable pub use Rattle.tk_report.specs.Turns.{placed_in}
 use Rattle.tk_run.specs.Servers.{AreServers}
 
 -- ---- entries
 
--- the entries of the turns before turn g
-abbrev pub placed_before : Script → BookWords → History → ℕ → List Placed
-placed_before S w H g = entries_before (write_at S w) H g
-
--- those of the first i items of turn g
-unfoldable pub placed_in : Script → BookWords → History → ℕ → ℕ → List Placed
-placed_in S w H g i =
-    placed_after (write_at S w g) (placed_before S w H g) (take i (order_at H g))
-
--- all so far
-abbrev pub placed_so_far : Script → BookWords → History → ℕ → ℕ → List Placed
-placed_so_far S w H g i = placed_before S w H g ++ placed_in S w H g i
-
--- the entry of an item of a turn, whose mark has this number
-abbrev pub entry_due : (ℕ → WriteFrame) → ℕ → Item → Entry
-entry_due write e (Client c) = Write (write c)
-entry_due write e Publish = Mark e
-
--- what each server saw of them in the turn
+-- what each server saw in turn g of the entries of its first i items
 abbrev pub entries_seen : Script → BookWords → History → ℕ → ℕ → ℕ → List ℕ
 entries_seen S w H g i j = flat_map placed_frame (placed_in S w H g i)
 

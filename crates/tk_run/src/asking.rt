@@ -10,10 +10,10 @@ ghost use Rattle.tk_run.specs.Rows.{AreRows};
 ghost use Rattle.tk_run.specs.Turns.{placed_before, posed};
 
 use crate::frames::{Frames, deal, empty_rows};
-use crate::plan::Plan;
 use crate::server::Server;
 use std::alloc::Global;
 use tk_client::Client;
+use tk_report::Plan;
 use tk_shape::{Bytes, Memory};
 use tk_words::Draws;
 

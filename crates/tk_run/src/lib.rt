@@ -3,13 +3,10 @@
 #![tactic(auto)]
 
 mod asking;
-mod clients;
 mod frames;
-mod plan;
 mod reading;
 mod run;
 mod run_error;
-mod saying;
 mod serially;
 mod server;
 mod servers;

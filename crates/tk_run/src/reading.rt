@@ -9,10 +9,10 @@ ghost use Rattle.tk_run.specs.Turns.{placed_before, posed, replied, entries_seen
 
 use crate::asking::ask_all;
 use crate::frames::{Frames, deal, empty_rows};
-use crate::plan::Plan;
 use crate::server::Server;
 use std::alloc::Global;
 use tk_client::Client;
+use tk_report::Plan;
 use tk_shape::Memory;
 use tk_words::Draws;
 

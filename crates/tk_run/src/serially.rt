@@ -6,12 +6,11 @@ ghost use Rattle.tk_report.specs.Exchange.{exchange, bytes_of};
 ghost use Rattle.tk_report.specs.Outcomes.{IsLeftBy};
 ghost use Rattle.tk_io.specs.Tapped.{TapsGain, TapsGainFronts, TapsKeepBut};
 
-use crate::plan::Plan;
 use crate::run_error::RunError;
 use crate::turns::take_turns;
 use std::alloc::Global;
 use tk_io::Taps;
-use tk_report::{Clients, Outcome, ends};
+use tk_report::{Clients, Outcome, Plan, ends};
 use tk_schedule::History;
 use tk_script::Script;
 use tk_words::Draws;

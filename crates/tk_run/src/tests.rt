@@ -2,6 +2,7 @@ use crate::{RunError, serial};
 use std::test::Fail;
 use tk_client::Client;
 use tk_io::MemTaps;
+use tk_report::{parse_history, print_outcome, report};
 use tk_script::{Input, parse};
 use tk_words::Book;
 
@@ -66,6 +67,71 @@ fn runs_and_their_taps(rt: HostRuntime) -> Result<(), Fail> {
         assert_eq!(rt; error, ended);
         assert_eq!(rt; got, numbers);
         assert_eq!(rt; (taps.bytes(1).len(), taps.bytes(2).len()), (first, second));
+    }
+    Ok(())
+}
+
+/// A script of twelve clients and two logs, over two phases of one tick, with readers that read
+/// ahead, and its tape.
+const TWELVE_CLIENTS: &[u8] = b"talek 1
+shape 2 16 8 64 24 256 1 2 12 2 1 2
+drawn
+log 0 1 2 3
+log 5 0 11
+say 1 1 0 hi
+say 1 1 1 ho
+say 2 1 0 yes
+end
+tape
+fill 11 864
+fill 21 288
+fill 31 36
+fill 32 36
+fill 33 36
+fill 34 36
+end
+";
+
+/// The two scripts, and how many texts the reports of their serial runs have.
+const REPORTED: [(&[u8], usize); 2] = [(ONE_TEXT, 1), (TWELVE_CLIENTS, 5)];
+
+/// How many lines of a report are texts.
+fn texts_in(report: &[u8]) -> usize {
+    report
+        .split(|byte| *byte == b'\n')
+        .filter(|line| line.starts_with(b"text"))
+        .count()
+}
+
+#[test]
+fn reports_of_serial_histories(rt: HostRuntime) -> Result<(), Fail> {
+    let alloc = rt.alloc();
+    for (text, texts) in REPORTED {
+        let Ok(
+            Input {
+                first: script,
+                tape,
+            },
+        ) = parse(alloc, text)
+        else {
+            return Err(Fail::from("a script"));
+        };
+        let Ok(Book::Drawn(draws)) = script.book(alloc, tape) else {
+            return Err(Fail::from("a book"));
+        };
+        let mut taps = MemTaps::new(alloc, 2, vec![in alloc; 0]?)?;
+        let Ok(outcome) = serial(alloc, &script, &draws, &mut taps) else {
+            return Err(Fail::from("a run"));
+        };
+        let mut printed = Vec::new(alloc);
+        print_outcome(alloc, &outcome, &mut printed)?;
+        let Ok(history) = parse_history(alloc, &script.shape, printed.as_slice()) else {
+            return Err(Fail::from("a history"));
+        };
+        let mut told = Vec::new(alloc);
+        report(alloc, &script, &draws, &history, &mut told)?;
+        assert_eq!(rt; told, printed);
+        assert_eq!(rt; texts_in(told.as_slice()), texts);
     }
     Ok(())
 }

@@ -1,27 +1,17 @@
-ghost use Rattle.std.specs.Prelude.{◌≡◌, ◌<◌, ◌+◌, ℕ, length, IsTrue, IfOk, OnOk};
-ghost use Rattle.std.specs.Prelude.{slice_index_or, slice_set};
-ghost use Rattle.std.specs.Option.{ForSome};
+ghost use Rattle.std.specs.Prelude.{◌≡◌, ◌<◌, ◌+◌, length, OnOk};
 ghost use Rattle.tk_shape.specs.Lengths.{turn_count};
-ghost use Rattle.tk_schedule.specs.declared.item.Item.TheVariants.{Client as Writes, Publish};
-ghost use Rattle.tk_schedule.specs.Schedule.{order_at, is_within, phase_of};
+ghost use Rattle.tk_schedule.specs.Schedule.{order_at};
 ghost use Rattle.tk_words.specs.Words.{words_of};
-ghost use Rattle.tk_frames.specs.Ranges.{IsWrite, IsEntry};
-ghost use Rattle.tk_client.specs.Client.{ClientState};
-ghost use Rattle.tk_client.specs.Writing.{first_waiting, after_write};
-ghost use Rattle.tk_client.specs.Writes.{write_of};
-ghost use Rattle.tk_report.specs.Entries.{write_at};
 ghost use Rattle.tk_run.specs.Clients.{AreClients, client_said, client_wrote};
 ghost use Rattle.tk_run.specs.Servers.{AreServers, nothing_seen};
-ghost use Rattle.tk_run.specs.Turns.{placed_before, entries_seen, entry_due};
+ghost use Rattle.tk_run.specs.Turns.{placed_before, entries_seen};
 
-use crate::plan::Plan;
 use crate::server::Server;
 use crate::servers::place_next;
 use std::alloc::Global;
 use tk_client::Client;
-use tk_frames::{Entry, WriteFrame, decode_write};
-use tk_schedule::{Item, place};
-use tk_shape::{Memory, Shape};
+use tk_report::{Plan, entry_of};
+use tk_shape::Memory;
 use tk_words::Draws;
 
 /// Each entry of a turn in the order of the history: what each client writes, and the mark where
@@ -57,71 +47,4 @@ pub(crate) fn write_turn<D: Draws>(
         place_next(alloc, servers, entry)?;
     }
     Ok(())
-}
-
-/// The entry of an item of a turn: its client's write, or the mark of the turn's phase.
-fn entry_of<D: Draws>(
-    alloc: Global,
-    plan: &Plan<D>,
-    turn: u32,
-    item: &Item,
-    clients: &mut [Client],
-) -> Result<Entry, Memory>
-    requires turn_in { turn < turn_count plan.now.script.now.shape }
-    requires item { IsTrue (is_within plan.now.script.now.shape.clients item.now) }
-    requires counted { length clients.old ≡ plan.now.script.now.shape.clients }
-    requires due { let S = plan.now.script.now in
-        let words = words_of S.shape (D.book plan.now.draws.now) in
-        (c : ℕ) (d : ClientState) → item.now ≡ Writes c
-        → slice_index_or clients.old c d ≡ client_said S words plan.now.history.now turn c }
-    ensures in_range { IfOk result (IsEntry plan.now.script.now.shape) }
-    ensures entry { let S = plan.now.script.now in
-        let words = words_of S.shape (D.book plan.now.draws.now) in
-        IfOk result (λ e. e ≡ entry_due (write_at S words turn) (phase_of S.shape turn) item.now) }
-    ensures wrote { let S = plan.now.script.now in
-        let words = words_of S.shape (D.book plan.now.draws.now) in
-        (c : ℕ) → item.now ≡ Writes c → OnOk result (clients.new
-        ≡ slice_set clients.old c (client_wrote S words plan.now.history.now turn c)) }
-    ensures marked { item.now ≡ Publish → OnOk result (clients.new ≡ clients.old) }
-{
-    match item {
-        Item::Client(client) => {
-            let writer = &mut clients[*client as usize];
-            let frame = frame_of(alloc, &plan.script.shape, plan.draws, turn, writer)?;
-            Ok(Entry::Write(frame))
-        }
-        Item::Publish => {
-            let (phase, _) = place(&plan.script.shape, turn);
-            Ok(Entry::Mark(phase))
-        }
-    }
-}
-
-/// What a client writes in a turn, as its frame tells.
-fn frame_of<D: Draws>(
-    alloc: Global,
-    shape: &Shape,
-    draws: &D,
-    turn: u32,
-    client: &mut Client,
-) -> Result<WriteFrame, Memory>
-    requires same { client.old.shape ≡ shape.now }
-    requires one_shape { D.shape draws.now ≡ shape.now }
-    requires turn_in { turn < turn_count shape.now }
-    requires number_in { ForSome (first_waiting client.old.writing)
-        (λ y. y.number < turn_count shape.now) }
-    ensures in_range { IfOk result (IsWrite shape.now) }
-    ensures write { let words = words_of shape.now (D.book draws.now) in
-        let waiting = first_waiting client.old.writing in
-        IfOk result (λ w. w ≡ write_of words turn client.old.number waiting) }
-    ensures client { OnOk result (client.new
-        ≡ record client.old { writing = after_write client.old.writing }) }
-{
-    let mut bytes = Vec::new(alloc);
-    client.write_frame(alloc, draws, turn, &mut bytes)?;
-    // what a client sends is a write frame, so that only memory may be wanting
-    let Ok(frame) = decode_write(alloc, shape, bytes.as_slice()) else {
-        return Err(Memory);
-    };
-    Ok(frame)
 }

@@ -2,9 +2,10 @@
 use Rattle.std.proofs.Common.{◌≡◌, ◌+◌, arith, sym, subst, length}
 use Rattle.std.proofs.lemmas.List.{with_items_is}
 use Rattle.tk_words.specs.Words.{words_of}
-use Rattle.tk_run.specs.Clients.{AreClients, client_before}
+use Rattle.tk_run.specs.Clients.{AreClients, client_before, known_before}
 use Rattle.tk_run.specs.Servers.{AreServers, nothing_seen}
 use Rattle.tk_run.specs.Turns.{placed_before, turn_seen}
+use Rattle.tk_report.proofs.Offers.{clients-know}
 use Rattle.tk_run.proofs.ErrorLaws.{both_ok}
 use Rattle.tk_run.proofs.turns.meet.Goals as goal
 
@@ -13,9 +14,11 @@ write_turn-requires-clause-clients g c κs within =
     let S = c.args.plan.now.script.now in
     let words = words_of S.shape (g.D.Draws.book c.args.plan.now.draws.now) in
     let H = c.args.plan.now.history.now in
-    c.in_ok-run.ensures.clients words H
+    let clients = c.as_mut_slice-clients.result.now in
+    c.in_ok-run.ensures.clients (known_before S words H c.args.turn)
+    (clients-know S words H c.args.turn clients
     (subst (AreClients S.shape.clients (client_before S words H c.args.turn))
-    (sym c.as_mut_slice-clients.ensures.value) c.requires.run.clients)
+    (sym c.as_mut_slice-clients.ensures.value) c.requires.run.clients))
 
 pub write_turn-requires-clause-servers : goal.write_turn-requires-clause-servers
 write_turn-requires-clause-servers g c κs within =

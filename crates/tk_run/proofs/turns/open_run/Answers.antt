@@ -1,7 +1,7 @@
 -- Each part of a run is opened as it is before the first turn.
 use Rattle.std.proofs.Common.{sym}
 use Rattle.tk_words.specs.Words.{words_of}
-use Rattle.tk_report.proofs.Offers.{said-none}
+use Rattle.tk_report.proofs.Offers.{said-none, clients-first}
 use Rattle.tk_run.proofs.PlacingLaws.{servers-first}
 use Rattle.tk_run.proofs.turns.open_run.Goals as goal
 
@@ -11,7 +11,8 @@ returns c b H =
     let words = words_of S.shape b in
     record {
       said = sym (said-none S);
-      clients = c.in_ok-open_clients.ensures words H;
+      clients = clients-first S words H c.in_ok-open_clients.field-0.items
+          c.in_ok-open_clients.ensures;
       servers =
           servers-first S words H c.in_ok-open_servers.field-0.items c.in_ok-open_servers.ensures;
     }
