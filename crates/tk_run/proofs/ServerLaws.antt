@@ -2,18 +2,18 @@
 use Rattle.std.proofs.Common.{◌≡◌, refl, ap, ap₂, sym, ◌∙◌, arith, ℕ, zero, suc, ◌+◌, ◌-◌, ◌<◌, ◌≤◌}
 use Rattle.std.proofs.Common.{List, [], ◌∷◌, ◌++◌, length, map, take, flat_map, append_assoc}
 use Rattle.std.proofs.Common.{append-nil}
-use Rattle.std.proofs.Common.{add-one}
+use Rattle.std.proofs.Common.{add-one, cond, true, false}
 use Rattle.std.specs.Prelude.{slice_index_or}
 use Rattle.std.specs.List.{AllByRecursion}
 use Rattle.std.proofs.lemmas.List.{length-map}
 use Rattle.tk_shape.specs.declared.shape.Shape.{Shape}
 use Rattle.tk_frames.specs.declared.entry.Placed.{Placed}
 use Rattle.tk_frames.specs.declared.read_frame.ReadFrame.{ReadFrame}
-use Rattle.tk_frames.specs.Order.{before}
+use Rattle.tk_frames.specs.Order.{before, is_mark}
 use Rattle.tk_frames.specs.Ranges.{IsRead}
 use Rattle.tk_frames.specs.Spelling.{read_frame, reply_frame}
 use Rattle.tk_frames.specs.InOrder.{mark_count}
-use Rattle.tk_frames.proofs.Offers.{marks-append, read-again}
+use Rattle.tk_frames.proofs.Offers.{marks-push, read-again}
 use Rattle.tk_replica.specs.Replies.{reply_for, reply_due, reply_bytes}
 use Rattle.tk_report.specs.Exchange.{bytes_of, with_reply}
 use Rattle.tk_run.specs.Rows.{Frame, in_pairs}
@@ -21,10 +21,15 @@ use Rattle.tk_run.specs.Servers.{AreReads, answered}
 
 -- ---- an entry
 
--- the epoch before the last isn't lower with one entry more
-pub floor-below : (E : List Placed) (p : Placed) (floor last : ℕ) → floor ≡ mark_count E - 1 →
-    last ≡ mark_count (E ++ p ∷ []) → floor ≤ last - 1
-floor-below E p floor last low high = omega (arith, low, high, marks-append E (p ∷ []))
+-- where all epochs but the last are let go before a mark, the epoch before the last is the first
+pub floor-next : (E : List Placed) (p : Placed) (floor last : ℕ) → floor ≡ mark_count E - 1 →
+    last ≡ mark_count E → cond (is_mark p.entry) last floor ≡ mark_count (E ++ p ∷ []) - 1
+floor-next E p floor last low at =
+    elim (is_mark p.entry) as (λ b. mark_count (E ++ p ∷ []) ≡ mark_count E + cond b 1 0 →
+    cond b last floor ≡ mark_count (E ++ p ∷ []) - 1) [
+      | true ↦ λ counted. omega (arith, at, counted)
+      | false ↦ λ counted. omega (arith, low, counted)
+    ] (marks-push E p)
 
 -- ---- reads
 

@@ -1,5 +1,11 @@
+ghost use Rattle.std.specs.Prelude.{◌≡◌, ◌≤◌, cond, List};
+ghost use Rattle.tk_shape.specs.declared.shape.Shape.{Shape};
+ghost use Rattle.tk_frames.specs.declared.entry.Placed.{Placed};
+ghost use Rattle.tk_frames.specs.Order.{is_mark};
+ghost use Rattle.tk_replica.specs.Replica.{StandsFor};
+
 use std::alloc::Global;
-use tk_frames::{Placed, encode_placed};
+use tk_frames::{Entry, Placed, encode_placed};
 use tk_replica::ReplicaState;
 use tk_shape::{Bytes, Memory, Shape};
 
@@ -31,8 +37,8 @@ impl Server {
         })
     }
 
-    /// Sees the frame of an entry and takes it. The epochs below the one before the last are let
-    /// go.
+    /// Sees the frame of an entry and takes it. Before a mark all epochs but the last are let go, so
+    /// that there are never more than two.
     pub(crate) fn take(&mut self, alloc: Global, placed: &Placed) -> Result<(), Memory>
         requires { MayTake placed.now self.old }
         ensures { (shape : Shape) (E : List Placed) (bytes : List ℕ)
@@ -41,8 +47,8 @@ impl Server {
             (IsServer shape (E ++ placed.now ∷ []) (bytes ++ placed_frame placed.now) self.new) }
     {
         encode_placed(placed, &mut self.seen)?;
+        make_room(&mut self.state, &placed.entry);
         self.state.apply(alloc, placed)?;
-        self.state.release(self.state.last().saturating_sub(1));
         Ok(())
     }
 
@@ -81,5 +87,18 @@ impl Server {
             self.seen.extend_from_slice(replies[i].as_slice())?;
         }
         Ok(())
+    }
+}
+
+/// Where a mark comes, lets all epochs but the last go.
+fn make_room(state: &mut ReplicaState, entry: &Entry)
+    requires { state.old.floor ≤ state.old.last }
+    ensures stands { (shape : Shape) (E : List Placed)
+        → StandsFor shape E state.old → StandsFor shape E state.new }
+    ensures floor { state.new.floor
+        ≡ cond (is_mark entry.now) state.old.last state.old.floor }
+{
+    if let Entry::Mark(_) = entry {
+        state.release(state.last());
     }
 }
