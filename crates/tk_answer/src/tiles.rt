@@ -1,4 +1,4 @@
-// Blocks added to many sums, a tile at a time: as many blocks as stay in the nearest cache while each vector's are
+// Blocks added to many sums, a tile at a time: as many blocks as stay in the nearer caches while each vector's are
 // added.
 ghost use Rattle.std.specs.Prelude.{◌≡◌, ◌-◌, ◌*◌, ◌%◌, ◌<◌, ◌≤◌, length, take, drop, map, replicate, vec_len, IfOk};
 ghost use Rattle.std.specs.List.{All, concat};
