@@ -55,10 +55,6 @@ impl<T: Share> Ledger<T> {
         })
     }
 
-    pub fn readers(&self) -> u32 {
-        self.readers
-    }
-
     // Plans to add a value.
     fn plan(&mut self, value: T) -> T
         requires clear { self.old ≡ book self.old.board self.old.list [] false }

@@ -222,10 +222,10 @@ fn readers_look_while_the_publisher_shows(rt: HostRuntime) -> Result<(), Fail> {
         alloc,
         shown: false,
     };
-    let mut last = Err(Memory);
+    let mut last = (Err(Memory), Err(Memory));
     if let Some(pair) = &mut pair {
         all_three(&rt, &mut showing, &mut pair.one, &mut pair.two);
-        last = pair.two.look();
+        last = (pair.one.look(), pair.two.look());
     }
     let fell = match &pair {
         Some(pair) => pair.one.fell || pair.two.fell,
@@ -238,6 +238,7 @@ fn readers_look_while_the_publisher_shows(rt: HostRuntime) -> Result<(), Fail> {
     } = showing;
     let closed = close(&rt, publisher, pair);
     assert!(rt; shown && !fell && closed.is_ok());
-    assert_eq!(rt; last.ok().ok_or("last")?, 1);
+    assert_eq!(rt; last.0.ok().ok_or("one")?, 1);
+    assert_eq!(rt; last.1.ok().ok_or("two")?, 1);
     Ok(())
 }
