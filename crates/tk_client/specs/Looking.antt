@@ -1,4 +1,4 @@
--- What a read gives whose two buckets lie open, and one who reads so.
+-- What a read gives whose two buckets lie open, and one who follows logs so.
 use Rattle.std.specs.Prelude.{ℕ, Bool, List, [], slice_index_or, Option, Some, None}
 use Rattle.tk_shape.specs.declared.shape.Shape.{Shape}
 use Rattle.tk_words.specs.Words.{BookWords, opened}
@@ -14,17 +14,21 @@ text_for shape w blocks (Some t) =
     text_from shape pair (opened w t.log t.number) (slice_index_or blocks pair.0 [])
     (slice_index_or blocks pair.1 [])
 
--- one who looks, and what it knows as a reader
-pub record LookerState : Type 0 where
+-- one who follows logs, and what it knows as a reader
+pub record FollowerState : Type 0 where
   pub shape : Shape
   pub reader : Reader
 
 -- one who follows these logs and knows nothing
-abbrev pub new_looker : Shape → List ℕ → LookerState
-new_looker shape follows = record { shape = shape; reader = new_reader follows }
+abbrev pub new_follower : Shape → List ℕ → FollowerState
+new_follower shape follows = record { shape = shape; reader = new_reader follows }
+
+-- what a read over an epoch whose filter has these marks is for
+abbrev pub looked_for : BookWords → List Bool → ℕ → FollowerState → Option Target
+looked_for w marks e s = target s.shape (shown_by marks w) (at_epoch e s.reader)
 
 -- after a read over an epoch with these buckets, whose filter has these marks
-abbrev pub after_look : BookWords → List Bool → List (List ℕ) → ℕ → LookerState → LookerState
+abbrev pub after_look : BookWords → List Bool → List (List ℕ) → ℕ → FollowerState → FollowerState
 after_look w marks blocks e s =
     let now = at_epoch e s.reader in
     let t = target s.shape (shown_by marks w) now in

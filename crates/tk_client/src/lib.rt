@@ -5,10 +5,10 @@
 mod asking;
 mod client;
 mod follow;
+mod follower;
 mod got;
 mod joining;
 mod laws;
-mod looker;
 mod looking;
 mod open_read;
 mod outbox;
@@ -27,8 +27,8 @@ mod writes;
 mod written;
 
 pub use client::Client;
+pub use follower::Follower;
 pub use got::Got;
 pub use laws::asked_in_range;
-pub use looker::Looker;
 pub use say_error::SayError;
 pub use take_error::TakeError;

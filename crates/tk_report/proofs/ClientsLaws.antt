@@ -15,9 +15,9 @@ use Rattle.tk_words.specs.Words.{BookWords}
 use Rattle.tk_client.specs.declared.got.Got.{Got}
 use Rattle.tk_client.specs.Reader.{got_in}
 use Rattle.tk_client.specs.Client.{ClientState, new_client}
-use Rattle.tk_client.specs.Looking.{LookerState, new_looker}
+use Rattle.tk_client.specs.Looking.{FollowerState, new_follower}
 use Rattle.tk_report.specs.Clients.{AreClients, client_before, client_knowing}
-use Rattle.tk_report.specs.Clients.{known_first, known_before, AreLookers, looker_before, joined}
+use Rattle.tk_report.specs.Clients.{known_first, known_before, AreFollowers, follower_before, joined}
 use Rattle.tk_report.specs.Leaving.{got_by, unsent_by}
 use Rattle.tk_report.specs.Queues.{writes_of, writing_before}
 use Rattle.tk_report.specs.Report.{follows_of, reader_before}
@@ -214,91 +214,91 @@ clients-know S w H g clients are =
 -- ---- those who look in their place
 
 first-look : (S : Script) (w : BookWords) (H : History) (c : ℕ) →
-    new_looker S.shape (follows_of S c) ≡ looker_before S w H 0 c
+    new_follower S.shape (follows_of S c) ≡ follower_before S w H 0 c
 unfolding reader_before
 first-look S w H c = refl
 
-pub lookers-first : (S : Script) (w : BookWords) (H : History) (lookers : List LookerState) →
-    AreLookers S.shape.clients (λ c. new_looker S.shape (follows_of S c)) lookers →
-    AreLookers S.shape.clients (looker_before S w H 0) lookers
-lookers-first S w H lookers are =
+pub followers-first : (S : Script) (w : BookWords) (H : History) (followers : List FollowerState) →
+    AreFollowers S.shape.clients (λ c. new_follower S.shape (follows_of S c)) followers →
+    AreFollowers S.shape.clients (follower_before S w H 0) followers
+followers-first S w H followers are =
     record {
       counted = are.counted;
       each = λ c d low. are.each c d low ∙ first-look S w H c;
     }
 
-length-joined : (clients : List ClientState) (lookers : List LookerState) →
-    length clients ≡ length lookers → length (joined clients lookers) ≡ length clients
+length-joined : (clients : List ClientState) (followers : List FollowerState) →
+    length clients ≡ length followers → length (joined clients followers) ≡ length clients
 length-joined [] [] same = refl
-length-joined [] (l ∷ lookers) same = refl
+length-joined [] (l ∷ followers) same = refl
 length-joined (k ∷ clients) [] same = absurd (omega (arith, same))
-length-joined (k ∷ clients) (l ∷ lookers) same =
-    ap suc (length-joined clients lookers (omega (arith, same)))
+length-joined (k ∷ clients) (l ∷ followers) same =
+    ap suc (length-joined clients followers (omega (arith, same)))
 
 -- there are no more of them than of either
-pub joined-within : (clients : List ClientState) (lookers : List LookerState) (c : ℕ) →
-    c < length (joined clients lookers) → (c < length clients) × (c < length lookers)
-joined-within [] lookers c low = absurd (omega (arith, low))
+pub joined-within : (clients : List ClientState) (followers : List FollowerState) (c : ℕ) →
+    c < length (joined clients followers) → (c < length clients) × (c < length followers)
+joined-within [] followers c low = absurd (omega (arith, low))
 joined-within (k ∷ clients) [] c low = absurd (omega (arith, low))
-joined-within (k ∷ clients) (l ∷ lookers) zero low = (omega arith, omega arith)
-joined-within (k ∷ clients) (l ∷ lookers) (suc c) low =
-    let both = joined-within clients lookers c (omega (arith, low)) in
+joined-within (k ∷ clients) (l ∷ followers) zero low = (omega arith, omega arith)
+joined-within (k ∷ clients) (l ∷ followers) (suc c) low =
+    let both = joined-within clients followers c (omega (arith, low)) in
     (omega (arith, both.0), omega (arith, both.1))
 
 -- what a log gave to the one at a place, and how many texts it has left
-pub got-joined : (clients : List ClientState) (lookers : List LookerState) (log c : ℕ)
-    (looker : LookerState) (got : List Got) → c < length (joined clients lookers) →
-    looker ≡ slice_index_or lookers c looker → got ≡ got_in looker.reader.follows log →
-    got ≡ got_by (joined clients lookers) c log
-got-joined [] lookers log c looker got low here is = absurd (omega (arith, low))
-got-joined (k ∷ clients) [] log c looker got low here is = absurd (omega (arith, low))
-got-joined (k ∷ clients) (l ∷ lookers) log zero looker got low here is =
-    is ∙ ap (λ (x : LookerState). got_in x.reader.follows log) here
-got-joined (k ∷ clients) (l ∷ lookers) log (suc c) looker got low here is =
-    got-joined clients lookers log c looker got (omega (arith, low)) here is
+pub got-joined : (clients : List ClientState) (followers : List FollowerState) (log c : ℕ)
+    (follower : FollowerState) (got : List Got) → c < length (joined clients followers) →
+    follower ≡ slice_index_or followers c follower → got ≡ got_in follower.reader.follows log →
+    got ≡ got_by (joined clients followers) c log
+got-joined [] followers log c follower got low here is = absurd (omega (arith, low))
+got-joined (k ∷ clients) [] log c follower got low here is = absurd (omega (arith, low))
+got-joined (k ∷ clients) (l ∷ followers) log zero follower got low here is =
+    is ∙ ap (λ (x : FollowerState). got_in x.reader.follows log) here
+got-joined (k ∷ clients) (l ∷ followers) log (suc c) follower got low here is =
+    got-joined clients followers log c follower got (omega (arith, low)) here is
 
-pub unsent-joined : (clients : List ClientState) (lookers : List LookerState) (c : ℕ)
-    (client : ClientState) (count : ℕ) → c < length (joined clients lookers) →
+pub unsent-joined : (clients : List ClientState) (followers : List FollowerState) (c : ℕ)
+    (client : ClientState) (count : ℕ) → c < length (joined clients followers) →
     client ≡ slice_index_or clients c client → count ≡ length client.writing.waiting →
-    count ≡ unsent_by (joined clients lookers) c
-unsent-joined [] lookers c client count low here is = absurd (omega (arith, low))
+    count ≡ unsent_by (joined clients followers) c
+unsent-joined [] followers c client count low here is = absurd (omega (arith, low))
 unsent-joined (k ∷ clients) [] c client count low here is = absurd (omega (arith, low))
-unsent-joined (k ∷ clients) (l ∷ lookers) zero client count low here is =
+unsent-joined (k ∷ clients) (l ∷ followers) zero client count low here is =
     is ∙ ap (λ (x : ClientState). length x.writing.waiting) here
-unsent-joined (k ∷ clients) (l ∷ lookers) (suc c) client count low here is =
-    unsent-joined clients lookers c client count (omega (arith, low)) here is
+unsent-joined (k ∷ clients) (l ∷ followers) (suc c) client count low here is =
+    unsent-joined clients followers c client count (omega (arith, low)) here is
 
--- the one at a place is the client of the place, and knows what the looker there does
-pub joined-at : (clients : List ClientState) (lookers : List LookerState) (c : ℕ)
-    (d k : ClientState) (l : LookerState) → c < length (joined clients lookers) →
-    slice_index_or (joined clients lookers) c d
-    ≡ record (slice_index_or clients c k) { reader = (slice_index_or lookers c l).reader }
-joined-at [] lookers c d k l low = absurd (omega (arith, low))
+-- the one at a place is the client of the place, and knows what the follower there does
+pub joined-at : (clients : List ClientState) (followers : List FollowerState) (c : ℕ)
+    (d k : ClientState) (l : FollowerState) → c < length (joined clients followers) →
+    slice_index_or (joined clients followers) c d
+    ≡ record (slice_index_or clients c k) { reader = (slice_index_or followers c l).reader }
+joined-at [] followers c d k l low = absurd (omega (arith, low))
 joined-at (x ∷ clients) [] c d k l low = absurd (omega (arith, low))
-joined-at (x ∷ clients) (y ∷ lookers) zero d k l low = refl
-joined-at (x ∷ clients) (y ∷ lookers) (suc c) d k l low =
-    joined-at clients lookers c d k l (omega (arith, low))
+joined-at (x ∷ clients) (y ∷ followers) zero d k l low = refl
+joined-at (x ∷ clients) (y ∷ followers) (suc c) d k l low =
+    joined-at clients followers c d k l (omega (arith, low))
 
 knows-reader : (S : Script) (w : BookWords) (H : History) (g c : ℕ) →
-    record (client_knowing S (known_first S) g c) { reader = (looker_before S w H g c).reader }
+    record (client_knowing S (known_first S) g c) { reader = (follower_before S w H g c).reader }
     ≡ client_before S w H g c
 unfolding client_knowing client_before
 knows-reader S w H g c = refl
 
 -- clients that write and those who look for them are together the clients of a run
 pub joined-are : (S : Script) (w : BookWords) (H : History) (g : ℕ) (clients : List ClientState)
-    (lookers : List LookerState) →
+    (followers : List FollowerState) →
     AreClients S.shape.clients (client_knowing S (known_first S) g) clients →
-    AreLookers S.shape.clients (looker_before S w H g) lookers →
-    AreClients S.shape.clients (client_before S w H g) (joined clients lookers)
-joined-are S w H g clients lookers are look =
+    AreFollowers S.shape.clients (follower_before S w H g) followers →
+    AreClients S.shape.clients (client_before S w H g) (joined clients followers)
+joined-are S w H g clients followers are look =
     record {
-      counted = length-joined clients lookers (are.counted ∙ sym look.counted) ∙ are.counted;
+      counted = length-joined clients followers (are.counted ∙ sym look.counted) ∙ are.counted;
       each = λ c d low.
-          let both = joined-within clients lookers c low in
-          let l = looker_before S w H g c in
-          joined-at clients lookers c d d l low
-          ∙ ap₂ (λ (k : ClientState) (m : LookerState). record k { reader = m.reader })
+          let both = joined-within clients followers c low in
+          let l = follower_before S w H g c in
+          joined-at clients followers c d d l low
+          ∙ ap₂ (λ (k : ClientState) (m : FollowerState). record k { reader = m.reader })
           (are.each c d both.0) (look.each c l both.1)
           ∙ knows-reader S w H g c;
     }

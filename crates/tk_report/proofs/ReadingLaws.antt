@@ -14,10 +14,10 @@ use Rattle.tk_table.specs.Shown.{is_shown}
 use Rattle.tk_client.specs.declared.target.Target.{Target}
 use Rattle.tk_client.specs.Reader.{Reader, target, at_epoch, after_read}
 use Rattle.tk_client.specs.Asked.{shown_by}
-use Rattle.tk_client.specs.Looking.{LookerState, text_for, after_look}
+use Rattle.tk_client.specs.Looking.{FollowerState, text_for, after_look}
 use Rattle.tk_replica.specs.declared.epoch.Epoch.{Epoch}
 use Rattle.tk_replica.specs.Epochs.{EpochStandsFor, IsEpochOf}
-use Rattle.tk_report.specs.Clients.{looker_before}
+use Rattle.tk_report.specs.Clients.{follower_before}
 use Rattle.tk_report.specs.Entries.{entries, write_at}
 use Rattle.tk_report.specs.Report.{answered, reader_step, reader_before}
 use Rattle.tk_report.specs.Turns.{placed_before}
@@ -91,24 +91,24 @@ held-of S b H g e held legal within made is =
 -- ---- one who looks
 
 -- what a read over open buckets does
-abbrev pub Looks : WordBook → ℕ → Epoch → LookerState → LookerState → Type 0
+abbrev pub Looks : WordBook → ℕ → Epoch → FollowerState → FollowerState → Type 0
 Looks b e held old new =
     new ≡ after_look (words_of old.shape b) held.filter held.blocks.blocks e old
 
-pub looker-next : (S : Script) (b : WordBook) (H : History) (g c e : ℕ) (held : Epoch)
-    (old new : LookerState) → IsBook S.shape b → IsLegal S.shape H → IsHeld S b H e held →
-    epoch_at H g c ≡ e → old ≡ looker_before S (words_of S.shape b) H g c →
-    Looks b e held old new → new ≡ looker_before S (words_of S.shape b) H (g + 1) c
-looker-next S b H g c e held old new served legal is epoch was looks =
+pub follower-next : (S : Script) (b : WordBook) (H : History) (g c e : ℕ) (held : Epoch)
+    (old new : FollowerState) → IsBook S.shape b → IsLegal S.shape H → IsHeld S b H e held →
+    epoch_at H g c ≡ e → old ≡ follower_before S (words_of S.shape b) H g c →
+    Looks b e held old new → new ≡ follower_before S (words_of S.shape b) H (g + 1) c
+follower-next S b H g c e held old new served legal is epoch was looks =
     let w = words_of S.shape b in
-    let looker = looker_before S w H g c in
-    let then : Looks b e held looker new =
-    subst (λ (k : LookerState). Looks b e held k new) was looks
+    let follower = follower_before S w H g c in
+    let then : Looks b e held follower new =
+    subst (λ (k : FollowerState). Looks b e held k new) was looks
     in
     then
     ∙ ap (λ (r : Reader). looked S r) (reader-next S b H g c e held served legal is epoch)
   where
-    looked : Script → Reader → LookerState
+    looked : Script → Reader → FollowerState
     looked T r = record { shape = T.shape; reader = r }
 
 -- ---- lists of which each element has something of its place

@@ -12,7 +12,7 @@ use Rattle.tk_words.specs.Words.{BookWords}
 use Rattle.tk_client.specs.Reader.{Reader, new_reader}
 use Rattle.tk_client.specs.Writing.{Writing}
 use Rattle.tk_client.specs.Client.{ClientState}
-use Rattle.tk_client.specs.Looking.{LookerState}
+use Rattle.tk_client.specs.Looking.{FollowerState}
 use Rattle.tk_report.specs.Queues.{writing_before, writing_said}
 use Rattle.tk_report.specs.Report.{follows_of, reader_before}
 
@@ -68,22 +68,22 @@ abbrev pub client_after : Script → (ℕ → Reader) → ℕ → List Item → 
 client_after S knows g items c =
     cond (has_written items c) (client_knowing S knows (g + 1) c) (client_told S knows g c)
 
--- ---- those who look in place of clients
+-- ---- followers, which read in place of clients
 
 -- one who knows before turn g what client c does
-abbrev pub looker_before : Script → BookWords → History → ℕ → ℕ → LookerState
-looker_before S w H g c = record { shape = S.shape; reader = reader_before S w H c g }
+abbrev pub follower_before : Script → BookWords → History → ℕ → ℕ → FollowerState
+follower_before S w H g c = record { shape = S.shape; reader = reader_before S w H c g }
 
 -- one for each number from 0 on, each as it is told
-pub record AreLookers (count : ℕ) (state : ℕ → LookerState) (lookers : List LookerState)
+pub record AreFollowers (count : ℕ) (state : ℕ → FollowerState) (followers : List FollowerState)
     : Type 0 where
-  pub counted : length lookers ≡ count
-  pub each : (c : ℕ) (d : LookerState) → c < length lookers →
-      slice_index_or lookers c d ≡ state c
+  pub counted : length followers ≡ count
+  pub each : (c : ℕ) (d : FollowerState) → c < length followers →
+      slice_index_or followers c d ≡ state c
 
 -- clients of which each knows what one of these does
-abbrev pub joined : List ClientState → List LookerState → List ClientState
-joined [] lookers = []
+abbrev pub joined : List ClientState → List FollowerState → List ClientState
+joined [] followers = []
 joined (client ∷ clients) [] = []
-joined (client ∷ clients) (looker ∷ lookers) =
-    record client { reader = looker.reader } ∷ joined clients lookers
+joined (client ∷ clients) (follower ∷ followers) =
+    record client { reader = follower.reader } ∷ joined clients followers

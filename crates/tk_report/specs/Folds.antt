@@ -10,7 +10,7 @@ use Rattle.tk_frames.specs.declared.entry.Entry.{Entry}
 use Rattle.tk_frames.specs.InOrder.{IsNext}
 use Rattle.tk_replica.specs.Replica.{ReplicaView, StandsFor}
 use Rattle.tk_report.specs.Clients.{AreClients, client_knowing, known_first}
-use Rattle.tk_report.specs.Clients.{AreLookers, looker_before}
+use Rattle.tk_report.specs.Clients.{AreFollowers, follower_before}
 use Rattle.tk_report.specs.Turns.{placed_before, next_placed}
 use Rattle.tk_report.specs.Queues.{said_before}
 use Rattle.tk_report.specs.declared.folding.Fold.{Fold}
@@ -28,7 +28,7 @@ pub record IsFoldBefore (S : Script) (b : WordBook) (H : History) (g : ℕ) (f :
     : Type 0 where
   pub said : f.said ≡ said_before S g
   pub clients : AreClients S.shape.clients (client_knowing S (known_first S) g) f.clients.items
-  pub lookers : AreLookers S.shape.clients (looker_before S (words_of S.shape b) H g)
-      f.lookers.items
+  pub followers : AreFollowers S.shape.clients (follower_before S (words_of S.shape b) H g)
+      f.followers.items
   pub replica : StandsFor S.shape (placed_before S (words_of S.shape b) H g) f.replica
   pub floor : f.replica.floor ≤ phases_over S.shape g

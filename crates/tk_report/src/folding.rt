@@ -5,13 +5,13 @@ ghost use Rattle.tk_words.specs.Words.{WordBook, words_of};
 ghost use Rattle.tk_report.specs.Clients.{AreClientsAtEnd, joined};
 ghost use Rattle.tk_report.specs.Folds.{IsFoldBefore};
 
-use crate::opening::{open_clients, open_lookers};
+use crate::opening::{open_clients, open_followers};
 use crate::plan::Plan;
 use crate::reading::read_turn;
 use crate::saying::say_turn;
 use crate::writing::write_turn;
 use std::alloc::Global;
-use tk_client::{Client, Looker};
+use tk_client::{Client, Follower};
 use tk_replica::ReplicaState;
 use tk_script::Script;
 use tk_shape::Memory;
@@ -23,7 +23,7 @@ use tk_words::Draws;
 pub(crate) struct Fold {
     pub said: usize,
     pub clients: Vec<Client>,
-    pub lookers: Vec<Looker>,
+    pub followers: Vec<Follower>,
     pub replica: ReplicaState,
 }
 
@@ -32,7 +32,7 @@ pub(crate) fn fold_all<D: Draws>(alloc: Global, plan: &Plan<D>) -> Result<Fold, 
     ensures { let S = plan.now.script.now in
         let words = words_of S.shape (D.book plan.now.draws.now) in
         IfOk result (λ fold. AreClientsAtEnd S words plan.now.history.now
-        (joined fold.clients.items fold.lookers.items)) }
+        (joined fold.clients.items fold.followers.items)) }
 {
     let mut fold = open_fold(alloc, plan.script)?;
     'turns: for turn in 0..plan.script.shape.turns() {
@@ -48,7 +48,7 @@ fn open_fold(alloc: Global, script: &Script) -> Result<Fold, Memory>
     Ok(Fold {
         said: 0,
         clients: open_clients(alloc, script)?,
-        lookers: open_lookers(alloc, script)?,
+        followers: open_followers(alloc, script)?,
         replica: ReplicaState::open(alloc, &script.shape)?,
     })
 }
@@ -71,8 +71,8 @@ fn take_turn<D: Draws>(
     let clients = fold.clients.as_mut_slice();
     fold.said = say_turn(alloc, plan.script, turn, fold.said, clients)?;
     write_turn(alloc, plan, turn, clients, &mut fold.replica)?;
-    let lookers = fold.lookers.as_mut_slice();
-    read_turn(alloc, plan, turn, &fold.replica, lookers)?;
+    let followers = fold.followers.as_mut_slice();
+    read_turn(alloc, plan, turn, &fold.replica, followers)?;
     let newest = fold.replica.last();
     fold.replica.release(newest);
     Ok(())

@@ -36,10 +36,10 @@ impl Left for Clients {
 }
 
 impl Left for Fold {
-    ghost clients = { λ f. joined f.clients.items f.lookers.items };
+    ghost clients = { λ f. joined f.clients.items f.followers.items };
 
     fn got(&self, client: u32, log: u32) -> &[Got] {
-        self.lookers[client as usize].log(log)
+        self.followers[client as usize].log(log)
     }
 
     fn unsent(&self, client: u32) -> u32 {

@@ -27,14 +27,15 @@ pub use laws::{
     agreement, clear, delivered, ends, honest_passing_over, laid_out, marks, one_history,
     queues_send, records_are_shown, told,
 };
-pub use opening::open_clients;
+pub use opening::{open_clients, open_followers};
 pub use outcome::Outcome;
 pub use outcome_text::print_outcome;
 pub use parsing::parse_history;
 pub use plan::Plan;
+pub use reading::read_turn;
 pub use reporting::report;
 pub use saying::say_turn;
-pub use writing::entry_of;
+pub use writing::{entry_of, write_turn};
 
 #[cfg(test)]
 mod report_tests;

@@ -1,13 +1,13 @@
 ghost use Rattle.std.specs.Prelude.{◌≡◌, ◌<◌, IfOk};
 ghost use Rattle.tk_client.specs.Client.{new_client};
-ghost use Rattle.tk_client.specs.Looking.{new_looker};
+ghost use Rattle.tk_client.specs.Looking.{new_follower};
 ghost use Rattle.tk_report.specs.Clients.{AreClients, client_knowing, known_first};
-ghost use Rattle.tk_report.specs.Clients.{AreLookers};
+ghost use Rattle.tk_report.specs.Clients.{AreFollowers};
 ghost use Rattle.tk_report.specs.Queues.{writes_of};
 ghost use Rattle.tk_report.specs.Report.{follows_of};
 
 use std::alloc::Global;
-use tk_client::{Client, Looker};
+use tk_client::{Client, Follower};
 use tk_script::Script;
 use tk_shape::Memory;
 
@@ -41,24 +41,24 @@ fn open_client(alloc: Global, script: &Script, number: u32) -> Result<Client, Me
 }
 
 /// For each client of a script, by number, one who follows what the client does.
-pub(crate) fn open_lookers(alloc: Global, script: &Script) -> Result<Vec<Looker>, Memory>
-    ensures { let S = script.now in IfOk result (λ lookers. AreLookers S.shape.clients
-        (λ c. new_looker S.shape (follows_of S c)) lookers.items) }
+pub fn open_followers(alloc: Global, script: &Script) -> Result<Vec<Follower>, Memory>
+    ensures { let S = script.now in IfOk result (λ followers. AreFollowers S.shape.clients
+        (λ c. new_follower S.shape (follows_of S c)) followers.items) }
 {
-    let mut lookers = Vec::new(alloc);
+    let mut followers = Vec::new(alloc);
     for number in 0..script.shape.clients {
-        lookers.push(open_looker(alloc, script, number)?)?;
+        followers.push(open_follower(alloc, script, number)?)?;
     }
-    Ok(lookers)
+    Ok(followers)
 }
 
 /// One who follows what a client does.
-fn open_looker(alloc: Global, script: &Script, number: u32) -> Result<Looker, Memory>
+fn open_follower(alloc: Global, script: &Script, number: u32) -> Result<Follower, Memory>
     ensures { let S = script.now in IfOk result (λ l.
-        l ≡ new_looker S.shape (follows_of S number)) }
+        l ≡ new_follower S.shape (follows_of S number)) }
 {
     let follows = logs_followed(alloc, script, number)?;
-    Looker::open(alloc, &script.shape, follows.as_slice())
+    Follower::open(alloc, &script.shape, follows.as_slice())
 }
 
 /// The logs that a client writes, ascending.

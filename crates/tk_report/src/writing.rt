@@ -32,7 +32,7 @@ use tk_words::Draws;
 
 /// Applies each entry of a turn in the order of the history: what each client writes, and the mark
 /// where the turn closes a phase.
-pub(crate) fn write_turn<D: Draws>(
+pub fn write_turn<D: Draws>(
     alloc: Global,
     plan: &Plan<D>,
     turn: u32,

@@ -17,9 +17,9 @@ returns g c =
     let words = words_of S.shape (g.D.Draws.book c.args.plan.now.draws.now) in
     let H = c.args.plan.now.history.now in
     let clients = c.turns.fold.clients.items in
-    let lookers = c.turns.fold.lookers.items in
+    let followers = c.turns.fold.followers.items in
     let all : c.turns.turn ≡ turn_count S.shape = omega arith in
     subst (λ (n : ℕ). AreClients S.shape.clients (client_before S words H n)
-    (joined clients lookers)) all
-    (joined-are S words H c.turns.turn clients lookers c.turns.invariant.clients
-    c.turns.invariant.lookers)
+    (joined clients followers)) all
+    (joined-are S words H c.turns.turn clients followers c.turns.invariant.clients
+    c.turns.invariant.followers)

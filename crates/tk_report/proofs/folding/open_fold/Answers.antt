@@ -2,7 +2,7 @@
 use Rattle.std.proofs.Common.{sym, arith}
 use Rattle.tk_words.specs.Words.{words_of}
 use Rattle.tk_report.proofs.SayOrder.{said-none}
-use Rattle.tk_report.proofs.ClientsLaws.{lookers-first}
+use Rattle.tk_report.proofs.ClientsLaws.{followers-first}
 use Rattle.tk_report.proofs.PlacingLaws.{stands-first}
 use Rattle.tk_report.proofs.folding.open_fold.Goals as goal
 
@@ -14,8 +14,8 @@ returns c b H =
     record {
       said = sym (said-none S);
       clients = c.in_ok-open_clients.ensures;
-      lookers = lookers-first S words H c.in_ok-open_lookers.field-0.items
-          c.in_ok-open_lookers.ensures;
+      followers = followers-first S words H c.in_ok-open_followers.field-0.items
+          c.in_ok-open_followers.ensures;
       replica = stands-first S words H c.in_ok-open.field-0 c.in_ok-open.ensures.stands;
       floor = omega (arith, floor);
     }

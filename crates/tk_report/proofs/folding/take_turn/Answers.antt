@@ -4,8 +4,8 @@ use Rattle.std.proofs.lemmas.List.{with_items_is}
 use Rattle.tk_shape.specs.Lengths.{turn_count}
 use Rattle.tk_words.specs.Words.{words_of}
 use Rattle.tk_replica.specs.Replica.{ReplicaView}
-use Rattle.tk_report.specs.Clients.{AreClients, AreLookers, client_knowing, known_first}
-use Rattle.tk_report.specs.Clients.{looker_before}
+use Rattle.tk_report.specs.Clients.{AreClients, AreFollowers, client_knowing, known_first}
+use Rattle.tk_report.specs.Clients.{follower_before}
 use Rattle.tk_report.specs.Entries.{write_at}
 use Rattle.tk_report.specs.Turns.{placed_before}
 use Rattle.tk_report.proofs.EpochLaws.{marks-before}
@@ -34,9 +34,9 @@ returns g c =
       c.as_mut_slice-clients.ensures.len,
     )
     in
-    let lookers = c.read_turn.new.lookers in
-    let looked : length lookers ≡ was.lookers.len =
-    omega (arith, c.read_turn.auto.lookers, c.as_mut_slice-lookers.ensures.len)
+    let followers = c.read_turn.new.followers in
+    let looked : length followers ≡ was.followers.len =
+    omega (arith, c.read_turn.auto.followers, c.as_mut_slice-followers.ensures.len)
     in
     let replica = c.in_ok-write_turn.ensures.replica in
     let over : next ≤ turn_count S.shape = omega (arith, c.requires.turn_in) in
@@ -45,8 +45,8 @@ returns g c =
       said = c.in_ok-fold.ensures.said;
       clients = subst (AreClients S.shape.clients (client_knowing S (known_first S) next))
           (sym (with_items_is was.clients clients counted)) c.in_ok-write_turn.ensures.clients;
-      lookers = subst (AreLookers S.shape.clients (looker_before S words H next))
-          (sym (with_items_is was.lookers lookers looked)) c.in_ok-read_turn.ensures.lookers;
+      followers = subst (AreFollowers S.shape.clients (follower_before S words H next))
+          (sym (with_items_is was.followers followers looked)) c.in_ok-read_turn.ensures.followers;
       replica = c.release.ensures.stands S.shape (placed_before S words H next) replica;
       floor =
           omega (

@@ -6,13 +6,13 @@ use Rattle.tk_shape.specs.Lengths.{turn_count, width}
 use Rattle.tk_schedule.specs.Schedule.{phases_over}
 use Rattle.tk_words.specs.Words.{IsBook, words_of}
 use Rattle.tk_bucket.specs.Bytes.{BlockList}
-use Rattle.tk_client.specs.Looking.{LookerState, after_look}
-use Rattle.tk_report.specs.Clients.{looker_before}
+use Rattle.tk_client.specs.Looking.{FollowerState, after_look}
+use Rattle.tk_report.specs.Clients.{follower_before}
 use Rattle.tk_report.specs.Entries.{write_at}
 use Rattle.tk_report.specs.Turns.{placed_before}
 use Rattle.tk_report.proofs.AgreementLaws.{epoch-made}
 use Rattle.tk_report.proofs.EpochLaws.{marks-before}
-use Rattle.tk_report.proofs.ReadingLaws.{held-of, looker-next, on-ok}
+use Rattle.tk_report.proofs.ReadingLaws.{held-of, follower-next, on-ok}
 use Rattle.tk_report.proofs.reading.read_one.Goals as goal
 
 pub epoch-epoch-requires-clause-high : goal.epoch-epoch-requires-clause-high
@@ -30,7 +30,7 @@ epoch-epoch-requires-clause-high g c =
 pub look-requires-clause-one_shape : goal.look-requires-clause-one_shape
 look-requires-clause-one_shape g c κs within =
     let plan = c.args.plan.now in
-    let shape = ap (λ (l : LookerState). l.shape) c.requires.looker in
+    let shape = ap (λ (l : FollowerState). l.shape) c.requires.follower in
     plan.one_shape ∙ sym shape
 
 pub look-requires-clause-counted : goal.look-requires-clause-counted
@@ -38,7 +38,7 @@ look-requires-clause-counted g c κs within =
     let plan = c.args.plan.now in
     let S = plan.script.now in
     let words = words_of S.shape (g.D.Draws.book plan.draws.now) in
-    let shape = ap (λ (l : LookerState). l.shape) c.requires.looker in
+    let shape = ap (λ (l : FollowerState). l.shape) c.requires.follower in
     let held = c.epoch-epoch.result.now in
     let is = c.epoch-epoch.ensures.stands S.shape
     (placed_before S words plan.history.now (c.args.turn + 1)) c.requires.replica in
@@ -51,7 +51,7 @@ look-requires-clause-wide g c κs within =
     let plan = c.args.plan.now in
     let S = plan.script.now in
     let words = words_of S.shape (g.D.Draws.book plan.draws.now) in
-    let shape = ap (λ (l : LookerState). l.shape) c.requires.looker in
+    let shape = ap (λ (l : FollowerState). l.shape) c.requires.follower in
     let held = c.epoch-epoch.result.now in
     let is = c.epoch-epoch.ensures.stands S.shape
     (placed_before S words plan.history.now (c.args.turn + 1)) c.requires.replica in
@@ -68,7 +68,7 @@ returns g c =
     let H = plan.history.now in
     let turn = c.args.turn in
     let number = c.args.number in
-    let old = c.args.looker.now in
+    let old = c.args.follower.now in
     let new = c.look.new.self in
     let due = c.epoch-due.result in
     let held = c.epoch-epoch.result.now in
@@ -84,9 +84,9 @@ returns g c =
     (c.epoch-epoch.ensures.stands S.shape (placed_before S words H (turn + 1)) c.requires.replica)
     in
     record {
-      looker = on-ok c.look.result _ (new ≡ looker_before S words H (turn + 1) number)
-          (λ looked. looker-next S book H turn number due held old new served plan.legal is
-          (sym c.epoch-due.ensures) c.requires.looker
+      follower = on-ok c.look.result _ (new ≡ follower_before S words H (turn + 1) number)
+          (λ looked. follower-next S book H turn number due held old new served plan.legal is
+          (sym c.epoch-due.ensures) c.requires.follower
           (looked
           ∙ ap₂ (λ (marks : List Bool) (blocks : List (List ℕ)).
           after_look (words_of old.shape book) marks blocks due old) c.filter.ensures

@@ -1,15 +1,15 @@
 -- One more is open, and at the end all are.
 use Rattle.std.proofs.Common.{◌≡◌, ◌∙◌, ℕ, ap, sym, subst, length, arith}
-use Rattle.tk_client.specs.Looking.{new_looker}
+use Rattle.tk_client.specs.Looking.{new_follower}
 use Rattle.tk_report.specs.Report.{follows_of}
 use Rattle.tk_report.proofs.ClientsLaws.{AreSoFar, none-yet, one-next, length-next}
-use Rattle.tk_report.proofs.opening.open_lookers.Goals as goal
+use Rattle.tk_report.proofs.opening.open_followers.Goals as goal
 
 pub loop-number-init : goal.loop-number-init
 loop-number-init c =
     let S = c.args.script.now in
-    let state = λ (k : ℕ). new_looker S.shape (follows_of S k) in
-    let none = c.new-lookers.ensures.items in
+    let state = λ (k : ℕ). new_follower S.shape (follows_of S k) in
+    let none = c.new-followers.ensures.items in
     record {
       counted = ap length none;
       each = subst (AreSoFar state) (sym none) (none-yet state);
@@ -18,18 +18,18 @@ loop-number-init c =
 pub loop-number-preserved : goal.loop-number-preserved
 loop-number-preserved c =
     let S = c.args.script.now in
-    let state = λ (k : ℕ). new_looker S.shape (follows_of S k) in
+    let state = λ (k : ℕ). new_follower S.shape (follows_of S k) in
     let so_far = c.loop-number.invariant in
-    let lookers = c.loop-number.lookers.items in
+    let followers = c.loop-number.followers.items in
     let more = c.push.new.self.items in
     let pushed = c.in_ok-push.ensures.items in
     record {
       counted =
-          length-next lookers more c.in_ok-open_looker.field-0 c.loop-number.number pushed
+          length-next followers more c.in_ok-open_follower.field-0 c.loop-number.number pushed
           so_far.counted;
       each =
-          one-next state lookers more c.in_ok-open_looker.field-0 c.loop-number.number pushed
-          so_far.counted c.in_ok-open_looker.ensures so_far.each;
+          one-next state followers more c.in_ok-open_follower.field-0 c.loop-number.number pushed
+          so_far.counted c.in_ok-open_follower.ensures so_far.each;
     }
 
 pub returns : goal.returns

@@ -1,49 +1,87 @@
 ghost use Rattle.std.specs.Prelude.{◌≡◌, ◌<◌, length, All, IfOk, OnOk, OnErr};
-ghost use Rattle.tk_shape.specs.Lengths.{width};
+ghost use Rattle.tk_shape.specs.Lengths.{turn_count, width};
 ghost use Rattle.tk_words.specs.Words.{words_of};
+ghost use Rattle.tk_client.specs.Asked.{asked};
 ghost use Rattle.tk_client.specs.Reader.{got_in};
-ghost use Rattle.tk_client.specs.Looking.{new_looker, after_look};
+ghost use Rattle.tk_client.specs.Looking.{new_follower, looked_for, after_look};
 
+use crate::asking;
 use crate::got::Got;
 use crate::looking::text_in_buckets;
+use crate::open_read::OpenRead;
 use crate::reader::Reader;
 use crate::sight::Sight;
 use std::alloc::Global;
 use std::marker::Model;
 use tk_answer::Blocks;
 use tk_bloom::Filter;
+use tk_frames::ReadFrame;
 use tk_shape::{Memory, Shape};
 use tk_words::Draws;
 
 /// One who follows logs and looks into buckets that lie open, where a client would ask servers.
 /// What it reads next, and what its logs have given, is as it is of a client that asks.
 #[derive(Debug, Drop)]
-pub struct Looker {
+pub struct Follower {
     shape: Shape,
     reader: Reader,
 }
 
-impl Model for Looker {
-    ghost use Rattle.tk_client.specs.Looking.{LookerState};
+impl Model for Follower {
+    ghost use Rattle.tk_client.specs.Looking.{FollowerState};
     ghost use Rattle.tk_client.specs.Searching.{AreBelow};
 
-    ghost Value = { LookerState };
+    ghost Value = { FollowerState };
 
     ghost view = { λ l. record { shape = l.shape; reader = l.reader } };
 
     ghost invariant = { λ l. AreBelow l.shape.logs l.reader.follows };
 }
 
-impl Looker {
+impl Follower {
     /// One that knows nothing yet, with the logs that it follows.
-    pub fn open(alloc: Global, shape: &Shape, follows: &[u32]) -> Result<Looker, Memory>
+    pub fn open(alloc: Global, shape: &Shape, follows: &[u32]) -> Result<Follower, Memory>
         requires follows_in { All (λ log. log < shape.now.logs) follows.now }
-        ensures { IfOk result (λ l. l ≡ new_looker shape.now follows.now) }
+        ensures { IfOk result (λ l. l ≡ new_follower shape.now follows.now) }
     {
-        Ok(Looker {
+        Ok(Follower {
             shape: *shape,
             reader: Reader::new(alloc, follows)?,
         })
+    }
+
+    /// What a client of this number that knows as much would ask of every server in a read over an
+    /// epoch with this filter, server by server.
+    pub fn read_frames<D: Draws>(
+        &mut self,
+        alloc: Global,
+        draws: &D,
+        client: u32,
+        turn: u32,
+        epoch: u32,
+        filter: &Filter,
+    ) -> Result<Vec<ReadFrame>, Memory>
+        requires one_shape { D.shape draws.now ≡ self.old.shape }
+        requires client_in { client < self.old.shape.clients }
+        requires turn_in { turn < turn_count self.old.shape }
+        ensures frames { let words = words_of self.old.shape (D.book draws.now) in
+            let target = looked_for words filter.now epoch self.old in
+            IfOk result (λ frames. frames.items
+            ≡ asked self.old.shape (D.book draws.now) turn client epoch target) }
+        ensures same { self.new ≡ self.old }
+    {
+        let sight = Sight {
+            shape: &self.shape,
+            draws,
+            filter,
+        };
+        let wanted = self.reader.target(&sight, epoch);
+        let read = OpenRead {
+            turn,
+            epoch,
+            target: wanted,
+        };
+        asking::read_frames(alloc, &self.shape, draws, client, read)
     }
 
     /// Reads over an epoch, of which these are the buckets and the filter that shows what is worth

@@ -2,7 +2,7 @@
 use Rattle.std.proofs.Common.{◌<◌}
 use Rattle.std.proofs.lemmas.List.Elements.{All-map}
 use Rattle.tk_client.specs.Reader.{Follow, new_follow}
-use Rattle.tk_client.proofs.looker.Looker.open.Goals as goal
+use Rattle.tk_client.proofs.follower.Follower.open.Goals as goal
 
 pub invariant_of-result : goal.invariant_of-result
 invariant_of-result c =

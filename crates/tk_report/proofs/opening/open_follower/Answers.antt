@@ -3,7 +3,7 @@ use Rattle.std.proofs.Common.{◌∙◌, ◌<◌, sym, subst}
 use Rattle.std.specs.Prelude.{All}
 use Rattle.tk_report.specs.Report.{is_follower}
 use Rattle.tk_report.proofs.ClientsLaws.{passing-below}
-use Rattle.tk_report.proofs.opening.open_looker.Goals as goal
+use Rattle.tk_report.proofs.opening.open_follower.Goals as goal
 
 pub open-requires : goal.open-requires
 open-requires c =

@@ -2,7 +2,7 @@
 use Rattle.std.proofs.Common.{◌≡◌, ◌∙◌, ap}
 use Rattle.tk_client.specs.Reader.{Reader, at_epoch, after_read}
 use Rattle.tk_client.proofs.ClientLaws.{below-after}
-use Rattle.tk_client.proofs.looker.Looker.look.Goals as goal
+use Rattle.tk_client.proofs.follower.Follower.look.Goals as goal
 
 pub invariant_of-self-2 : goal.invariant_of-self-2
 invariant_of-self-2 g c =
