@@ -5,4 +5,7 @@ pub mod Vectors
 pub mod Halves
 pub mod Replying
 pub mod Several
+pub mod MarksAmong
+pub mod LastMarks
+pub mod Following
 pub mod Offers

@@ -4,3 +4,4 @@ pub mod Store
 pub mod Replica
 pub mod Replies
 pub mod Refusals
+pub mod Following

@@ -4,6 +4,10 @@
 mod apply;
 mod epoch;
 mod error;
+mod followed;
+mod held;
+mod latest;
+mod replica;
 mod reply;
 mod serve;
 mod shelf;
@@ -12,6 +16,8 @@ mod store;
 
 pub use epoch::Epoch;
 pub use error::{PinError, ServeError};
+pub use held::Held;
+pub use replica::Replica;
 pub use state::ReplicaState;
 pub use tk_shape::Memory;
 

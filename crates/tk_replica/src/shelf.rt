@@ -59,7 +59,8 @@ impl Shelf {
 
     /// The last number.
     pub(crate) fn last(&self) -> u32
-        ensures { result ≡ self.now.last }
+        ensures last { result ≡ self.now.last }
+        ensures some { self.now.floor ≤ self.now.last }
     {
         self.last
     }

@@ -100,7 +100,7 @@ impl ReplicaState {
     }
 
     /// An epoch that is kept, as it is kept.
-    fn get(&self, e: u32) -> &Arc<Epoch>
+    pub(crate) fn get(&self, e: u32) -> &Arc<Epoch>
         requires low { self.now.floor ≤ e }
         requires high { e ≤ self.now.last }
         ensures same { (arc_value result.now).shape ≡ self.now.shape }
