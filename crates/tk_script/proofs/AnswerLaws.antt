@@ -3,7 +3,7 @@ use Rattle.std.proofs.Common.{◌≡◌, ℕ, Result, Ok, Err, ap, sym, ◌∙�
 use Rattle.tk_script.specs.declared.cause.Cause.{Cause}
 use Rattle.tk_script.specs.declared.error.ScriptError.{ScriptError}
 use Rattle.tk_script.specs.declared.error.ScriptError.TheVariants.{Line, Memory}
-use Rattle.tk_script.specs.Answer.{Gives, IsMemory, IsRefusal, Agrees}
+use Rattle.tk_script.specs.Answer.{IsRefusal, Agrees}
 use Rattle.tk_script.specs.Reading.{Refusal, ◌>>=◌}
 
 -- a line that is refused first stays the first
@@ -24,10 +24,6 @@ then_ok said x f e = ap (λ r. r >>= f) e
 
 -- ---- answers that are errors
 
-pub gives_err : {X : Type 0} (r : Result X ScriptError) (e : ScriptError) (P : X → Type 0) →
-    r ≡ Err e → IsMemory e → Gives r P
-gives_err r e P same h = subst (λ s. Gives s P) (sym same) h
-
 pub tells_err : {X Y : Type 0} (r : Result X ScriptError) (e : ScriptError) (f : X → Y)
     (said : Result Y Refusal) → r ≡ Err e → IsRefusal e said → Agrees f r said
 tells_err r e f said same h = subst (λ s. Agrees f s said) (sym same) h
@@ -46,8 +42,3 @@ told_refused r e f said line c same this h =
 pub told_same : {X Y : Type 0} (r : Result X ScriptError) (f : X → Y) (said other : Result Y
     Refusal) → other ≡ said → Agrees f r said → Agrees f r other
 told_same r f said other same h = subst (λ s. Agrees f r s) (sym same) h
-
-pub gives_weaker : {X : Type 0} (r : Result X ScriptError) (P Q : X → Type 0) →
-    ((x : X) → P x → Q x) → Gives r P → Gives r Q
-gives_weaker (Ok x) P Q f h = f x h
-gives_weaker (Err e) P Q f h = h

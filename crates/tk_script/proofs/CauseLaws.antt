@@ -1,22 +1,22 @@
 -- What is said of a line, part by part.
-use Rattle.std.proofs.Common.{◌≡◌, ◌≢◌, ℕ, zero, suc, ◌<◌, ◌≤◌, List, [], ◌∷◌, length, drop, get_or, codes, cond, Bool, true, false, ◌&&◌, IsTrue, Option, Some, None, Ok, Err, refl, ap, sym, ◌∙◌, subst, arith, eq-eqb, ne_eqb}
+use Rattle.std.proofs.Common.{◌≡◌, ℕ, zero, suc, ◌<◌, ◌≤◌, List, [], ◌∷◌, length, drop, get_or, codes, cond, Bool, true, false, ◌&&◌, IsTrue, Option, Some, None, Ok, Err, refl, ap, sym, ◌∙◌, subst, arith, eq-eqb}
 use Rattle.std.specs.Prelude.{nat_le, nat_lt, not, ◌==◌}
 use Rattle.std.specs.List.{list_all}
 use Rattle.std.specs.Str.{bytes_eq}
 use Rattle.std.proofs.lemmas.Slice.Eq.{bytes_eq-Decides}
 use Rattle.std.proofs.lemmas.Bool.Decides.{nat_tests}
 use Rattle.std.proofs.lemmas.Bool.{and_parts, and_from}
-use Rattle.tk_shape.specs.declared.field.Field.{Field}
 use Rattle.tk_shape.specs.declared.shape.Shape.{Shape}
-use Rattle.tk_shape.specs.Limits.{Numbers, limit, broken, numbers_in}
-use Rattle.tk_shape.specs.Numbers.{numbers_of}
+use Rattle.tk_shape.specs.Limits.{Numbers}
 use Rattle.tk_shape.specs.declared.field.Field.TheVariants as field
 use Rattle.tk_shape.specs.Lengths.{tape_len}
 use Rattle.tk_script.specs.declared.cause.Cause.TheVariants as cause
 use Rattle.tk_script.specs.declared.role.Role.{Role}
+use Rattle.tk_script.proofs.KeyLines.{kind_words, MayBeOfKind}
+use Rattle.tk_script.proofs.OptionLaws.{ok_or, ok_if}
 use Rattle.tk_script.specs.Fields.{LacksSpace}
 use Rattle.tk_script.specs.SoundScript.{is_ascending, is_role}
-use Rattle.tk_script.specs.Reading.{named, unbroken, read_numbers, drawn_if, read_kind, first_from, in_order, read_clients}
+use Rattle.tk_script.specs.Reading.{named, drawn_if, read_kind, first_from, in_order, read_clients}
 
 -- ---- words
 
@@ -75,6 +75,45 @@ pub read_kind-long : (z : Shape) (line : List ℕ) (size : ℕ) → line ≡ cod
 read_kind-long z line size e value long =
     drawn_line z line e ∙ ap drawn_if (sym value) ∙ drawn_long size long
 
+pub read_kind-whole : (z : Shape) (keyed : Bool) → MayBeOfKind z keyed →
+    read_kind (named z) (kind_words keyed) ≡ Ok keyed
+read_kind-whole z true may = refl
+read_kind-whole z false may =
+    read_kind-drawn z (codes "drawn") (tape_len z) refl refl may
+
+size_from : (n : ℕ) → IsTrue (nat_le n 2097152) → n ≤ 2097152
+size_from n h = grind (arith, nat_tests)
+
+-- the kind that a line says
+abbrev pub IsKind : Shape → List ℕ → Bool → Type 0
+IsKind z line keyed = (line ≡ kind_words keyed) × MayBeOfKind z keyed
+
+keyed_from : (z : Shape) (line : List ℕ) (keyed : Bool) →
+    IsTrue (bytes_eq line (codes "keyed")) × (true ≡ keyed) → IsKind z line keyed
+keyed_from z line keyed h =
+    subst (IsKind z line) h.1 ((bytes_eq-Decides line (codes "keyed")).0 h.0, tt)
+
+drawn_from : (z : Shape) (line : List ℕ) (keyed : Bool) →
+    IsTrue (bytes_eq line (codes "drawn")) → drawn_if (tape_len z) ≡ Ok keyed →
+    IsKind z line keyed
+drawn_from z line keyed word said =
+    let test = ok_if (nat_le (tape_len z) 2097152) false keyed
+    (cause.Shape field.Tape (tape_len z)) said in
+    subst (IsKind z line) test.1
+    ((bytes_eq-Decides line (codes "drawn")).0 word, size_from (tape_len z) test.0)
+
+kind_from : (z : Shape) (line : List ℕ) (keyed a : Bool) → bytes_eq line (codes "drawn") ≡ a →
+    cond a (drawn_if (tape_len z)) (ok_or (bytes_eq line (codes "keyed")) true cause.Form)
+    ≡ Ok keyed → IsKind z line keyed
+kind_from z line keyed true word said = drawn_from z line keyed word said
+kind_from z line keyed false word said =
+    keyed_from z line keyed (ok_if (bytes_eq line (codes "keyed")) true keyed cause.Form said)
+
+pub read_kind-is : (z : Shape) (line : List ℕ) (keyed : Bool) →
+    read_kind (named z) line ≡ Ok keyed → IsKind z line keyed
+read_kind-is z line keyed said =
+    kind_from z line keyed (bytes_eq line (codes "drawn")) refl said
+
 -- ---- the line of a log
 
 pub read_clients-none : (n : Numbers) (ns : List ℕ) → length ns < 1 →
@@ -85,14 +124,25 @@ read_clients-none n (w ∷ fs) none = absurd (omega (arith, none))
 pub read_clients-number : (n : Numbers) (ns : List ℕ) (k : ℕ) → first_from n.clients ns ≡ Some k →
     read_clients n (Some ns) ≡ Err (cause.Number k)
 read_clients-number n [] k e = absurd (cc e)
-read_clients-number n (w ∷ fs) k e = ap (in_order fs) e
+read_clients-number n (w ∷ fs) k e = ap (in_order (record { writer = w; followers = fs })) e
 
 pub read_clients-order : (n : Numbers) (ns : List ℕ) (w : ℕ) (fs : List ℕ) → ns ≡ w ∷ fs →
     first_from n.clients ns ≡ None → is_ascending fs ≡ false →
     read_clients n (Some ns) ≡ Err cause.Order
 read_clients-order n ns w fs e none falls =
     ap (λ ms. read_clients n (Some ms)) e
-    ∙ ap (in_order fs) (ap (first_from n.clients) (sym e) ∙ none) ∙ rw falls refl
+    ∙ ap (in_order (record { writer = w; followers = fs }))
+    (ap (first_from n.clients) (sym e) ∙ none)
+    ∙ rw falls refl
+
+pub read_clients-role : (n : Numbers) (ns : List ℕ) (w : ℕ) (fs : List ℕ) → ns ≡ w ∷ fs →
+    first_from n.clients ns ≡ None → is_ascending fs ≡ true →
+    read_clients n (Some ns) ≡ Ok (record { writer = w; followers = fs })
+read_clients-role n ns w fs e none ascends =
+    ap (λ ms. read_clients n (Some ms)) e
+    ∙ ap (in_order (record { writer = w; followers = fs }))
+    (ap (first_from n.clients) (sym e) ∙ none)
+    ∙ rw ascends refl
 
 -- the first item and the rest
 pub one_in_front : (ns : List ℕ) → 1 ≤ length ns → ns ≡ get_or ns 0 0 ∷ drop 1 ns
@@ -145,6 +195,3 @@ role_parts shape role ns e sound =
           ∙ none_from shape.clients (role.writer ∷ role.followers) split.0,
       split.1,
     )
-
-pub tail_is : (ns : List ℕ) (w : ℕ) (fs : List ℕ) → ns ≡ w ∷ fs → drop 1 ns ≡ fs
-tail_is ns w fs e = ap (drop 1) e

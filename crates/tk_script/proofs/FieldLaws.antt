@@ -1,8 +1,6 @@
 -- Fields of a line: where they end, and the numbers of a line of numbers.
 use Rattle.std.proofs.Common.{◌≡◌, ℕ, suc, ◌<◌, ◌^◌, List, [], ◌∷◌, ◌++◌, length, map, decimal, refl, ap, sym, ◌∙◌, arith, append_assoc, append-nil}
 use Rattle.std.specs.List.{AllByRecursion}
-use Rattle.std.proofs.lemmas.Fmt.{decimal_injective}
-use Rattle.std.proofs.lemmas.List.{append_cancel_left}
 use Rattle.tk_script.specs.Fields.{IsFieldEnd, LacksSpace}
 use Rattle.tk_script.specs.Grammar.{fields}
 use Rattle.tk_script.proofs.NumberLaws.{all_digits}
@@ -33,14 +31,6 @@ pub LacksSpace-decimal : (n : ℕ) → n < 2 ^ 32 → LacksSpace (decimal n)
 LacksSpace-decimal n small k within e =
     let digit = all_digits (decimal n) n (below_64 n small) refl k within in
     omega (arith, digit.0, e)
-
--- a text begins with one number
-pub one_number : (m n : ℕ) (a b : List ℕ) → m < 2 ^ 32 → n < 2 ^ 32 → IsFieldEnd a → IsFieldEnd b →
-    decimal m ++ a ≡ decimal n ++ b → (m ≡ n) × (a ≡ b)
-one_number m n a b p q ea eb e =
-    let both = cut (decimal m) (decimal n) a b (LacksSpace-decimal m p) (LacksSpace-decimal n q) ea
-    eb e in
-    (decimal_injective m n (below_64 m p) (below_64 n q) both.0, both.1)
 
 -- the first field is the number's
 pub field_is : (text field rest : List ℕ) (n : ℕ) (behind : List ℕ) → text ≡ field ++ rest →
@@ -81,25 +71,6 @@ spaced-push (m ∷ ns) n behind =
     ap (λ t. 0x20 ∷ t) (append_assoc (decimal m) (spaced (ns ++ n ∷ [])) behind
     ∙ ap (λ t. decimal m ++ t) (spaced-push ns n behind)
     ∙ sym (append_assoc (decimal m) (spaced ns) (0x20 ∷ (decimal n ++ behind))))
-
--- words are read so
-pub spaced_one : (ms ns : List ℕ) → AllByRecursion IsWord ms → AllByRecursion IsWord ns →
-    spaced ms ≡ spaced ns → ms ≡ ns
-spaced_one [] [] p q e = refl
-spaced_one [] (n ∷ ns) p q e = absurd (cc e)
-spaced_one (m ∷ ms) [] p q e = absurd (cc e)
-spaced_one (m ∷ ms) (n ∷ ns) p q e =
-    let both = one_number m n (spaced ms) (spaced ns) p.0 q.0 (IsFieldEnd-spaced ms)
-    (IsFieldEnd-spaced ns) (cc e) in
-    cons_both m n ms ns both.0 (spaced_one ms ns p.1 q.1 both.1)
-
--- a word and numbers are one line
-pub fields_one : (word : List ℕ) (ms ns : List ℕ) → AllByRecursion IsWord ms →
-    AllByRecursion IsWord ns →
-    fields (word ∷ map decimal ms) ≡ fields (word ∷ map decimal ns) → ms ≡ ns
-fields_one word ms ns p q e =
-    spaced_one ms ns p q (append_cancel_left word (spaced ms) (spaced ns)
-    (sym (fields-spaced word ms) ∙ e ∙ fields-spaced word ns))
 
 -- whatever numbers the text spells, the ones that are left stand in the rest
 pub record Left (numbers rest ns : List ℕ) : Type 0 where

@@ -1,17 +1,30 @@
 -- The lines of the keys.
-use Rattle.std.proofs.Common.{◌≡◌, ℕ, List, [], ◌∷◌, ◌++◌, length, map, codes, true, false, Option, Some, None, refl, ap, ◌∙◌, arith, append_assoc, IsTrue}
-use Rattle.std.specs.Prelude.{is_some, IsSome, IfSome}
-use Rattle.std.specs.Int.{w64, to_be_bytes}
+use Rattle.std.proofs.Common.{◌≡◌, ◌<◌, ◌^◌, ◌+◌, ℕ, List, [], ◌∷◌, ◌++◌, length, take, drop, get_or, map, codes, Option, Some, None, Ok, refl, ap, sym, subst, ◌∙◌, arith, IsTrue}
+use Rattle.std.specs.Prelude.{IsSome, IfSome, ◌==◌}
+use Rattle.std.specs.Int.{w64, to_be_bytes, from_be_bytes}
 use Rattle.std.specs.List.{AllZip, AllByRecursion}
-use Rattle.std.proofs.lemmas.List.{length-append}
+use Rattle.std.proofs.lemmas.Bool.{and_parts}
+use Rattle.std.proofs.lemmas.Bool.Decides.{nat_tests}
+use Rattle.std.proofs.lemmas.List.{length-append, length-drop, length-take-le, take-append-drop}
+use Rattle.std.proofs.lemmas.Nat.{be_bytes_8, from_be_bytes-to_be_bytes_8}
+use Rattle.hex.specs.Hex.{IsBytes}
+use Rattle.hex.proofs.HexLemmas.{decode_of-ok}
 use Rattle.tk_shape.specs.declared.shape.Shape.{Shape}
 use Rattle.tk_handle.specs.declared.handle.Handle.{Handle}
 use Rattle.tk_handle.specs.Handle.{handle_bytes}
 use Rattle.tk_script.specs.declared.keys.Keys.{Keys}
 use Rattle.tk_script.specs.Grammar.{Line, SpellsBytes, SpellsKeys, IsHandle, IsSeed, worded}
-use Rattle.tk_script.specs.KeyLines.{IsHandleLine, IsSeedLine}
+use Rattle.tk_script.specs.Reading.{seen_as, handle_in, read_bytes, read_handle, read_seed}
 use Rattle.tk_script.specs.SoundScript.{has_keys}
-use Rattle.tk_script.proofs.SpellingLaws.{one_handle, split_lines, keys_counted}
+use Rattle.tk_script.proofs.CauseLaws.{lacks_by_test}
+use Rattle.tk_script.proofs.HexLaws.{read_bytes-taken, read_bytes-is}
+use Rattle.tk_script.proofs.KeyLines.{IsHandleLine, IsSeedLine}
+use Rattle.tk_script.proofs.OptionLaws.{seen_from}
+use Rattle.tk_script.proofs.PiecesLaws.{IsBytes-take}
+use Rattle.tk_script.proofs.ScriptLaws.{from_end}
+
+cons_both : {A : Type 0} (x y : A) (xs ys : List A) → x ≡ y → xs ≡ ys → x ∷ xs ≡ y ∷ ys
+cons_both x y xs ys p q = cc (p, q)
 
 -- ---- one handle
 
@@ -29,12 +42,123 @@ handle_long h s =
       length-append (to_be_bytes w64 h.id ++ h.seed1 ++ h.seed2) h.key,
     )
 
+append_same : (a b x y : List ℕ) → length a ≡ length b → a ++ x ≡ b ++ y → (a ≡ b) × (x ≡ y)
+append_same [] [] x y long e = (refl, e)
+append_same [] (c ∷ b) x y long e = absurd (omega (arith, long))
+append_same (c ∷ a) [] x y long e = absurd (omega (arith, long))
+append_same (c ∷ a) (d ∷ b) x y long e =
+    let rest = append_same a b x y (omega (arith, long)) (cc e) in
+    (cons_both c d a b (cc e) rest.0, rest.1)
+
+same_handle : (g h : Handle) → g.id ≡ h.id → g.seed1 ≡ h.seed1 → g.seed2 ≡ h.seed2 → g.key ≡ h.key →
+    g ≡ h
+same_handle g h a b c d = λ i. record { id = a i; seed1 = b i; seed2 = c i; key = d i }
+
+pub one_handle : (g h : Handle) → IsHandle g → IsHandle h → handle_bytes g ≡ handle_bytes h → g ≡ h
+one_handle g h p q e =
+    let id = append_same (to_be_bytes w64 g.id) (to_be_bytes w64 h.id)
+    (g.seed1 ++ (g.seed2 ++ g.key)) (h.seed1 ++ (h.seed2 ++ h.key)) refl
+    (sym (from_end (to_be_bytes w64 g.id) g.seed1 g.seed2 g.key) ∙ e
+    ∙ from_end (to_be_bytes w64 h.id) h.seed1 h.seed2 h.key)
+    in
+    let seed1 = append_same g.seed1 h.seed1 (g.seed2 ++ g.key) (h.seed2 ++ h.key) (p.seed1
+    ∙ sym q.seed1) id.1 in
+    let seed2 = append_same g.seed2 h.seed2 g.key h.key (p.seed2 ∙ sym q.seed2) seed1.1 in
+    let number = sym (from_be_bytes-to_be_bytes_8 g.id p.id) ∙ ap (from_be_bytes w64) id.0
+    ∙ from_be_bytes-to_be_bytes_8 h.id q.id in
+    same_handle g h number seed1.0 seed2.0 seed2.1
+
+-- the parts of 104 bytes are those of their handle
+parts_joined : (bytes : List ℕ) →
+    take 8 bytes ++ (take 32 (drop 8 bytes) ++ (take 32 (drop 32 (drop 8 bytes))
+    ++ drop 32 (drop 32 (drop 8 bytes)))) ≡ bytes
+parts_joined bytes =
+    ap (λ t. take 8 bytes ++ (take 32 (drop 8 bytes) ++ t))
+    (take-append-drop 32 (drop 32 (drop 8 bytes)))
+    ∙ ap (λ t. take 8 bytes ++ t) (take-append-drop 32 (drop 8 bytes))
+    ∙ take-append-drop 8 bytes
+
+pub handle_in-bytes : (bytes : List ℕ) → length bytes ≡ 104 → IsBytes bytes →
+    handle_bytes (handle_in bytes) ≡ bytes
+handle_in-bytes bytes long are =
+    let id = be_bytes_8 (take 8 bytes) (from_be_bytes w64 (take 8 bytes))
+    (length-take-le 8 bytes (omega (arith, long))) (IsBytes-take 8 bytes are) refl in
+    let h = handle_in bytes in
+    from_end (to_be_bytes w64 h.id) h.seed1 h.seed2 h.key
+    ∙ ap (λ t. t ++ (h.seed1 ++ (h.seed2 ++ h.key))) id
+    ∙ parts_joined bytes
+
+id_small : (bs : List ℕ) → ((i : ℕ) → get_or bs i 0 < 256) → from_be_bytes w64 bs < 2 ^ 64
+id_small bs small =
+    omega (
+      arith,
+      small 0,
+      small 1,
+      small 2,
+      small 3,
+      small 4,
+      small 5,
+      small 6,
+      small 7,
+    )
+
+pub handle_in-is : (bytes : List ℕ) → length bytes ≡ 104 → IsBytes bytes →
+    IsHandle (handle_in bytes)
+handle_in-is bytes long are =
+    let first = length-drop 8 bytes in
+    let second = length-drop 32 (drop 8 bytes) in
+    let third = length-drop 32 (drop 32 (drop 8 bytes)) in
+    record {
+      id = id_small (take 8 bytes) (IsBytes-take 8 bytes are);
+      seed1 = length-take-le 32 (drop 8 bytes) (omega (arith, first, long));
+      seed2 = length-take-le 32 (drop 32 (drop 8 bytes)) (omega (arith, second, first, long));
+      key = omega (arith, third, second, first, long);
+    }
+
+-- the handle of its own bytes
+pub handle_in-own : (h : Handle) → IsHandle h → IsBytes (handle_bytes h) →
+    handle_in (handle_bytes h) ≡ h
+handle_in-own h is are =
+    let long = handle_long h is in
+    one_handle (handle_in (handle_bytes h)) h (handle_in-is (handle_bytes h) long are) is
+    (handle_in-bytes (handle_bytes h) long are)
+
 -- the handle of 104 bytes is the one that has them
-pub the_handle : (o : Option Handle) (bytes : List ℕ) (h : Handle) → IsSome o →
-    IfSome o IsHandle → IfSome o (λ g. handle_bytes g ≡ bytes) → IsHandle h →
-    bytes ≡ handle_bytes h → o ≡ Some h
-the_handle None bytes h some sound has is same = absurd (cc some)
-the_handle (Some g) bytes h some sound has is same = ap Some (one_handle g h sound is (has ∙ same))
+pub the_handle : (o : Option Handle) (bytes : List ℕ) → IsSome o → IfSome o IsHandle →
+    IfSome o (λ g. handle_bytes g ≡ bytes) → IsBytes bytes → o ≡ Some (handle_in bytes)
+the_handle None bytes some is has are = absurd (cc some)
+the_handle (Some g) bytes some is has are =
+    ap Some (sym (handle_in-own g is (subst IsBytes (sym has) are)) ∙ ap handle_in has)
+
+-- ---- a line gives its handle, or its seed
+
+pub handle_whole : (line : Line) (h : Handle) → IsHandleLine line h → read_handle line ≡ Ok h
+handle_whole line h spelled =
+    let bytes = handle_bytes h in
+    let are = (decode_of-ok spelled.0.0 bytes spelled.0.2).3 in
+    ap (seen_as handle_in) (read_bytes-taken (codes "handle") line spelled.0.0 bytes 104
+    (lacks_by_test (codes "handle") refl) spelled.0.1 spelled.0.2 (handle_long h spelled.1))
+    ∙ ap Ok (handle_in-own h spelled.1 are)
+
+pub handle_is : (line : Line) (h : Handle) → read_handle line ≡ Ok h → IsHandleLine line h
+handle_is line h e =
+    let seen = seen_from handle_in (read_bytes (codes "handle") 104 line) h e in
+    let t = read_bytes-is (codes "handle") line 104 seen.0 seen.1 in
+    let are = (decode_of-ok t.digits seen.0 t.decoded).3 in
+    subst (IsHandleLine line) seen.2 (
+      (t.digits, t.spelled, t.decoded ∙ ap Ok (sym (handle_in-bytes seen.0 t.counted are))),
+      handle_in-is seen.0 t.counted are,
+    )
+
+pub seed_whole : (line : Line) (seed : List ℕ) → IsSeedLine line seed → read_seed line ≡ Ok seed
+seed_whole line seed spelled =
+    read_bytes-taken (codes "seed") line spelled.0.0 seed 32 (lacks_by_test (codes "seed") refl)
+    spelled.0.1 spelled.0.2 spelled.1
+
+pub seed_is : (line : Line) (seed : List ℕ) → read_seed line ≡ Ok seed → IsSeedLine line seed
+seed_is line seed e =
+    let t = read_bytes-is (codes "seed") line 32 seed e in
+    ((t.digits, t.spelled, t.decoded), t.counted)
 
 -- ---- all of them
 
@@ -104,28 +228,61 @@ keys_spelled first second keys handles seeds = (
   are_seeds second keys.seeds seeds,
 )
 
--- the keys of a keyed script, with their lines
-pub record TheKeys (shape : Shape) (keys : Option Keys) (lines : List Line) : Type 0 where
-  pub value : Keys
-  pub is : keys ≡ Some value
+-- the lines of two kinds of items
+pub record Split (lines : List Line) (xs ys : List (List ℕ × List ℕ)) : Type 0 where
   pub first : List Line
   pub second : List Line
   pub whole : lines ≡ first ++ second
-  pub handles : AllZip IsHandleLine first value.handles
-  pub seeds : AllZip IsSeedLine second value.seeds
-  pub handles_counted : length value.handles ≡ shape.logs
-  pub seeds_counted : length value.seeds ≡ shape.clients
+  pub firsts : AllZip SpellsBytes first xs
+  pub seconds : AllZip SpellsBytes second ys
 
-pub the_keys : (shape : Shape) (keys : Option Keys) (lines : List Line) → SpellsKeys lines keys →
-    is_some keys ≡ true → IsTrue (has_keys shape keys) → TheKeys shape keys lines
-the_keys shape None lines spelled keyed counted = absurd (cc keyed)
-the_keys shape (Some keys) lines spelled keyed counted =
+pub split_lines : (lines : List Line) (xs ys : List (List ℕ × List ℕ)) →
+    AllZip SpellsBytes lines (xs ++ ys) → Split lines xs ys
+split_lines lines [] ys each = record {
+  first = [];
+  second = lines;
+  whole = refl;
+  firsts =
+      tt;
+  seconds = each;
+}
+split_lines [] (x ∷ xs) ys each = absurd each
+split_lines (l ∷ lines) (x ∷ xs) ys each =
+    let rest = split_lines lines xs ys each.1 in
+    record {
+      first = l ∷ rest.first;
+      second = rest.second;
+      whole = ap (λ ls. l ∷ ls) rest.whole;
+      firsts = (each.0, rest.firsts);
+      seconds = rest.seconds;
+    }
+
+counted : (a b : ℕ) → IsTrue (a == b) → a ≡ b
+counted a b e = grind (arith, nat_tests)
+
+pub keys_counted : (shape : Shape) (k : Keys) → IsTrue (has_keys shape (Some k)) →
+    (length k.handles ≡ shape.logs) × (length k.seeds ≡ shape.clients)
+keys_counted shape k e =
+    let both = and_parts (length k.handles == shape.logs) (length k.seeds == shape.clients) e in
+    (counted (length k.handles) shape.logs both.0, counted (length k.seeds) shape.clients both.1)
+
+-- the handles and the seeds of keys, with their lines
+pub record TheKeys (shape : Shape) (keys : Keys) (lines : List Line) : Type 0 where
+  pub first : List Line
+  pub second : List Line
+  pub whole : lines ≡ first ++ second
+  pub handles : AllZip IsHandleLine first keys.handles
+  pub seeds : AllZip IsSeedLine second keys.seeds
+  pub handles_counted : length keys.handles ≡ shape.logs
+  pub seeds_counted : length keys.seeds ≡ shape.clients
+
+pub the_keys : (shape : Shape) (keys : Keys) (lines : List Line) → SpellsKeys lines (Some keys) →
+    IsTrue (has_keys shape (Some keys)) → TheKeys shape keys lines
+the_keys shape keys lines spelled counted =
     let split = split_lines lines (worded (codes "handle") (map handle_bytes keys.handles))
     (worded (codes "seed") keys.seeds) spelled.0 in
     let count = keys_counted shape keys counted in
     record {
-      value = keys;
-      is = refl;
       first = split.first;
       second = split.second;
       whole = split.whole;
@@ -134,19 +291,3 @@ the_keys shape (Some keys) lines spelled keyed counted =
       handles_counted = count.0;
       seeds_counted = count.1;
     }
-
--- where the handles' lines stand, the seeds' stand behind them
-pub behind_handles : (text first second lines behind : List Line) → lines ≡ first ++ second →
-    text ≡ lines ++ behind → text ≡ first ++ (second ++ behind)
-behind_handles text first second lines behind whole e =
-    e ∙ ap (λ t. t ++ behind) whole ∙ append_assoc first second behind
-
-pub same_keys : (k l : Keys) → k.handles ≡ l.handles → k.seeds ≡ l.seeds → k ≡ l
-same_keys k l h s = λ i. record { handles = h i; seeds = s i }
-
--- a drawn script has no lines of keys
-pub no_keys : (keys : Option Keys) (lines behind text : List Line) → SpellsKeys lines keys →
-    is_some keys ≡ false → text ≡ lines ++ behind → (None ≡ keys) × (text ≡ behind)
-no_keys None lines behind text spelled drawn whole =
-    (refl, whole ∙ ap (λ t. t ++ behind) spelled)
-no_keys (Some keys) lines behind text spelled drawn whole = absurd (cc drawn)

@@ -69,11 +69,3 @@ pub no_lines : (text : List ℕ) → lines_of text ≡ [] → text ≡ []
 unfolding lines_of
 no_lines [] e = refl
 no_lines (b ∷ bs) e = absurd (some_lines b bs (eqb b 0x0A) e)
-
-pub first_line : (lines : List Line) (a b : Line) (p q : List Line) → lines ≡ a ∷ p →
-    lines ≡ b ∷ q → a ≡ b
-first_line lines a b p q e f = cc (e, f)
-
-pub lines_behind : (lines : List Line) (a b : Line) (p q : List Line) → lines ≡ a ∷ p →
-    lines ≡ b ∷ q → p ≡ q
-lines_behind lines a b p q e f = cc (e, f)

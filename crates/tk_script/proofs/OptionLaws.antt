@@ -1,13 +1,11 @@
 -- Answers that are given, or aren't.
-use Rattle.std.proofs.Common.{◌≡◌, Option, Some, None, Result, Ok, Err, subst}
-use Rattle.std.specs.Prelude.{IsSomeAnd, IfSome, IsErr, IfOk, IsOkAnd}
+use Rattle.std.proofs.Common.{◌≡◌, Bool, true, false, cond, IsTrue, Option, Some, None, Result, Ok, Err, refl, subst}
+use Rattle.std.specs.Prelude.{IsSomeAnd, IfSome}
+use Rattle.tk_script.specs.declared.cause.Cause.{Cause}
+use Rattle.tk_script.specs.Reading.{Verdict, seen_as}
 
 pub never : {A : Type 0} (o : Option A) (P : A → Type 0) → o ≡ None → IsSomeAnd o P → ⊥
 never o P e h = subst (λ p. IsSomeAnd p P) e h
-
-pub the_some : {A : Type 0} (o : Option A) (P : A → Type 0) (x : A) → o ≡ Some x → IsSomeAnd o P →
-    P x
-the_some o P x e h = subst (λ p. IsSomeAnd p P) e h
 
 pub if_some : {A : Type 0} (o : Option A) (P : A → Type 0) (x : A) → o ≡ Some x → IfSome o P → P x
 if_some o P x e h = subst (λ p. IfSome p P) e h
@@ -17,25 +15,24 @@ some_same x y e = cc e
 
 -- ---- results
 
-pub not_ok : {A E : Type 0} (r : Result A E) (x : A) → IsErr r → r ≡ Ok x → ⊥
-not_ok (Ok y) x h e = absurd (cc h)
-not_ok (Err y) x h e = absurd (cc e)
+pub ok_same : {A E : Type 0} (x y : A) → ◌≡◌ {A = Result A E} (Ok x) (Ok y) → x ≡ y
+ok_same x y e = cc e
 
-pub one_ok : {A E : Type 0} (r : Result A E) (x y : A) → r ≡ Ok x → r ≡ Ok y → x ≡ y
-one_ok r x y p q = cc (p, q)
+-- this, or a cause
+abbrev pub ok_or : {X : Type 0} → Bool → X → Cause → Verdict X
+ok_or b x c = cond b (Ok x) (Err c)
 
-pub if_ok : {A E : Type 0} (r : Result A E) (P : A → Type 0) (x : A) → r ≡ Ok x → IfOk r P → P x
-if_ok r P x e h = subst (λ s. IfOk s P) e h
+pub ok_if : {X : Type 0} (b : Bool) (x y : X) (c : Cause) → ok_or b x c ≡ Ok y → IsTrue b × (x ≡ y)
+ok_if true x y c e = (refl, ok_same x y e)
+ok_if false x y c e = absurd (cc e)
 
-pub never_ok : {A E : Type 0} (r : Result A E) (P : A → Type 0) → IsErr r → IsOkAnd r P → ⊥
-never_ok (Ok x) P e h = absurd (cc e)
-never_ok (Err y) P e h = h
+-- what a verdict is, where it gives something or is a cause else
+pub verdict_if : {X : Type 0} (b : Bool) (r : Verdict X) (y : X) (c : Cause) →
+    cond b r (Err c) ≡ Ok y → IsTrue b × (r ≡ Ok y)
+verdict_if true r y c e = (refl, e)
+verdict_if false r y c e = absurd (cc e)
 
-pub the_ok : {A E : Type 0} (r : Result A E) (P : A → Type 0) (x : A) → r ≡ Ok x → IsOkAnd r P →
-    P x
-the_ok r P x e h = subst (λ s. IsOkAnd s P) e h
-
-pub ok_weaker : {A E : Type 0} (r : Result A E) (P Q : A → Type 0) → ((x : A) → P x → Q x) →
-    IsOkAnd r P → IsOkAnd r Q
-ok_weaker (Ok x) P Q f h = f x h
-ok_weaker (Err e) P Q f h = h
+pub seen_from : {X Y : Type 0} (f : X → Y) (v : Verdict X) (y : Y) → seen_as f v ≡ Ok y →
+    (x : X) × (v ≡ Ok x) × (f x ≡ y)
+seen_from f (Ok x) y e = (x, refl, ok_same (f x) y e)
+seen_from f (Err c) y e = absurd (cc e)

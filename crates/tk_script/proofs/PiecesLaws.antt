@@ -58,7 +58,7 @@ pub record IsPiece (bytes : List ℕ) : Type 0 where
   pub high : length bytes ≤ 2048
   pub are : IsBytes bytes
 
-IsBytes-take : (n : ℕ) (xs : List ℕ) → IsBytes xs → IsBytes (take n xs)
+pub IsBytes-take : (n : ℕ) (xs : List ℕ) → IsBytes xs → IsBytes (take n xs)
 IsBytes-take zero xs are i = omega arith
 IsBytes-take (suc n) [] are i = omega arith
 IsBytes-take (suc n) (x ∷ xs) are zero = are zero

@@ -1,11 +1,10 @@
 -- What is said of lines in a row, one line at a time.
-use Rattle.std.proofs.Common.{◌≡◌, ℕ, suc, ◌+◌, ◌-◌, ◌<◌, ◌≤◌, List, [], ◌∷◌, codes, Result, Ok, Err, refl, ap, sym, ◌∙◌, subst, arith}
+use Rattle.std.proofs.Common.{◌≡◌, ℕ, suc, ◌+◌, ◌-◌, ◌<◌, List, [], ◌∷◌, ◌++◌, codes, Result, Ok, Err, refl, ap, sym, ◌∙◌, subst, arith}
 use Rattle.tk_script.specs.declared.cause.Cause.{Cause}
 use Rattle.tk_script.specs.declared.cause.Cause.TheVariants as cause
 use Rattle.tk_script.specs.Grammar.{Line}
-use Rattle.tk_script.specs.Reading.{Verdict, IsRead, Place, Refusal, ◌>>=◌, taken, line_at, next_line, next_lines, to_end, read_words, no_line}
+use Rattle.tk_script.specs.Reading.{Verdict, IsRead, Place, Refusal, ◌>>=◌, taken, line_at, next_line, next_lines, to_end, no_line}
 use Rattle.tk_script.proofs.CauseLaws.{differ}
-use Rattle.tk_script.proofs.PartLaws.{same_bytes}
 
 -- ---- one line
 
@@ -42,44 +41,74 @@ line_here line (l ∷ ls) some = refl
 
 -- ---- a number of lines
 
-module _ (read : Line → Verdict (Unit {0})) (count i : ℕ) (p : Place) where
+module _ {X : Type 0} (read : Line → Verdict X) (count i : ℕ) (before : List X) (p : Place) where
   one_more : i < count → count - i ≡ suc (count - (i + 1))
   one_more more = omega (arith, more)
 
+  abbrev then_more : X × Place → Result (List X × Place) Refusal
+  then_more x = next_lines (count - (i + 1)) read (before ++ x.0 ∷ []) x.1
+
   pub lines_early : i < count → p.rest ≡ [] →
-      next_lines (count - i) read p ≡ Err (p.line, cause.Early)
+      next_lines (count - i) read before p ≡ Err (p.line, cause.Early)
   lines_early more e =
-      ap (λ k. next_lines k read p) (one_more more)
-      ∙ ap (λ r. r >>= λ x. next_lines (count - (i + 1)) read x.1) (next_early read p e)
+      ap (λ k. next_lines k read before p) (one_more more)
+      ∙ ap (λ r. r >>= then_more) (next_early read p e)
 
   pub lines_refused : (l : Line) (q : Place) (c : Cause) → i < count → Follows p l q →
-      read l ≡ Err c → next_lines (count - i) read p ≡ Err (p.line, c)
+      read l ≡ Err c → next_lines (count - i) read before p ≡ Err (p.line, c)
   lines_refused l q c more f r =
-      ap (λ k. next_lines k read p) (one_more more)
-      ∙ ap (λ s. s >>= λ x. next_lines (count - (i + 1)) read x.1) (next_refused read p l q c f r)
+      ap (λ k. next_lines k read before p) (one_more more)
+      ∙ ap (λ s. s >>= then_more) (next_refused read p l q c f r)
 
-  pub lines_more : (l : Line) (q : Place) → i < count → Follows p l q → read l ≡ Ok tt →
-      next_lines (count - i) read p ≡ next_lines (count - (i + 1)) read q
-  lines_more l q more f r =
-      ap (λ k. next_lines k read p) (one_more more)
-      ∙ ap (λ s. s >>= λ x. next_lines (count - (i + 1)) read x.1) (next_taken read p l q tt f r)
+  pub lines_more : (l : Line) (q : Place) (x : X) → i < count → Follows p l q → read l ≡ Ok x →
+      next_lines (count - i) read before p
+      ≡ next_lines (count - (i + 1)) read (before ++ x ∷ []) q
+  lines_more l q x more f r =
+      ap (λ k. next_lines k read before p) (one_more more)
+      ∙ ap (λ s. s >>= then_more) (next_taken read p l q x f r)
+
+  pub lines_done : count ≡ i → (all : List X) → all ≡ before →
+      next_lines (count - i) read before p ≡ Ok (all, p)
+  lines_done done all same =
+      ap (λ k. next_lines k read before p) none ∙ ap (λ xs. Ok (xs, p)) (sym same)
+    where
+      none : count - i ≡ 0
+      none = omega (arith, done)
 
 -- ---- lines up to the one that ends them
 
-module _ {X : Type 0} (read : X → Line → Verdict X) (last : X) (p : Place) where
-  abbrev on : Place → X × Place → Result Place Refusal
-  on q x = to_end read x.0 (p.line + 1) q.rest
+module _ {X : Type 0} (read : List X → Line → Verdict X) (before : List X) (p : Place) where
+  abbrev on : Place → X × Place → Result (List X × Place) Refusal
+  on q x = to_end read (before ++ x.0 ∷ []) (p.line + 1) q.rest
 
   goes_by : (l : Line) (q : Place) → Follows p l q → (l ≡ codes "end" → ⊥) →
-      to_end read last p.line p.rest ≡ taken p.line q.rest (read last l) >>= on q
+      to_end read before p.line p.rest ≡ taken p.line q.rest (read before l) >>= on q
   goes_by l q f other =
-      ap (to_end read last p.line) f.lines ∙ rw (differ l (codes "end") other) refl
+      ap (to_end read before p.line) f.lines ∙ rw (differ l (codes "end") other) refl
+
+  pub end_early : p.rest ≡ [] → to_end read before p.line p.rest ≡ Err (p.line, cause.Early)
+  end_early e = ap (to_end read before p.line) e
+
+  pub end_here : (l : Line) (q : Place) → Follows p l q → l ≡ codes "end" → (all : List X) →
+      all ≡ before → to_end read before p.line p.rest ≡ Ok (all, q)
+  end_here l q f e all same =
+      ap (to_end read before p.line) (f.lines ∙ ap (λ k. k ∷ q.rest) e)
+      ∙ ap (λ z. Ok (before, z)) (same_place (record { line = p.line + 1; rest = q.rest }) q
+      (sym f.number) refl)
+      ∙ ap (λ xs. Ok (xs, q)) (sym same)
+
+  pub end_refused : (l : Line) (q : Place) (c : Cause) → Follows p l q →
+      (l ≡ codes "end" → ⊥) → read before l ≡ Err c →
+      to_end read before p.line p.rest ≡ Err (p.line, c)
+  end_refused l q c f other r =
+      goes_by l q f other ∙ ap (λ s. taken p.line q.rest s >>= on q) r
 
   pub end_more : (l : Line) (q : Place) (x : X) → Follows p l q → (l ≡ codes "end" → ⊥) →
-      read last l ≡ Ok x → to_end read last p.line p.rest ≡ to_end read x q.line q.rest
+      read before l ≡ Ok x →
+      to_end read before p.line p.rest ≡ to_end read (before ++ x ∷ []) q.line q.rest
   end_more l q x f other r =
       goes_by l q f other ∙ ap (λ s. taken p.line q.rest s >>= on q) r
-      ∙ ap (λ k. to_end read x k q.rest) (sym f.number)
+      ∙ ap (λ k. to_end read (before ++ x ∷ []) k q.rest) (sym f.number)
 
 -- ---- what a line's reader answered
 

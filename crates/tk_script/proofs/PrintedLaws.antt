@@ -9,7 +9,7 @@ use Rattle.tk_handle.specs.Handle.{handle_bytes}
 use Rattle.tk_script.specs.declared.script.Script.{Script}
 use Rattle.tk_script.specs.declared.keys.Keys.{Keys}
 use Rattle.tk_script.specs.Grammar.{Line, lines_of, shape_line, kind_line, role_line, say_line, SpellsBytes, SpellsKeys, SpellsPiece, BeginsWithScript, BeginsWithTape, kept_of}
-use Rattle.tk_script.specs.KeyLines.{IsHandleLine, IsSeedLine}
+use Rattle.tk_script.proofs.KeyLines.{IsHandleLine, IsSeedLine}
 use Rattle.tk_script.specs.SoundScript.{is_role, is_say}
 use Rattle.tk_script.specs.Printing.{bytes_line, handle_line, seed_line, lines_of_keys, lines_of_script, lines_of_pieces, lines_of_tape, piece_line, pieces, printed, printed_tape, HasHandle, HasSeed, HasKeys}
 use Rattle.tk_script.specs.PrintLaws.{ReadsPrinted, ReadsPrintedTape, PrintsScripts, PrintsTapes, PrintsKeyed, PrintsDrawn}

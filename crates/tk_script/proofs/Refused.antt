@@ -10,7 +10,7 @@ use Rattle.tk_shape.specs.declared.field.Field.TheVariants.{Servers, Tape}
 use Rattle.tk_script.specs.declared.cause.Cause.{Cause}
 use Rattle.tk_script.specs.declared.cause.Cause.TheVariants.{Early, Form, Shape, Number, Order, Room, Text, After}
 use Rattle.tk_script.specs.Grammar.{lines_of}
-use Rattle.tk_script.specs.Reading.{Refusal, read_head, read_keys, read_script, read_tape, read_end, read_input}
+use Rattle.tk_script.specs.Reading.{Refusal, InputLines, read_head, read_keys, read_script, read_tape, read_end, read_input}
 
 unfoldable reading : ⊤
 unfolding read_head read_keys read_script read_tape read_end
@@ -26,9 +26,14 @@ accepted = Ok tt
 abbrev refused : ℕ → Cause → Result (Unit {0}) Refusal
 refused line c = Err (line, c)
 
+-- whether a line is refused
+abbrev judged : Result InputLines Refusal → Result (Unit {0}) Refusal
+judged (Ok input) = Ok tt
+judged (Err refusal) = Err refusal
+
 -- what is said of a text, and of one that begins with these three lines
 abbrev said : List ℕ → Result (Unit {0}) Refusal
-said text = read_input (lines_of text)
+said text = judged (read_input (lines_of text))
 
 abbrev said_drawn : List ℕ → Result (Unit {0}) Refusal
 said_drawn text =

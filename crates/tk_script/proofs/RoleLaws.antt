@@ -1,68 +1,23 @@
 -- The lines of the logs.
-use Rattle.std.proofs.Common.{◌≡◌, ℕ, ◌<◌, ◌≤◌, List, [], ◌∷◌, ◌++◌, length, map, IsTrue, arith}
-use Rattle.std.proofs.lemmas.List.{length-append}
-use Rattle.std.specs.List.{list_all}
-use Rattle.tk_shape.specs.declared.shape.Shape.{Shape}
-use Rattle.tk_script.specs.declared.role.Role.{Role}
-use Rattle.tk_script.specs.Grammar.{Line, role_line}
-use Rattle.tk_script.specs.SoundScript.{is_role}
+use Rattle.std.proofs.Common.{◌≡◌, ◌∙◌, ℕ, ◌≤◌, List, [], ◌∷◌, codes, true, IsTrue, Option, Some, None, Ok, refl, ap, subst, arith}
 use Rattle.std.specs.Prelude.{nat_lt, ◌&&◌}
-use Rattle.std.specs.List.{AllByRecursion}
+use Rattle.std.specs.List.{list_all, AllByRecursion}
 use Rattle.std.proofs.lemmas.Bool.Decides.{nat_tests}
 use Rattle.std.proofs.lemmas.Bool.{and_parts}
-use Rattle.tk_script.specs.SoundScript.{is_ascending}
+use Rattle.tk_shape.specs.declared.shape.Shape.{Shape}
+use Rattle.tk_script.specs.declared.cause.Cause.TheVariants as cause
+use Rattle.tk_script.specs.declared.role.Role.{Role}
+use Rattle.tk_script.specs.Grammar.{Line, role_line}
+use Rattle.tk_script.specs.Reading.{Verdict, named, numbers_after, first_from, in_order, read_clients, read_role}
+use Rattle.tk_script.specs.SoundScript.{is_ascending, is_role}
+use Rattle.tk_script.proofs.CauseLaws.{lacks_by_test, role_sound, role_parts, read_clients-role}
 use Rattle.tk_script.proofs.FieldLaws.{IsWord}
-use Rattle.tk_script.proofs.ReadingLaws.{Reads, Reads-more, Reads-done, Reads-stuck, Reads-front, IsLineOf, GoesOn, zip-lines}
+use Rattle.tk_script.proofs.OptionLaws.{ok_if}
+use Rattle.tk_script.proofs.PartLaws.{numbers_after-are, numbers_after-some}
+use Rattle.tk_script.proofs.RowLaws.{IsLineOf}
 
 abbrev pub IsRoleLine : Shape → Line → Role → Type 0
 IsRoleLine shape = IsLineOf role_line (is_role shape)
-
--- a role for each log
-abbrev pub IsFull : Shape → List Role → List Line → Type 0
-IsFull shape roles behind = length roles ≡ shape.logs
-
-abbrev pub ReadsRoles : Shape → List Line → List Role → List Line → Type 0
-ReadsRoles shape = Reads (IsRoleLine shape) (IsFull shape)
-
-module _ (shape : Shape) (text : List Line) (roles : List Role) (rest : List Line)
-    (r : ReadsRoles shape text roles rest) where
-  pub roles-more : (line : Line) (after : List Line) (role : Role) → length roles < shape.logs →
-      rest ≡ line ∷ after → line ≡ role_line role →
-      IsTrue (is_role shape role) → ((y : Role) → line ≡ role_line y → IsTrue (is_role shape y) →
-      role ≡ y) →
-      ReadsRoles shape text (roles ++ role ∷ []) after
-  roles-more line after role more e spelled sound same =
-      let goes : GoesOn (IsFull shape) roles rest = λ behind full _. omega (arith, full, more) in
-      Reads-more (IsRoleLine shape) (IsFull shape) text roles rest line after role r e
-      (spelled, sound)
-      (λ y others behind here full. same y here.0 here.1) goes
-
-  pub roles-stuck : length roles < shape.logs →
-      ((line : Line) (after : List Line) (y : Role) → rest ≡ line ∷ after → line ≡ role_line y →
-      IsTrue (is_role shape y) → ⊥) → (all : List Role) (behind : List Line) →
-      text ≡ map role_line all ++ behind → length all ≡ shape.logs →
-      IsTrue (list_all (is_role shape) all) → ⊥
-  roles-stuck more none all behind whole full sound =
-      let goes : GoesOn (IsFull shape) roles rest = λ later e _. omega (arith, e, more) in
-      Reads-stuck (IsRoleLine shape) (IsFull shape) text roles rest r
-      (λ line after y others later e here _. none line after y e here.0 here.1) goes
-      (map role_line all) all behind (zip-lines role_line (is_role shape) all sound) full whole
-
-  too_many : length roles ≡ shape.logs → (y : Role) (others : List Role) →
-      length (roles ++ y ∷ others) ≡ shape.logs → ⊥
-  too_many full y others e = omega (arith, full, e, length-append roles (y ∷ others))
-
-  pub roles-done : length roles ≡ shape.logs → (all : List Role) (behind : List Line) →
-      text ≡ map role_line all ++ behind →
-      length all ≡ shape.logs → IsTrue (list_all (is_role shape) all) →
-      (roles ≡ all) × (rest ≡ behind)
-  roles-done full all behind whole counted sound =
-      Reads-done (IsRoleLine shape) (IsFull shape) text roles rest r
-      (λ line after y others later e here last. too_many full y others last)
-      (map role_line all) all behind (zip-lines role_line (is_role shape) all sound) counted whole
-
-  pub roles-front : (text ≡ map role_line roles ++ rest) × IsTrue (list_all (is_role shape) roles)
-  roles-front = Reads-front role_line (is_role shape) (IsFull shape) text roles rest r
 
 client_is_word : (clients n : ℕ) → clients ≤ 64 → IsTrue (nat_lt n clients) → IsWord n
 client_is_word clients n few low = grind (arith, nat_tests)
@@ -86,3 +41,39 @@ role_words shape role sound =
       client_is_word shape.clients role.writer few second.0,
       clients_are_words shape.clients role.followers few second.1,
     )
+
+-- ---- a line gives its role
+
+abbrev pub ok_role : ℕ → List ℕ → Verdict Role
+ok_role writer followers = Ok (record { writer = writer; followers = followers })
+
+pub role_whole : (shape : Shape) (line : Line) (role : Role) → IsRoleLine shape line role →
+    read_role (named shape) line ≡ Ok role
+role_whole shape line role h =
+    let ns = role.writer ∷ role.followers in
+    let parts = role_parts shape role ns refl h.1 in
+    ap (read_clients (named shape)) (numbers_after-some (codes "log") line ns
+    (lacks_by_test (codes "log") refl) (role_words shape role h.1) h.0)
+    ∙ read_clients-role (named shape) ns role.writer role.followers refl parts.0 parts.1
+
+order_test : (r role : Role) (o : Option ℕ) → in_order r o ≡ Ok role →
+    (o ≡ None) × (is_ascending r.followers ≡ true) × (r ≡ role)
+order_test r role (Some k) e = absurd (cc e)
+order_test r role None e =
+    let test = ok_if (is_ascending r.followers) r role cause.Order e in
+    (refl, test.0, test.1)
+
+role_from : (shape : Shape) (line : Line) (role : Role) (o : Option (List ℕ)) →
+    numbers_after (codes "log") line ≡ o → read_clients (named shape) o ≡ Ok role →
+    IsRoleLine shape line role
+role_from shape line role None e said = absurd (cc said)
+role_from shape line role (Some []) e said = absurd (cc said)
+role_from shape line role (Some (w ∷ fs)) e said =
+    let test = order_test (record { writer = w; followers = fs }) role
+    (first_from shape.clients (w ∷ fs)) said in
+    subst (IsRoleLine shape line) test.2
+    ((numbers_after-are (codes "log") line (w ∷ fs) e).0, role_sound shape w fs test.0 test.1)
+
+pub role_is : (shape : Shape) (line : Line) (role : Role) →
+    read_role (named shape) line ≡ Ok role → IsRoleLine shape line role
+role_is shape line role e = role_from shape line role (numbers_after (codes "log") line) refl e

@@ -10,13 +10,15 @@ use Rattle.std.proofs.lemmas.Bool.{and_parts, and_from, le-leb, lt-ltb}
 use Rattle.tk_shape.specs.declared.shape.Shape.{Shape}
 use Rattle.tk_shape.specs.Limits.{Numbers, is_between}
 use Rattle.tk_seal.specs.Texts.{is_allowed, allowed_front}
+use Rattle.tk_script.specs.declared.cause.Cause.{Cause}
 use Rattle.tk_script.specs.declared.cause.Cause.TheVariants as cause
 use Rattle.tk_script.specs.declared.say.Say.{Say}
 use Rattle.tk_script.specs.Grammar.{Line, fields, say_line}
 use Rattle.tk_script.specs.SoundScript.{is_say, is_said_by, are_in_order}
-use Rattle.tk_script.specs.Reading.{Verdict, parts_of, number_spelled, number_before, numbers_spelled, named, When, is_by, last_when, out_of_range, in_room, said_behind, said, say_numbers, say_parts, read_say}
+use Rattle.tk_script.specs.Reading.{Verdict, parts_of, number_spelled, number_before, numbers_spelled, named, When, is_by, last_when, out_of_range, why_text, why_behind, why_not, said_unless, say_numbers, say_parts, read_say}
 use Rattle.tk_script.proofs.CauseLaws.{lacks_by_test, bool_false}
 use Rattle.tk_script.proofs.FieldLaws.{LacksSpace-decimal}
+use Rattle.tk_script.proofs.OptionLaws.{ok_same, verdict_if}
 use Rattle.tk_script.proofs.SoundLaws.{is_say-IsSaid}
 use Rattle.tk_script.proofs.PartLaws.{split_field, number_spelled-decimal, numbers_spelled-are}
 
@@ -67,9 +69,15 @@ some_parts : (text : List ℕ) →
 some_parts [] = ([], [], refl)
 some_parts (b ∷ bs) = some_by (eqb b 0x20) b (parts_of bs)
 
--- the line of a phase, a tick, a log and a text
+-- a text of a phase, a tick and a log
+abbrev pub say_by : ℕ → ℕ → ℕ → List ℕ → Say
+say_by p t g text = record { phase = p; tick = t; log = g; text = text }
+
+abbrev pub ok_say : ℕ → ℕ → ℕ → List ℕ → Verdict Say
+ok_say p t g text = Ok (say_by p t g text)
+
 abbrev pub line_by : ℕ → ℕ → ℕ → List ℕ → Line
-line_by p t g text = say_line (record { phase = p; tick = t; log = g; text = text })
+line_by p t g text = say_line (say_by p t g text)
 
 parts_of-say : (p t g : ℕ) (text : List ℕ) → p < 2 ^ 32 → t < 2 ^ 32 → g < 2 ^ 32 →
     parts_of (line_by p t g text)
@@ -97,7 +105,7 @@ three_numbers p t g sp st sg =
 -- what is said of such a line
 pub read_say-said : (n : Numbers) (last : When) (line : Line) (p t g : ℕ) (text : List ℕ) →
     p < 2 ^ 32 → t < 2 ^ 32 → g < 2 ^ 32 → line ≡ line_by p t g text →
-    read_say n last line ≡ said n last p t g text
+    read_say n last line ≡ said_unless (why_not n last p t g text) (say_by p t g text)
 read_say-said n last line p t g text sp st sg e =
     let h = some_parts text in
     let joined = ap (join_with_byte 0x20) (sym h.2) ∙ join_with_byte-slice_split 0x20 text in
@@ -105,7 +113,7 @@ read_say-said n last line p t g text sp st sg e =
     ∙ ap (say_parts n last) (parts_of-say p t g text sp st sg
     ∙ ap (λ r. codes "say" ∷ decimal p ∷ decimal t ∷ decimal g ∷ r) h.2)
     ∙ ap (say_numbers n last (join_with_byte 0x20 (h.0 ∷ h.1))) (three_numbers p t g sp st sg)
-    ∙ ap (said n last p t g) joined
+    ∙ ap (λ u. said_unless (why_not n last p t g u) (say_by p t g u)) joined
 
 -- a line of no text
 abbrev pub IsNoSay : Line → Type 0
@@ -135,7 +143,7 @@ numbers_form n last p t g x rest (Some (a ∷ b ∷ c ∷ [])) e never =
     (four p t g (decimal a) (decimal b) (decimal c) rest x h.0))
 numbers_form n last p t g x rest (Some (a ∷ b ∷ c ∷ more ∷ ns)) e never = refl
 
-when_form : (b : Bool) (r : Verdict When) → (IsTrue b → r ≡ Err cause.Form) →
+when_form : (b : Bool) (r : Verdict Say) → (IsTrue b → r ≡ Err cause.Form) →
     cond b r (Err cause.Form) ≡ Err cause.Form
 when_form true r f = f refl
 when_form false r f = refl
@@ -160,19 +168,69 @@ read_say-form n last line never =
     parts_form n last (parts_of line)
     (subst IsNoSay (sym (join_with_byte-slice_split 0x20 line)) never)
 
+-- ---- the text of a line
+
+unless_from : (o : Option Cause) (y z : Say) → said_unless o y ≡ Ok z → (o ≡ None) × (y ≡ z)
+unless_from None y z e = (refl, ok_same y z e)
+unless_from (Some c) y z e = absurd (cc e)
+
+-- a line gives this text
+pub record GivesSay (n : Numbers) (last : When) (line : Line) (y : Say) : Type 0 where
+  pub spelled : line ≡ say_line y
+  pub may : why_not n last y.phase y.tick y.log y.text ≡ None
+
+numbers_give : (n : Numbers) (last : When) (p t g x : List ℕ) (rest : List (List ℕ))
+    (o : Option (List ℕ)) (y : Say) → numbers_spelled (p ∷ t ∷ g ∷ []) ≡ o →
+    say_numbers n last (join_with_byte 0x20 (x ∷ rest)) o ≡ Ok y →
+    GivesSay n last (fields (codes "say" ∷ p ∷ t ∷ g ∷ x ∷ rest)) y
+numbers_give n last p t g x rest None y e f = absurd (cc f)
+numbers_give n last p t g x rest (Some []) y e f = absurd (cc f)
+numbers_give n last p t g x rest (Some (a ∷ [])) y e f = absurd (cc f)
+numbers_give n last p t g x rest (Some (a ∷ b ∷ [])) y e f = absurd (cc f)
+numbers_give n last p t g x rest (Some (a ∷ b ∷ c ∷ [])) y e f =
+    let h = numbers_spelled-are (p ∷ t ∷ g ∷ []) (a ∷ b ∷ c ∷ []) e in
+    let text = join_with_byte 0x20 (x ∷ rest) in
+    let test = unless_from (why_not n last a b c text) (say_by a b c text) y f in
+    subst (GivesSay n last (fields (codes "say" ∷ p ∷ t ∷ g ∷ x ∷ rest))) test.1 (record {
+      spelled = four p t g (decimal a) (decimal b) (decimal c) rest x h.0;
+      may = test.0;
+    })
+numbers_give n last p t g x rest (Some (a ∷ b ∷ c ∷ more ∷ ns)) y e f = absurd (cc f)
+
+parts_give : (n : Numbers) (last : When) (ps : List (List ℕ)) (y : Say) →
+    say_parts n last ps ≡ Ok y → GivesSay n last (fields ps) y
+parts_give n last [] y e = absurd (cc e)
+parts_give n last (w ∷ []) y e = absurd (cc e)
+parts_give n last (w ∷ p ∷ []) y e = absurd (cc e)
+parts_give n last (w ∷ p ∷ t ∷ []) y e = absurd (cc e)
+parts_give n last (w ∷ p ∷ t ∷ g ∷ []) y e = absurd (cc e)
+parts_give n last (w ∷ p ∷ t ∷ g ∷ x ∷ rest) y e =
+    let spelled = numbers_spelled (p ∷ t ∷ g ∷ []) in
+    let test = verdict_if (bytes_eq w (codes "say"))
+    (say_numbers n last (join_with_byte 0x20 (x ∷ rest)) spelled) y cause.Form e in
+    subst (λ v. GivesSay n last (fields (v ∷ p ∷ t ∷ g ∷ x ∷ rest)) y)
+    (sym ((bytes_eq-Decides w (codes "say")).0 test.0))
+    (numbers_give n last p t g x rest spelled y refl test.1)
+
+pub read_say-gives : (n : Numbers) (last : When) (line : Line) (y : Say) →
+    read_say n last line ≡ Ok y → GivesSay n last line y
+read_say-gives n last line y e =
+    subst (λ l. GivesSay n last l y) (join_with_byte-slice_split 0x20 line)
+    (parts_give n last (parts_of line) y e)
+
 -- ---- what is tried
 
 pub said_number : (n : Numbers) (last when : When) (text : List ℕ) (o : Option ℕ) (k : ℕ) →
-    o ≡ Some k → said_behind n last when text o ≡ Err (cause.Number k)
-said_number n last when text o k e = ap (said_behind n last when text) e
+    o ≡ Some k → why_behind n last when text o ≡ Some (cause.Number k)
+said_number n last when text o k e = ap (why_behind n last when text) e
 
 pub said_order : (n : Numbers) (last when : When) (text : List ℕ) (o : Option ℕ) → o ≡ None →
-    is_by last when ≡ false → said_behind n last when text o ≡ Err cause.Order
-said_order n last when text o e early = ap (said_behind n last when text) e ∙ rw early refl
+    is_by last when ≡ false → why_behind n last when text o ≡ Some cause.Order
+said_order n last when text o e early = ap (why_behind n last when text) e ∙ rw early refl
 
 in_time : (n : Numbers) (last when : When) (text : List ℕ) (o : Option ℕ) → o ≡ None →
-    is_by last when ≡ true → said_behind n last when text o ≡ in_room (n.block - 18) when text
-in_time n last when text o e by = ap (said_behind n last when text) e ∙ rw by refl
+    is_by last when ≡ true → why_behind n last when text o ≡ why_text (n.block - 18) text
+in_time n last when text o e by = ap (why_behind n last when text) e ∙ rw by refl
 
 too_long : (n room : ℕ) → room < n → nat_le n room ≡ false
 too_long n room h = grind (arith, nat_tests)
@@ -182,28 +240,28 @@ has_room n room h = grind (arith, nat_tests)
 
 pub said_room : (n : Numbers) (last when : When) (text : List ℕ) (o : Option ℕ) → o ≡ None →
     is_by last when ≡ true → n.block - 18 < length text →
-    said_behind n last when text o ≡ Err (cause.Room (n.block - 18))
+    why_behind n last when text o ≡ Some (cause.Room (n.block - 18))
 said_room n last when text o e by long =
     in_time n last when text o e by ∙ rw (too_long (length text) (n.block - 18) long) refl
 
-fits : (room : ℕ) (when : When) (text : List ℕ) → length text ≤ room →
-    in_room room when text ≡ cond (is_allowed text) (Ok when)
-    (Err (cause.Text (allowed_front (length text) text)))
-fits room when text h = rw (has_room (length text) room h) refl
+fits : (room : ℕ) (text : List ℕ) → length text ≤ room →
+    why_text room text ≡ cond (is_allowed text) None
+    (Some (cause.Text (allowed_front (length text) text)))
+fits room text h = rw (has_room (length text) room h) refl
 
 pub said_text : (n : Numbers) (last when : When) (text : List ℕ) (o : Option ℕ) (at : ℕ) →
     o ≡ None → is_by last when ≡ true → length text ≤ n.block - 18 → is_allowed text ≡ false →
     at ≡ allowed_front (length text) text →
-    said_behind n last when text o ≡ Err (cause.Text at)
+    why_behind n last when text o ≡ Some (cause.Text at)
 said_text n last when text o at e by short bad front =
-    in_time n last when text o e by ∙ fits (n.block - 18) when text short
-    ∙ rw bad (ap (λ k. Err (cause.Text k)) (sym front))
+    in_time n last when text o e by ∙ fits (n.block - 18) text short
+    ∙ rw bad (ap (λ k. Some (cause.Text k)) (sym front))
 
 pub said_well : (n : Numbers) (last when : When) (text : List ℕ) (o : Option ℕ) →
     o ≡ None → is_by last when ≡ true → length text ≤ n.block - 18 → is_allowed text ≡ true →
-    said_behind n last when text o ≡ Ok when
+    why_behind n last when text o ≡ None
 said_well n last when text o e by short good =
-    in_time n last when text o e by ∙ fits (n.block - 18) when text short ∙ rw good refl
+    in_time n last when text o e by ∙ fits (n.block - 18) text short ∙ rw good refl
 
 is_some_not : (o : Option ℕ) (at : ℕ) → o ≡ Some at → IsNone o → ⊥
 is_some_not None at e none = absurd (cc e)
@@ -273,43 +331,43 @@ may_say shape say sound =
 -- a text that may be said, and no earlier than the last, is said
 pub said_ok : (shape : Shape) (last : When) (say : Say) → IsTrue (is_say shape say) →
     IsTrue (is_by last (say.phase, say.tick)) →
-    said (named shape) last say.phase say.tick say.log say.text ≡ Ok (say.phase, say.tick)
+    why_not (named shape) last say.phase say.tick say.log say.text ≡ None
 said_ok shape last say sound by =
     let h = may_say shape say sound in
     said_well (named shape) last (say.phase, say.tick) say.text
     (out_of_range (named shape) say.phase say.tick say.log) h.range by h.short h.good
 
-behind_test : (b : Bool) (r : Verdict When) (w : When) → cond b r (Err cause.Order) ≡ Ok w →
-    IsTrue b × (r ≡ Ok w)
-behind_test true r w e = (refl, e)
-behind_test false r w e = absurd (cc e)
+behind_test : (b : Bool) (o : Option Cause) → cond b o (Some cause.Order) ≡ None →
+    IsTrue b × (o ≡ None)
+behind_test true o e = (refl, e)
+behind_test false o e = absurd (cc e)
 
-room_test : (b c : Bool) (when w : When) (room at : ℕ) →
-    cond b (cond c (Ok when) (Err (cause.Text at))) (Err (cause.Room room)) ≡ Ok w →
+room_test : (b c : Bool) (room at : ℕ) →
+    cond b (cond c None (Some (cause.Text at))) (Some (cause.Room room)) ≡ None →
     IsTrue b × IsTrue c
-room_test true true when w room at e = (refl, refl)
-room_test true false when w room at e = absurd (cc e)
-room_test false c when w room at e = absurd (cc e)
+room_test true true room at e = (refl, refl)
+room_test true false room at e = absurd (cc e)
+room_test false c room at e = absurd (cc e)
 
 le_of : (a b : ℕ) → IsTrue (nat_le a b) → a ≤ b
 le_of a b h = grind (arith, nat_tests)
 
-said_parts : (shape : Shape) (last when w : When) (text : List ℕ) (o : Option ℕ) →
-    said_behind (named shape) last when text o ≡ Ok w →
+said_parts : (shape : Shape) (last when : When) (text : List ℕ) (o : Option ℕ) →
+    why_behind (named shape) last when text o ≡ None →
     (o ≡ None) × IsTrue (is_by last when) × (length text ≤ shape.block - 18)
     × (is_allowed text ≡ true)
-said_parts shape last when w text (Some k) e = absurd (cc e)
-said_parts shape last when w text None e =
-    let by = behind_test (is_by last when) (in_room (shape.block - 18) when text) w e in
-    let room = room_test (nat_le (length text) (shape.block - 18)) (is_allowed text) when w
+said_parts shape last when text (Some k) e = absurd (cc e)
+said_parts shape last when text None e =
+    let by = behind_test (is_by last when) (why_text (shape.block - 18) text) e in
+    let room = room_test (nat_le (length text) (shape.block - 18)) (is_allowed text)
     (shape.block - 18) (allowed_front (length text) text) by.1 in
     (refl, by.0, le_of (length text) (shape.block - 18) room.0, room.1)
 
 -- a text that is said may be said
-pub said_is : (shape : Shape) (last : When) (say : Say) (w : When) →
-    said (named shape) last say.phase say.tick say.log say.text ≡ Ok w →
+pub said_is : (shape : Shape) (last : When) (say : Say) →
+    why_not (named shape) last say.phase say.tick say.log say.text ≡ None →
     IsTrue (is_say shape say) × IsTrue (is_by last (say.phase, say.tick))
-said_is shape last say w e =
-    let h = said_parts shape last (say.phase, say.tick) w say.text
+said_is shape last say e =
+    let h = said_parts shape last (say.phase, say.tick) say.text
     (out_of_range (named shape) say.phase say.tick say.log) e in
     (is_say-by shape say h.0 h.2 h.3, h.1)

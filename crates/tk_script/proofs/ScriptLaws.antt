@@ -1,6 +1,6 @@
 -- The lines of a script and of its tape.
-use Rattle.std.proofs.Common.{◌≡◌, ℕ, ◌≤◌, List, [], ◌∷◌, ◌++◌, map, codes, Bool, true, false, Option, Some, None, Result, Ok, Err, refl, ap, sym, ◌∙◌, subst, arith, append_assoc}
-use Rattle.std.specs.Prelude.{IsTrue, nat_le, is_some, IfOk}
+use Rattle.std.proofs.Common.{◌≡◌, ℕ, ◌≤◌, List, [], ◌∷◌, ◌++◌, map, codes, Bool, true, false, Option, Some, None, refl, ap, sym, ◌∙◌, subst, arith, append_assoc}
+use Rattle.std.specs.Prelude.{IsTrue, nat_le, is_some}
 use Rattle.std.proofs.lemmas.Bool.Decides.{nat_tests}
 use Rattle.std.proofs.Math.Nat.{ℕ_set}
 use Rattle.std.proofs.Math.Bool.{Bool-set}
@@ -11,9 +11,8 @@ use Rattle.tk_script.specs.declared.script.Script.{Script}
 use Rattle.tk_script.specs.declared.keys.Keys.{Keys}
 use Rattle.tk_script.specs.declared.input.RawTape.{RawTape}
 use Rattle.tk_script.specs.declared.input.Input.{Input}
-use Rattle.tk_script.specs.declared.error.ScriptError.{ScriptError}
-use Rattle.tk_script.specs.Grammar.{Line, shape_line, kind_line, role_line, say_line, lines_of, SpellsKeys, BeginsWithScript, TapeFor, Spells, kept_of}
-use Rattle.tk_script.specs.KeyLines.{kind_words, MayBeOfKind}
+use Rattle.tk_script.specs.Grammar.{Line, shape_line, kind_line, role_line, say_line, SpellsKeys, BeginsWithScript, TapeFor}
+use Rattle.tk_script.proofs.KeyLines.{kind_words, MayBeOfKind}
 use Rattle.tk_script.specs.SoundScript.{IsScript, tape_fits}
 
 -- a script's parts make it
@@ -27,9 +26,6 @@ same_script S T p k r y = λ i. record {
   sound = is_prop→PathP (λ j. IsScript (p j) (k j) (r j) (y j)) (λ j. hlevel (ℕ_set, Bool-set))
       S.sound T.sound i;
 }
-
-pub same_tape : (s t : RawTape) → s.bytes ≡ t.bytes → s.got ≡ t.got → s ≡ t
-same_tape s t b g = λ i. record { bytes = b i; got = g i }
 
 pub same_input : (x y : Input) → x.first ≡ y.first → x.tape ≡ y.tape → x ≡ y
 same_input x y s t = λ i. record { first = s i; tape = t i }
@@ -48,11 +44,11 @@ kind_is None = refl
 kind_is (Some keys) = refl
 
 -- the lines of a script, one after the other
-pub script_lines : (lines : List Line) (S : Script) (rest : List Line)
+pub lines_are : (lines : List Line) (S : Script) (rest : List Line)
     (s : BeginsWithScript lines S rest) →
     lines ≡ codes "talek 1" ∷ shape_line S.shape ∷ kind_words (is_some S.keys)
     ∷ behind_head S s.key_lines rest
-script_lines lines S rest s =
+lines_are lines S rest s =
     s.whole
     ∙ ap (λ k. codes "talek 1" ∷ shape_line S.shape ∷ k
     ∷ (map role_line S.roles ++ s.key_lines ++ map say_line S.says ++ codes "end" ∷ rest))
@@ -98,53 +94,14 @@ tape_fits_kind shape (Some keys) keyed kind may = refl
 -- ---- the tape of an input
 
 -- a keyed script has none
-pub keyed_tape : (shape : Shape) (keys : Option Keys) (lines : List Line) (tape : Option RawTape) →
-    is_some keys ≡ true → TapeFor shape keys lines tape → (lines ≡ []) × (tape ≡ None)
-keyed_tape shape None lines tape keyed h = absurd (cc keyed)
-keyed_tape shape (Some keys) lines tape keyed h = h
-
 pub tape_of_keyed : (shape : Shape) (keys : Option Keys) (lines : List Line) →
     is_some keys ≡ true → lines ≡ [] → TapeFor shape keys lines None
 tape_of_keyed shape None lines keyed none = absurd (cc keyed)
 tape_of_keyed shape (Some keys) lines keyed none = (none, refl)
 
 -- a drawn script has one
-pub record IsDrawnTape (shape : Shape) (lines : List Line) (tape : Option RawTape) : Type 0 where
-  pub value : RawTape
-  pub is : tape ≡ Some value
-  pub spelled : TapeFor shape None lines (Some value)
-
-pub drawn_tape : (shape : Shape) (keys : Option Keys) (lines : List Line) (tape : Option RawTape) →
-    is_some keys ≡ false → TapeFor shape keys lines tape → IsDrawnTape shape lines tape
-drawn_tape shape None lines tape drawn h = record {
-  value = kept_of shape h.0;
-  is = h.2;
-  spelled = (h.0, h.1, refl);
-}
-drawn_tape shape (Some keys) lines tape drawn h = absurd (cc drawn)
-
 pub tape_of_drawn : (shape : Shape) (keys : Option Keys) (lines : List Line) (tape : RawTape) →
     is_some keys ≡ false → TapeFor shape None lines (Some tape) →
     TapeFor shape keys lines (Some tape)
 tape_of_drawn shape None lines tape drawn h = h
 tape_of_drawn shape (Some keys) lines tape drawn h = absurd (cc drawn)
-
--- the input of a keyed script is spelled where nothing follows
-pub keyed_found : (r : Result Input ScriptError) (S : Script) (text : List ℕ) (rest : List Line) →
-    BeginsWithScript (lines_of text) S rest → is_some S.keys ≡ true →
-    IfOk r (λ input. (rest ≡ []) × (input ≡ record { first = S; tape = None })) →
-    IfOk r (λ input. Spells text input)
-keyed_found (Err e) S text rest begins keyed h = h
-keyed_found (Ok input) S text rest begins keyed h =
-    subst (Spells text) (sym h.1) (record {
-      rest = rest;
-      script = begins;
-      tape = tape_of_keyed S.shape S.keys rest keyed h.0;
-    })
-
--- what is known of a tape's text holds of the text that was read
-pub drawn_here : (y z : Shape) (ls ms : List Line) (tape : RawTape) → y ≡ z → ls ≡ ms →
-    TapeFor z None ms (Some tape) → TapeFor y None ls (Some tape)
-drawn_here y z ls ms tape shape lines h =
-    subst (λ s. TapeFor s None ls (Some tape)) (sym shape)
-    (subst (λ t. TapeFor z None t (Some tape)) (sym lines) h)

@@ -101,11 +101,14 @@ pub record BeginsWithTape (lines : List Line) (tape : List ℕ) (rest : List Lin
 
 -- ---- inputs
 
--- what is kept of a tape: no more bytes than the shape wants, and how many there were, as far as 64
--- bits count
+-- what is kept of a tape: no more bytes than are wanted, and how many there were, as far as 64 bits
+-- count
+abbrev pub kept : ℕ → List ℕ → RawTape
+kept want bytes = record { bytes = take want bytes; got = min (length bytes) (2 ^ 64 - 1) }
+
+-- a script's shape wants its tape's length
 abbrev pub kept_of : Shape → List ℕ → RawTape
-kept_of shape bytes =
-    record { bytes = take (tape_len shape) bytes; got = min (length bytes) (2 ^ 64 - 1) }
+kept_of shape bytes = kept (tape_len shape) bytes
 
 -- a drawn script's tape; a keyed script has none
 abbrev pub TapeFor : Shape → Option Keys → List Line → Option RawTape → Type 0

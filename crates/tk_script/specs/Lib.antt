@@ -7,7 +7,6 @@ pub mod Grammar
 pub mod Fields
 pub mod Pieces
 pub mod Laws
-pub mod KeyLines
 pub mod Reading
 pub mod Answer
 pub mod Stands

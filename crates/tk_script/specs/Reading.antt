@@ -1,6 +1,7 @@
--- The first line of a text that is refused, and its cause.
+-- What the lines of a text say, or else the first of them that is refused, and its cause.
 -- Within a line the causes are tried in the order of the definitions below.
-use Rattle.std.specs.Prelude.{◌≡◌, ℕ, zero, suc, ◌+◌, ◌-◌, ◌*◌, ◌/◌, nat_le, nat_lt, ◌==◌, ◌&&◌, ◌||◌, Bool, true, false, cond, List, [], ◌∷◌, length, find, codes, decimal, Option, Some, None, Result, Ok, Err}
+use Rattle.std.specs.Prelude.{◌≡◌, ℕ, zero, suc, ◌+◌, ◌-◌, ◌*◌, ◌/◌, nat_le, nat_lt, ◌==◌, ◌&&◌, ◌||◌, Bool, true, false, cond, List, [], ◌∷◌, ◌++◌, length, find, take, drop, replicate, codes, decimal, flat_map, Option, Some, None, Result, Ok, Err}
+use Rattle.std.specs.Int.{w64, from_be_bytes}
 use Rattle.std.specs.List.{join_with_byte, slice_split}
 use Rattle.std.specs.Str.{bytes_eq}
 use Rattle.std.specs.Str.Parse.{digits_value}
@@ -15,7 +16,13 @@ use Rattle.tk_script.specs.declared.cause.Cause.{Cause}
 use Rattle.tk_script.specs.declared.cause.Cause.TheVariants as cause
 use Rattle.tk_script.specs.declared.say.Say.{Say}
 use Rattle.tk_script.specs.SoundScript.{is_ascending}
-use Rattle.tk_script.specs.Grammar.{Line}
+use Rattle.tk_script.specs.declared.role.Role.{Role}
+use Rattle.tk_script.specs.declared.keys.Keys.{Keys}
+use Rattle.tk_script.specs.declared.script.Script.{Script}
+use Rattle.tk_script.specs.declared.input.RawTape.{RawTape}
+use Rattle.tk_script.specs.declared.input.Input.{Input}
+use Rattle.tk_handle.specs.declared.handle.Handle.{Handle}
+use Rattle.tk_script.specs.Grammar.{Line, kept}
 
 -- what a line gives, or the cause for which it is refused
 abbrev pub Verdict : Type 0 → Type 0
@@ -27,9 +34,14 @@ IsRead f (Ok x) said = said ≡ Ok (f x)
 IsRead f (Err c) said = said ≡ Err c
 
 -- the same, where a line is refused for its form alone
-abbrev pub IsTaken : {X : Type 0} → Option X → Verdict (Unit {0}) → Type 0
-IsTaken (Some x) said = said ≡ Ok tt
+abbrev pub IsTaken : {X : Type 0} → Option X → Verdict X → Type 0
+IsTaken (Some x) said = said ≡ Ok x
 IsTaken None said = said ≡ Err cause.Form
+
+-- what a line gives, seen so
+abbrev pub seen_as : {X Y : Type 0} → (X → Y) → Verdict X → Verdict Y
+seen_as f (Ok x) = Ok (f x)
+seen_as f (Err c) = Err c
 
 -- ---- fields
 
@@ -109,17 +121,18 @@ abbrev pub first_from : ℕ → List ℕ → Option ℕ
 first_from n ns = find (λ k. nat_le n k) ns
 
 -- a client out of range, else followers that don't ascend
-abbrev pub in_order : List ℕ → Option ℕ → Verdict (Unit {0})
-in_order followers (Some k) = Err (cause.Number k)
-in_order followers None = cond (is_ascending followers) (Ok tt) (Err cause.Order)
+abbrev pub in_order : Role → Option ℕ → Verdict Role
+in_order role (Some k) = Err (cause.Number k)
+in_order role None = cond (is_ascending role.followers) (Ok role) (Err cause.Order)
 
-abbrev pub read_clients : Numbers → Option (List ℕ) → Verdict (Unit {0})
+abbrev pub read_clients : Numbers → Option (List ℕ) → Verdict Role
 read_clients n None = Err cause.Form
 read_clients n (Some []) = Err cause.Form
 read_clients n (Some (writer ∷ followers)) =
-    in_order followers (first_from n.clients (writer ∷ followers))
+    in_order (record { writer = writer; followers = followers })
+    (first_from n.clients (writer ∷ followers))
 
-abbrev pub read_role : Numbers → Line → Verdict (Unit {0})
+abbrev pub read_role : Numbers → Line → Verdict Role
 read_role n line = read_clients n (numbers_after (codes "log") line)
 
 -- ---- the lines of the keys
@@ -132,63 +145,73 @@ bytes_found (Err e) = None
 abbrev pub bytes_in : List ℕ → Option (List ℕ)
 bytes_in text = bytes_found (decode_of text)
 
-abbrev pub counted : ℕ → Option (List ℕ) → Verdict (Unit {0})
+abbrev pub counted : ℕ → Option (List ℕ) → Verdict (List ℕ)
 counted count None = Err cause.Form
-counted count (Some bytes) = cond (length bytes == count) (Ok tt) (Err cause.Form)
+counted count (Some bytes) = cond (length bytes == count) (Ok bytes) (Err cause.Form)
 
 -- a word, and this many bytes in hexadecimal
-abbrev pub read_hex : List ℕ → ℕ → List (List ℕ) → Verdict (Unit {0})
+abbrev pub read_hex : List ℕ → ℕ → List (List ℕ) → Verdict (List ℕ)
 read_hex word count [] = Err cause.Form
 read_hex word count (w ∷ []) = Err cause.Form
 read_hex word count (w ∷ digits ∷ []) =
     cond (bytes_eq w word) (counted count (bytes_in digits)) (Err cause.Form)
 read_hex word count (w ∷ digits ∷ more ∷ parts) = Err cause.Form
 
-abbrev pub read_bytes : List ℕ → ℕ → Line → Verdict (Unit {0})
+abbrev pub read_bytes : List ℕ → ℕ → Line → Verdict (List ℕ)
 read_bytes word count line = read_hex word count (parts_of line)
 
-abbrev pub read_handle : Line → Verdict (Unit {0})
-read_handle line = read_bytes (codes "handle") 104 line
+-- the handle of these bytes: its number, two seeds, and the key
+abbrev pub handle_in : List ℕ → Handle
+handle_in bytes =
+    record {
+      id = from_be_bytes w64 (take 8 bytes);
+      seed1 = take 32 (drop 8 bytes);
+      seed2 = take 32 (drop 32 (drop 8 bytes));
+      key = drop 32 (drop 32 (drop 8 bytes));
+    }
 
-abbrev pub read_seed : Line → Verdict (Unit {0})
+abbrev pub read_handle : Line → Verdict Handle
+read_handle line = seen_as handle_in (read_bytes (codes "handle") 104 line)
+
+abbrev pub read_seed : Line → Verdict (List ℕ)
 read_seed line = read_bytes (codes "seed") 32 line
 
 -- ---- the lines of a tape
 
-abbrev pub in_piece : Option (List ℕ) → Verdict (Unit {0})
+abbrev pub in_piece : Option (List ℕ) → Verdict (List ℕ)
 in_piece None = Err cause.Form
-in_piece (Some bytes) = cond (is_between 1 2048 (length bytes)) (Ok tt) (Err cause.Form)
+in_piece (Some bytes) = cond (is_between 1 2048 (length bytes)) (Ok bytes) (Err cause.Form)
 
 -- bytes in hexadecimal
-abbrev pub read_digits : List (List ℕ) → Verdict (Unit {0})
+abbrev pub read_digits : List (List ℕ) → Verdict (List ℕ)
 read_digits [] = Err cause.Form
 read_digits (digits ∷ []) = in_piece (bytes_in digits)
 read_digits (digits ∷ more ∷ parts) = Err cause.Form
 
-abbrev pub repeats : ℕ → Verdict (Unit {0})
-repeats n = cond (is_between 1 2097152 n) (Ok tt) (Err (cause.Number n))
+abbrev pub repeats : ℕ → ℕ → Verdict (List ℕ)
+repeats b n = cond (is_between 1 2097152 n) (Ok (replicate n b)) (Err (cause.Number n))
 
-abbrev pub repeated : Option (List ℕ) → Option ℕ → Verdict (Unit {0})
+abbrev pub repeated : Option (List ℕ) → Option ℕ → Verdict (List ℕ)
 repeated None count = Err cause.Form
 repeated (Some []) count = Err cause.Form
 repeated (Some (b ∷ [])) None = Err cause.Form
-repeated (Some (b ∷ [])) (Some n) = repeats n
+repeated (Some (b ∷ [])) (Some n) = repeats b n
 repeated (Some (b ∷ more ∷ bytes)) count = Err cause.Form
 
 -- a byte, and how many times it is repeated
-abbrev pub read_fill : List (List ℕ) → Verdict (Unit {0})
+abbrev pub read_fill : List (List ℕ) → Verdict (List ℕ)
 read_fill [] = Err cause.Form
 read_fill (digits ∷ []) = Err cause.Form
 read_fill (digits ∷ n ∷ []) = repeated (bytes_in digits) (number_spelled n)
 read_fill (digits ∷ n ∷ more ∷ parts) = Err cause.Form
 
-abbrev pub piece_parts : List (List ℕ) → Verdict (Unit {0})
+abbrev pub piece_parts : List (List ℕ) → Verdict (List ℕ)
 piece_parts [] = Err cause.Form
 piece_parts (w ∷ parts) =
     cond (bytes_eq w (codes "x")) (read_digits parts)
     (cond (bytes_eq w (codes "fill")) (read_fill parts) (Err cause.Form))
 
-abbrev pub read_piece : Line → Verdict (Unit {0})
+abbrev pub read_piece : Line → Verdict (List ℕ)
 read_piece line = piece_parts (parts_of line)
 
 -- ---- the lines of the texts
@@ -215,32 +238,39 @@ out_of_range n phase tick log =
     (Some phase)
 
 -- a text that is too long for its room, else one that may not be sent
-abbrev pub in_room : ℕ → When → List ℕ → Verdict When
-in_room room when text =
+abbrev pub why_text : ℕ → List ℕ → Option Cause
+why_text room text =
     cond (nat_le (length text) room)
-    (cond (is_allowed text) (Ok when) (Err (cause.Text (allowed_front (length text) text))))
-    (Err (cause.Room room))
+    (cond (is_allowed text) None (Some (cause.Text (allowed_front (length text) text))))
+    (Some (cause.Room room))
 
 -- a number out of range, else a text said too early
-abbrev pub said_behind : Numbers → When → When → List ℕ → Option ℕ → Verdict When
-said_behind n last when text (Some k) = Err (cause.Number k)
-said_behind n last when text None =
-    cond (is_by last when) (in_room (n.block - 18) when text) (Err cause.Order)
+abbrev pub why_behind : Numbers → When → When → List ℕ → Option ℕ → Option Cause
+why_behind n last when text (Some k) = Some (cause.Number k)
+why_behind n last when text None =
+    cond (is_by last when) (why_text (n.block - 18) text) (Some cause.Order)
 
-abbrev pub said : Numbers → When → ℕ → ℕ → ℕ → List ℕ → Verdict When
-said n last phase tick log text =
-    said_behind n last (phase, tick) text (out_of_range n phase tick log)
+-- why a text may not be said in a phase, a tick and a log, behind one that is said at the last
+abbrev pub why_not : Numbers → When → ℕ → ℕ → ℕ → List ℕ → Option Cause
+why_not n last phase tick log text =
+    why_behind n last (phase, tick) text (out_of_range n phase tick log)
 
-abbrev pub say_numbers : Numbers → When → List ℕ → Option (List ℕ) → Verdict When
+abbrev pub said_unless : Option Cause → Say → Verdict Say
+said_unless None say = Ok say
+said_unless (Some c) say = Err c
+
+abbrev pub say_numbers : Numbers → When → List ℕ → Option (List ℕ) → Verdict Say
 say_numbers n last text None = Err cause.Form
 say_numbers n last text (Some []) = Err cause.Form
 say_numbers n last text (Some (phase ∷ [])) = Err cause.Form
 say_numbers n last text (Some (phase ∷ tick ∷ [])) = Err cause.Form
-say_numbers n last text (Some (phase ∷ tick ∷ log ∷ [])) = said n last phase tick log text
+say_numbers n last text (Some (phase ∷ tick ∷ log ∷ [])) =
+    said_unless (why_not n last phase tick log text)
+    (record { phase = phase; tick = tick; log = log; text = text })
 say_numbers n last text (Some (phase ∷ tick ∷ log ∷ more ∷ ns)) = Err cause.Form
 
 -- the text is all after the space that follows the log's number
-abbrev pub say_parts : Numbers → When → List (List ℕ) → Verdict When
+abbrev pub say_parts : Numbers → When → List (List ℕ) → Verdict Say
 say_parts n last [] = Err cause.Form
 say_parts n last (w ∷ []) = Err cause.Form
 say_parts n last (w ∷ p ∷ []) = Err cause.Form
@@ -251,14 +281,9 @@ say_parts n last (w ∷ p ∷ t ∷ g ∷ x ∷ parts) =
     (say_numbers n last (join_with_byte 0x20 (x ∷ parts)) (numbers_spelled (p ∷ t ∷ g ∷ [])))
     (Err cause.Form)
 
--- when the text of a line is said, behind one that is said at the last
-abbrev pub read_say : Numbers → When → Line → Verdict When
+-- the text of a line, behind one that is said at the last
+abbrev pub read_say : Numbers → When → Line → Verdict Say
 read_say n last line = say_parts n last (parts_of line)
-
--- why a text isn't said, if it isn't
-abbrev pub IsWhy : Option Cause → When → Verdict When → Type 0
-IsWhy None when said = said ≡ Ok when
-IsWhy (Some c) when said = said ≡ Err c
 
 -- ---- lines in a row
 
@@ -288,18 +313,21 @@ line_at read line (l ∷ ls) = taken line ls (read l)
 abbrev pub next_line : {X : Type 0} → (Line → Verdict X) → Place → Result (X × Place) Refusal
 next_line read p = line_at read p.line p.rest
 
--- the next count lines
-abbrev pub next_lines : ℕ → (Line → Verdict (Unit {0})) → Place → Result Place Refusal
-next_lines zero read p = Ok p
-next_lines (suc count) read p = next_line read p >>= λ x. next_lines count read x.1
+-- what the next count lines give, behind what was read before
+abbrev pub next_lines : {X : Type 0} → ℕ → (Line → Verdict X) → List X → Place →
+    Result (List X × Place) Refusal
+next_lines zero read before p = Ok (before, p)
+next_lines (suc count) read before p =
+    next_line read p >>= λ x. next_lines count read (before ++ x.0 ∷ []) x.1
 
--- lines up to an `end`, of which each may look at what the one before it gave
-abbrev pub to_end : {X : Type 0} → (X → Line → Verdict X) → X → ℕ → List Line → Result Place Refusal
-to_end read last line [] = Err (line, cause.Early)
-to_end {X} read last line (l ∷ ls) =
-    let on = λ (x : X × Place). to_end read x.0 (line + 1) ls in
-    cond (bytes_eq l (codes "end")) (Ok (record { line = line + 1; rest = ls }))
-    (taken line ls (read last l) >>= on)
+-- what the lines up to an `end` give, behind what was read before: each may look at all before it
+abbrev pub to_end : {X : Type 0} → (List X → Line → Verdict X) → List X → ℕ → List Line →
+    Result (List X × Place) Refusal
+to_end read before line [] = Err (line, cause.Early)
+to_end {X} read before line (l ∷ ls) =
+    let on = λ (x : X × Place). to_end read (before ++ x.0 ∷ []) (line + 1) ls in
+    cond (bytes_eq l (codes "end")) (Ok (before, record { line = line + 1; rest = ls }))
+    (taken line ls (read before l) >>= on)
 
 -- ---- sections
 
@@ -316,47 +344,86 @@ read_head p = do
   Ok (shape.0, kind.0, kind.1)
 
 -- the handles and the seeds of a keyed script
-unfoldable pub read_keys : Numbers → Bool → Place → Result Place Refusal
-read_keys n keyed p = do
-  handles ← next_lines (cond keyed n.logs 0) read_handle p
-  next_lines (cond keyed n.clients 0) read_seed handles
+unfoldable pub read_keys : Numbers → Bool → Place → Result (Option Keys × Place) Refusal
+read_keys n false p = Ok (None, p)
+read_keys n true p = do
+  handles ← next_lines n.logs read_handle [] p
+  seeds ← next_lines n.clients read_seed [] handles.1
+  Ok (Some (record { handles = handles.0; seeds = seeds.0 }), seeds.1)
 
--- a script, and whether it is keyed
-unfoldable pub read_script : Place → Result (Bool × Place) Refusal
+-- a text may be said no earlier than the last before it
+abbrev pub read_next_say : Numbers → List Say → Line → Verdict Say
+read_next_say n says line = read_say n (last_when says) line
+
+-- what the lines of a script say: its numbers, the keys of a keyed one, the roles and the texts
+pub record ScriptLines : Type 0 where
+  pub numbers : Numbers
+  pub keys : Option Keys
+  pub roles : List Role
+  pub says : List Say
+
+unfoldable pub read_script : Place → Result (ScriptLines × Place) Refusal
 read_script p = do
   head ← read_head p
-  roles ← next_lines head.0.logs (read_role head.0) head.2
-  keys ← read_keys head.0 head.1 roles
-  behind ← to_end (read_say head.0) (0, 0) keys.line keys.rest
-  Ok (head.1, behind)
+  roles ← next_lines head.0.logs (read_role head.0) [] head.2
+  keys ← read_keys head.0 head.1 roles.1
+  says ← to_end (read_next_say head.0) [] keys.1.line keys.1.rest
+  Ok (
+    record { numbers = head.0; keys = keys.0; roles = roles.0; says = says.0 },
+    says.1,
+  )
 
--- the lines of a tape, of which none looks at the one before it
-abbrev pub read_pieces : ℕ → List Line → Result Place Refusal
-read_pieces = to_end (λ (x : Unit {0}) l. read_piece l) tt
+-- the pieces of a tape, of which none looks at those before it
+abbrev pub read_next_piece : List (List ℕ) → Line → Verdict (List ℕ)
+read_next_piece pieces line = read_piece line
 
-unfoldable pub read_tape : Place → Result Place Refusal
-read_tape p = do
+abbrev pub read_pieces : List (List ℕ) → ℕ → List Line → Result (List (List ℕ) × Place) Refusal
+read_pieces = to_end read_next_piece
+
+-- what is kept of pieces of which so many bytes are wanted
+abbrev pub kept_behind : ℕ → List (List ℕ) × Place → Result (RawTape × Place) Refusal
+kept_behind want x = Ok (kept want (flat_map (λ piece. piece) x.0), x.1)
+
+abbrev pub read_kept : ℕ → ℕ → List Line → Result (RawTape × Place) Refusal
+read_kept want line lines = read_pieces [] line lines >>= kept_behind want
+
+unfoldable pub read_tape : ℕ → Place → Result (RawTape × Place) Refusal
+read_tape want p = do
   first ← next_line (read_words (codes "tape")) p
-  read_pieces first.1.line first.1.rest
-
--- the tape of a script that isn't keyed
-abbrev pub tape_unless : Bool → Place → Result Place Refusal
-tape_unless true p = Ok p
-tape_unless false p = read_tape p
+  read_kept want first.1.line first.1.rest
 
 -- nothing stands behind the last section
 abbrev pub no_line : ℕ → List Line → Result (Unit {0}) Refusal
 no_line line [] = Ok tt
 no_line line (l ∷ ls) = Err (line, cause.After)
 
--- what follows a script: the tape, and nothing more
-unfoldable pub read_end : Bool → Place → Result (Unit {0}) Refusal
-read_end keyed p = do
-  tape ← tape_unless keyed p
-  no_line tape.line tape.rest
+-- what follows a script: the tape of one that isn't keyed, and nothing more
+unfoldable pub read_end : Option Keys → ℕ → Place → Result (Option RawTape) Refusal
+read_end (Some keys) want p = do
+  none ← no_line p.line p.rest
+  Ok None
+read_end None want p = do
+  tape ← read_tape want p
+  none ← no_line tape.1.line tape.1.rest
+  Ok (Some tape.0)
 
--- the lines are an input, or else the first that is refused, with its cause
-unfoldable pub read_input : List Line → Result (Unit {0}) Refusal
+-- what the lines of an input say
+pub record InputLines : Type 0 where
+  pub first : ScriptLines
+  pub tape : Option RawTape
+
+-- what the lines of an input say, or else the first that is refused, with its cause
+unfoldable pub read_input : List Line → Result InputLines Refusal
 read_input lines = do
   script ← read_script (record { line = 1; rest = lines })
-  read_end script.0 script.1
+  tape ← read_end script.0.keys (tape_in script.0.numbers) script.1
+  Ok (record { first = script.0; tape = tape })
+
+-- ---- values and what their lines say
+
+abbrev pub script_lines : Script → ScriptLines
+script_lines S =
+    record { numbers = named S.shape; keys = S.keys; roles = S.roles; says = S.says }
+
+abbrev pub input_lines : Input → InputLines
+input_lines input = record { first = script_lines input.first; tape = input.tape }

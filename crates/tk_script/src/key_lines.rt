@@ -1,13 +1,7 @@
-ghost use Rattle.std.specs.Prelude.{◌≡◌, ◌++◌, List, is_some, IsTrue, Option, Some, Ok, length, ℕ, IfOk, IfSome};
+ghost use Rattle.std.specs.Prelude.{◌≡◌, [], List, Some, Ok, length, ℕ, IfSome};
 ghost use Rattle.hex.specs.Hex.{decode_of};
-ghost use Rattle.std.specs.List.{AllZip};
-ghost use Rattle.tk_handle.specs.declared.handle.Handle.{Handle};
-ghost use Rattle.tk_script.specs.declared.keys.Keys.{Keys};
-ghost use Rattle.tk_script.specs.Answer.{Gives, Agrees};
-ghost use Rattle.tk_script.specs.Grammar.{Line, lines_of, SpellsKeys};
-ghost use Rattle.tk_script.specs.KeyLines.{IsHandleLine, IsSeedLine};
+ghost use Rattle.tk_script.specs.Answer.{Agrees};
 ghost use Rattle.tk_script.specs.Reading.{IsTaken, named, next_lines, read_handle, read_keys, read_seed};
-ghost use Rattle.tk_script.specs.SoundScript.{has_keys};
 ghost use Rattle.tk_script.specs.Stands.{stands};
 
 use crate::fields::rest_behind;
@@ -25,15 +19,7 @@ pub(crate) fn keys_of<'a>(
     keyed: bool,
     start: Place<'a>,
 ) -> Result<(Option<Keys>, Place<'a>), ScriptError>
-    ensures found { IfOk result (λ x. (lines : List Line) × SpellsKeys lines x.0
-        × (lines_of start.entry.rest.now ≡ lines ++ lines_of x.1.rest.now)) }
-    ensures kind { IfOk result (λ x. is_some x.0 ≡ keyed) }
-    ensures counted { IfOk result (λ x. IsTrue (has_keys shape.now x.0)) }
-    ensures only { (keys : Option Keys) (lines behind : List Line) → SpellsKeys lines keys →
-        is_some keys ≡ keyed → IsTrue (has_keys shape.now keys) →
-        lines_of start.entry.rest.now ≡ lines ++ behind →
-        Gives result (λ x. (x.0 ≡ keys) × (lines_of x.1.rest.now ≡ behind)) }
-    ensures read { Agrees (λ x. stands x.1) result
+    ensures { Agrees (λ x. (x.0, stands x.1)) result
         (read_keys (named shape.now) keyed (stands start.entry)) }
 {
     if !keyed {
@@ -50,16 +36,8 @@ fn handles_of(
     logs: u32,
     start: Place<'_>,
 ) -> Result<(Handles, Place<'_>), ScriptError>
-    ensures found { IfOk result (λ x. (lines : List Line)
-        × AllZip IsHandleLine lines x.0
-        × (lines_of start.entry.rest.now ≡ lines ++ lines_of x.1.rest.now)) }
-    ensures counted { IfOk result (λ x. length x.0 ≡ logs) }
-    ensures only { (handles : List Handle) (lines behind : List Line) →
-        AllZip IsHandleLine lines handles → length handles ≡ logs →
-        lines_of start.entry.rest.now ≡ lines ++ behind →
-        Gives result (λ x. (x.0 ≡ handles) × (lines_of x.1.rest.now ≡ behind)) }
-    ensures read { Agrees (λ x. stands x.1) result
-        (next_lines logs read_handle (stands start.entry)) }
+    ensures { Agrees (λ x. (x.0, stands x.1)) result
+        (next_lines logs read_handle [] (stands start.entry)) }
 {
     let mut handles = Vec::new(alloc);
     let mut here = start;
@@ -80,16 +58,8 @@ fn seeds_of(
     clients: u32,
     start: Place<'_>,
 ) -> Result<(ClientSeeds, Place<'_>), ScriptError>
-    ensures found { IfOk result (λ x. (lines : List Line)
-        × AllZip IsSeedLine lines x.0
-        × (lines_of start.entry.rest.now ≡ lines ++ lines_of x.1.rest.now)) }
-    ensures counted { IfOk result (λ x. length x.0 ≡ clients) }
-    ensures only { (seeds : List (List ℕ)) (lines behind : List Line) →
-        AllZip IsSeedLine lines seeds → length seeds ≡ clients →
-        lines_of start.entry.rest.now ≡ lines ++ behind →
-        Gives result (λ x. (x.0 ≡ seeds) × (lines_of x.1.rest.now ≡ behind)) }
-    ensures read { Agrees (λ x. stands x.1) result
-        (next_lines clients read_seed (stands start.entry)) }
+    ensures { Agrees (λ x. (x.0, stands x.1)) result
+        (next_lines clients read_seed [] (stands start.entry)) }
 {
     let mut seeds = Vec::new(alloc);
     let mut here = start;
@@ -106,9 +76,7 @@ fn seeds_of(
 
 /// The handle that a line spells in 208 digits.
 fn handle_of(line: &[u8]) -> Option<Handle>
-    ensures found { IfSome result (IsHandleLine line.now) }
-    ensures only { (handle : Handle) → IsHandleLine line.now handle → result ≡ Some handle }
-    ensures read { IsTaken result (read_handle line.now) }
+    ensures { IsTaken result (read_handle line.now) }
 {
     let digits = rest_behind(line, b"handle ")?;
     let bytes = bytes_of::<104>(digits)?;
@@ -117,9 +85,7 @@ fn handle_of(line: &[u8]) -> Option<Handle>
 
 /// The seed that a line spells in 64 digits.
 fn seed_of(line: &[u8]) -> Option<[u8; 32]>
-    ensures found { IfSome result (IsSeedLine line.now) }
-    ensures only { (seed : List ℕ) → IsSeedLine line.now seed → result ≡ Some seed }
-    ensures read { IsTaken result (read_seed line.now) }
+    ensures { IsTaken result (read_seed line.now) }
 {
     let digits = rest_behind(line, b"seed ")?;
     bytes_of::<32>(digits)

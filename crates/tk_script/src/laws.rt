@@ -1,9 +1,11 @@
-ghost use Rattle.tk_script.specs.Laws.{SpellsOne};
+ghost use Rattle.tk_script.specs.Laws.{ReadsWhatIsSpelled, SpellsOne};
 ghost use Rattle.tk_script.specs.SentLaws.{SendsInRange, SendsOnce, FindsByNumber};
 
-/// A text spells one input at most: drawn or keyed, and of any shape.
+/// A text spells one input at most: drawn or keyed, and of any shape. Read line by line, as `parse` reads it, it gives
+/// that input and no other.
 pub fn one_input()
     ensures only { SpellsOne }
+    ensures read { ReadsWhatIsSpelled }
 {}
 
 /// No number of a log is sent twice. What a client sends in a turn is a number of a log that it writes, below the count

@@ -1,6 +1,5 @@
-ghost use Rattle.std.specs.Prelude.{◌≡◌, ◌++◌, ◌∷◌, ℕ, List, [], ◌-◌, ◌<◌, ◌≤◌, ◌^◌, codes, decimal, length, take, replicate, Some, Ok, IfOk, IfSome, IsOkAnd, IsSomeAnd, OnOk};
+ghost use Rattle.std.specs.Prelude.{◌≡◌, ◌++◌, ◌∷◌, ℕ, List, [], ◌-◌, length, take, replicate, Some, Ok, IfOk, IfSome, IsSomeAnd, OnOk};
 ghost use Rattle.hex.specs.Hex.{decode_of};
-ghost use Rattle.tk_script.specs.Grammar.{SpellsPiece};
 ghost use Rattle.tk_script.specs.Pieces.{piece_bytes};
 ghost use Rattle.tk_script.specs.Reading.{IsRead, parts_of, read_digits, read_fill, read_piece};
 
@@ -66,11 +65,7 @@ fn append_repeats(byte: u8, count: usize, kept: &mut Vec<u8>) -> Result<(), Memo
 
 /// The piece that a line spells: `x` and an even number of digits, or `fill`, two digits and a number.
 pub(crate) fn piece_of(alloc: Global, line: &[u8]) -> Result<Result<Piece, Cause>, Memory>
-    ensures found { IfOk result (λ r. IfOk r (λ piece.
-        SpellsPiece line.now (piece_bytes piece))) }
-    ensures only { (bytes : List ℕ) → SpellsPiece line.now bytes →
-        IfOk result (λ r. IsOkAnd r (λ piece. piece_bytes piece ≡ bytes)) }
-    ensures read { IfOk result (λ r. IsRead (λ piece. tt) r (read_piece line.now)) }
+    ensures { IfOk result (λ r. IsRead piece_bytes r (read_piece line.now)) }
 {
     if let Some(digits) = rest_behind(line, b"x ") {
         return bytes_piece(alloc, digits);
@@ -83,15 +78,7 @@ pub(crate) fn piece_of(alloc: Global, line: &[u8]) -> Result<Result<Piece, Cause
 
 /// The piece that digits are: an even number of them, for 1 to 2,048 bytes.
 fn bytes_piece(alloc: Global, digits: &[u8]) -> Result<Result<Piece, Cause>, Memory>
-    ensures decoded { IfOk result (λ r. IfOk r (λ piece.
-        decode_of digits.now ≡ Ok (piece_bytes piece))) }
-    ensures low { IfOk result (λ r. IfOk r (λ piece. 1 ≤ length (piece_bytes piece))) }
-    ensures high { IfOk result (λ r. IfOk r (λ piece. length (piece_bytes piece) ≤ 2048)) }
-    ensures only { (bytes : List ℕ) → decode_of digits.now ≡ Ok bytes → 1 ≤ length bytes →
-        length bytes ≤ 2048 →
-        IfOk result (λ r. IsOkAnd r (λ piece. piece_bytes piece ≡ bytes)) }
-    ensures read { IfOk result (λ r.
-        IsRead (λ piece. tt) r (read_digits (parts_of digits.now))) }
+    ensures { IfOk result (λ r. IsRead piece_bytes r (read_digits (parts_of digits.now))) }
 {
     let count = digits.len() / 2;
     if count < 1 || count > MOST_BYTES {
@@ -106,13 +93,7 @@ fn bytes_piece(alloc: Global, digits: &[u8]) -> Result<Result<Piece, Cause>, Mem
 
 /// The piece of the two digits of a byte and, behind a space, how many times it is repeated: 1 to 2,097,152 times.
 fn fill_piece(text: &[u8]) -> Result<Piece, Cause>
-    ensures found { IfOk result (λ piece. (b : ℕ) × (digits : List ℕ) × (n : ℕ)
-        × (text.now ≡ digits ++ 0x20 ∷ decimal n) × (decode_of digits ≡ Ok (b ∷ []))
-        × (1 ≤ n) × (n ≤ 2097152) × (piece_bytes piece ≡ replicate n b)) }
-    ensures only { (b n : ℕ) (digits : List ℕ) → text.now ≡ digits ++ 0x20 ∷ decimal n →
-        decode_of digits ≡ Ok (b ∷ []) → 1 ≤ n → n ≤ 2097152 →
-        IsOkAnd result (λ piece. piece_bytes piece ≡ replicate n b) }
-    ensures read { IsRead (λ piece. tt) result (read_fill (parts_of text.now)) }
+    ensures { IsRead piece_bytes result (read_fill (parts_of text.now)) }
 {
     let Some((byte, rest)) = byte_of(text) else {
         return Err(Cause::Form);

@@ -1,4 +1,4 @@
-ghost use Rattle.std.specs.Prelude.{◌≡◌, ◌+◌, ◌<◌, ◌^◌, ◌∷◌, [], length, IfOk, IfErr, List};
+ghost use Rattle.std.specs.Prelude.{◌≡◌, ◌+◌, ◌<◌, ◌^◌, ◌∷◌, [], length, IfOk, IfErr};
 
 use crate::lines::next_line;
 use crate::{Cause, ScriptError};
@@ -14,8 +14,8 @@ pub(crate) struct Place<'a> {
 impl<'a> Place<'a> {
     ghost use Rattle.tk_script.specs.declared.cause.Cause.TheVariants as cause;
     ghost use Rattle.tk_script.specs.declared.error.ScriptError.TheVariants as error;
-    ghost use Rattle.tk_script.specs.Answer.{Gives, Agrees};
-    ghost use Rattle.tk_script.specs.Grammar.{Line, lines_of};
+    ghost use Rattle.tk_script.specs.Answer.{Agrees};
+    ghost use Rattle.tk_script.specs.Grammar.{lines_of};
     ghost use Rattle.tk_script.specs.Reading.{next_line, no_line, read_words};
     ghost use Rattle.tk_script.specs.Stands.{stands};
 
@@ -63,11 +63,7 @@ impl<'a> Place<'a> {
 
     /// The place behind a line that reads so.
     pub(crate) fn behind(self, words: &[u8]) -> Result<Place<'a>, ScriptError>
-        ensures found { IfOk result (λ x.
-            lines_of self.entry.rest.now ≡ words.now ∷ lines_of x.rest.now) }
-        ensures only { (behind : List Line) → lines_of self.entry.rest.now ≡ words.now ∷ behind →
-            Gives result (λ x. lines_of x.rest.now ≡ behind) }
-        ensures read { Agrees (λ x. (tt, stands x)) result
+        ensures { Agrees (λ x. (tt, stands x)) result
             (next_line (read_words words.now) (stands self.entry)) }
     {
         let (line, behind) = self.next()?;
@@ -79,9 +75,7 @@ impl<'a> Place<'a> {
 
     /// That nothing stands here.
     pub(crate) fn no_line(self) -> Result<(), ScriptError>
-        ensures found { IfOk result (λ x. lines_of self.entry.rest.now ≡ []) }
-        ensures only { lines_of self.entry.rest.now ≡ [] → Gives result (λ x. Unit {0}) }
-        ensures read { Agrees (λ x. tt) result
+        ensures { Agrees (λ x. tt) result
             (no_line self.entry.line (lines_of self.entry.rest.now)) }
     {
         if !self.rest.is_empty() {

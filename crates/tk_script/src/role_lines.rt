@@ -1,10 +1,8 @@
-ghost use Rattle.std.specs.Prelude.{◌≡◌, ◌∷◌, ◌++◌, List, map, IsTrue, Some, Ok, IfOk, length};
-ghost use Rattle.std.specs.List.{list_all};
+ghost use Rattle.std.specs.Prelude.{◌≡◌, [], Some, IfOk};
 ghost use Rattle.std.specs.Option.{option_copied};
-ghost use Rattle.tk_script.specs.Answer.{Gives, Agrees};
-ghost use Rattle.tk_script.specs.Grammar.{Line, lines_of, role_line};
-ghost use Rattle.tk_script.specs.Reading.{IsRead, named, next_lines, read_clients, read_role, first_from};
-ghost use Rattle.tk_script.specs.SoundScript.{is_role, is_ascending};
+ghost use Rattle.tk_script.specs.Answer.{Agrees};
+ghost use Rattle.tk_script.specs.Reading.{named, next_lines, read_clients, read_role, first_from};
+ghost use Rattle.tk_script.specs.SoundScript.{is_ascending};
 ghost use Rattle.tk_script.specs.Stands.{stands};
 
 use crate::fields::numbers_behind;
@@ -19,16 +17,8 @@ pub(crate) fn roles_of<'a>(
     shape: &Shape,
     start: Place<'a>,
 ) -> Result<(Roles, Place<'a>), ScriptError>
-    ensures found { IfOk result (λ x.
-        lines_of start.entry.rest.now ≡ map role_line x.0 ++ lines_of x.1.rest.now) }
-    ensures counted { IfOk result (λ x. length x.0 ≡ shape.now.logs) }
-    ensures sound { IfOk result (λ x. IsTrue (list_all (is_role shape.now) x.0)) }
-    ensures only { (roles : List Role) (behind : List Line) →
-        lines_of start.entry.rest.now ≡ map role_line roles ++ behind →
-        length roles ≡ shape.now.logs → IsTrue (list_all (is_role shape.now) roles) →
-        Gives result (λ x. (x.0 ≡ roles) × (lines_of x.1.rest.now ≡ behind)) }
-    ensures read { Agrees (λ x. stands x.1) result
-        (next_lines shape.now.logs (read_role (named shape.now)) (stands start.entry)) }
+    ensures { Agrees (λ x. (x.0, stands x.1)) result
+        (next_lines shape.now.logs (read_role (named shape.now)) [] (stands start.entry)) }
 {
     let mut roles = Vec::new(alloc);
     let mut here = start;
@@ -46,12 +36,7 @@ pub(crate) fn roles_of<'a>(
 
 /// The role that a line spells: the writer, and followers in ascending order.
 fn role_of(alloc: Global, shape: &Shape, line: &[u8]) -> Result<Result<Role, Cause>, Memory>
-    ensures found { IfOk result (λ r. IfOk r (λ role. line.now ≡ role_line role)) }
-    ensures sound { IfOk result (λ r. IfOk r (λ role. IsTrue (is_role shape.now role))) }
-    ensures only { (role : Role) → line.now ≡ role_line role → IsTrue (is_role shape.now role) →
-        IfOk result (λ r. r ≡ Ok role) }
-    ensures read { IfOk result (λ r.
-        IsRead (λ role. tt) r (read_role (named shape.now) line.now)) }
+    ensures { IfOk result (λ r. r ≡ read_role (named shape.now) line.now) }
 {
     let Some(numbers) = numbers_behind(alloc, b"log", line)? else {
         return Ok(Err(Cause::Form));
@@ -61,13 +46,7 @@ fn role_of(alloc: Global, shape: &Shape, line: &[u8]) -> Result<Result<Role, Cau
 
 /// The role of a writer and followers.
 fn role_from(alloc: Global, shape: &Shape, numbers: &[u32]) -> Result<Result<Role, Cause>, Memory>
-    ensures found { IfOk result (λ r. IfOk r (λ role.
-        numbers.now ≡ role.writer ∷ role.followers)) }
-    ensures sound { IfOk result (λ r. IfOk r (λ role. IsTrue (is_role shape.now role))) }
-    ensures only { (role : Role) → numbers.now ≡ role.writer ∷ role.followers →
-        IsTrue (is_role shape.now role) → IfOk result (λ r. r ≡ Ok role) }
-    ensures read { IfOk result (λ r.
-        IsRead (λ role. tt) r (read_clients (named shape.now) (Some numbers.now))) }
+    ensures { IfOk result (λ r. r ≡ read_clients (named shape.now) (Some numbers.now)) }
 {
     let [writer, followers @ ..] = numbers else {
         return Ok(Err(Cause::Form));

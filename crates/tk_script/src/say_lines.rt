@@ -1,9 +1,7 @@
-ghost use Rattle.std.specs.Prelude.{◌≡◌, ◌<◌, ◌^◌, ◌∷◌, ◌++◌, ℕ, List, [], map, codes, IsTrue, Ok, IfOk, IfSome, IsSomeAnd};
-ghost use Rattle.std.specs.List.{list_all};
-ghost use Rattle.tk_script.specs.Answer.{Gives, Agrees};
-ghost use Rattle.tk_script.specs.Grammar.{Line, lines_of, say_line};
-ghost use Rattle.tk_script.specs.Reading.{IsRead, IsWhy, is_by, last_when, named, out_of_range, read_say, said, to_end};
-ghost use Rattle.tk_script.specs.SoundScript.{is_say, are_in_order};
+ghost use Rattle.std.specs.Prelude.{◌≡◌, ◌<◌, ◌^◌, ℕ, List, [], IfOk, IfSome, IsSomeAnd};
+ghost use Rattle.tk_script.specs.Answer.{Agrees};
+ghost use Rattle.tk_script.specs.Grammar.{lines_of, say_line};
+ghost use Rattle.tk_script.specs.Reading.{is_by, last_when, named, out_of_range, read_next_say, read_say, to_end, why_not};
 ghost use Rattle.tk_script.specs.Stands.{stands};
 
 use crate::fields::{next_number, rest_behind};
@@ -20,16 +18,8 @@ pub(crate) fn says_of<'a>(
     shape: &Shape,
     start: Place<'a>,
 ) -> Result<(Says, Place<'a>), ScriptError>
-    ensures found { IfOk result (λ x.
-        lines_of start.entry.rest.now ≡ map say_line x.0 ++ codes "end" ∷ lines_of x.1.rest.now) }
-    ensures sound { IfOk result (λ x. IsTrue (list_all (is_say shape.now) x.0)) }
-    ensures ordered { IfOk result (λ x. IsTrue (are_in_order x.0)) }
-    ensures only { (says : List Say) (behind : List Line) →
-        lines_of start.entry.rest.now ≡ map say_line says ++ codes "end" ∷ behind →
-        IsTrue (list_all (is_say shape.now) says) → IsTrue (are_in_order says) →
-        Gives result (λ x. (x.0 ≡ says) × (lines_of x.1.rest.now ≡ behind)) }
-    ensures read { Agrees (λ x. stands x.1) result
-        (to_end (read_say (named shape.now)) (0, 0) start.entry.line
+    ensures { Agrees (λ x. (x.0, stands x.1)) result
+        (to_end (read_next_say (named shape.now)) [] start.entry.line
         (lines_of start.entry.rest.now)) }
 {
     let mut says = Vec::new(alloc);
@@ -67,13 +57,7 @@ fn say_of(
     last: (u32, u32),
     line: &[u8],
 ) -> Result<Result<Say, Cause>, Memory>
-    ensures found { IfOk result (λ r. IfOk r (λ say. line.now ≡ say_line say)) }
-    ensures sound { IfOk result (λ r. IfOk r (λ say. IsTrue (is_say shape.now say))) }
-    ensures behind { IfOk result (λ r. IfOk r (λ say. IsTrue (is_by last (say.phase, say.tick)))) }
-    ensures only { (say : Say) → line.now ≡ say_line say → IsTrue (is_say shape.now say) →
-        IsTrue (is_by last (say.phase, say.tick)) → IfOk result (λ r. r ≡ Ok say) }
-    ensures read { IfOk result (λ r.
-        IsRead (λ say. (say.phase, say.tick)) r (read_say (named shape.now) last line.now)) }
+    ensures { IfOk result (λ r. r ≡ read_say (named shape.now) last line.now) }
 {
     let Some((phase, tick, log, text)) = fields_of(line) else {
         return Ok(Err(Cause::Form));
@@ -116,7 +100,7 @@ fn why_not(
     log: u32,
     text: &[u8],
 ) -> Option<Cause>
-    ensures { IsWhy result when (said (named shape.now) last when.0 when.1 log text.now) }
+    ensures { result ≡ why_not (named shape.now) last when.0 when.1 log text.now }
 {
     if let Some(value) = out_of_range(shape, when, log) {
         return Some(Cause::Number { value });

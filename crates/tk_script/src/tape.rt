@@ -1,8 +1,6 @@
-ghost use Rattle.std.specs.Prelude.{◌≡◌, ◌-◌, ◌^◌, ℕ, List, min, take, length, IfOk};
-ghost use Rattle.tk_script.specs.Answer.{Gives, Agrees};
-ghost use Rattle.tk_script.specs.Grammar.{Line, lines_of, BeginsWithTape};
-ghost use Rattle.tk_script.specs.Pieces.{BeginsWithPieces};
-ghost use Rattle.tk_script.specs.Reading.{read_pieces, read_tape};
+ghost use Rattle.tk_script.specs.Answer.{Agrees};
+ghost use Rattle.tk_script.specs.Grammar.{lines_of};
+ghost use Rattle.tk_script.specs.Reading.{read_kept, read_tape};
 ghost use Rattle.tk_script.specs.Stands.{stands};
 
 use crate::lines::is_end;
@@ -19,14 +17,7 @@ pub(crate) fn tape_of(
     want: usize,
     start: Place<'_>,
 ) -> Result<(RawTape, Place<'_>), ScriptError>
-    ensures found { IfOk result (λ x. (bytes : List ℕ)
-        × BeginsWithTape (lines_of start.entry.rest.now) bytes (lines_of x.1.rest.now)
-        × (x.0.bytes ≡ take want bytes) × (x.0.got ≡ min (length bytes) (2 ^ 64 - 1))) }
-    ensures only { (bytes : List ℕ) (behind : List Line) →
-        BeginsWithTape (lines_of start.entry.rest.now) bytes behind →
-        Gives result (λ x. (x.0.bytes ≡ take want bytes)
-        × (x.0.got ≡ min (length bytes) (2 ^ 64 - 1)) × (lines_of x.1.rest.now ≡ behind)) }
-    ensures read { Agrees (λ x. stands x.1) result (read_tape (stands start.entry)) }
+    ensures { Agrees (λ x. (x.0, stands x.1)) result (read_tape want (stands start.entry)) }
 {
     let here = start.behind(b"tape")?;
     pieces_of(alloc, want, here)
@@ -38,15 +29,8 @@ fn pieces_of(
     want: usize,
     start: Place<'_>,
 ) -> Result<(RawTape, Place<'_>), ScriptError>
-    ensures found { IfOk result (λ x. (bytes : List ℕ)
-        × BeginsWithPieces (lines_of start.entry.rest.now) bytes (lines_of x.1.rest.now)
-        × (x.0.bytes ≡ take want bytes) × (x.0.got ≡ min (length bytes) (2 ^ 64 - 1))) }
-    ensures only { (bytes : List ℕ) (behind : List Line) →
-        BeginsWithPieces (lines_of start.entry.rest.now) bytes behind →
-        Gives result (λ x. (x.0.bytes ≡ take want bytes)
-        × (x.0.got ≡ min (length bytes) (2 ^ 64 - 1)) × (lines_of x.1.rest.now ≡ behind)) }
-    ensures read { Agrees (λ x. stands x.1) result
-        (read_pieces start.entry.line (lines_of start.entry.rest.now)) }
+    ensures { Agrees (λ x. (x.0, stands x.1)) result
+        (read_kept want start.entry.line (lines_of start.entry.rest.now)) }
 {
     let mut kept = Vec::new(alloc);
     let mut got = 0u64;

@@ -3,37 +3,22 @@ use Rattle.std.proofs.Common.{◌≡◌, ◌∙◌, ◌∷◌, codes, map, decim
 use Rattle.std.specs.Prelude.{IfOk}
 use Rattle.std.specs.List.{AllByRecursion}
 use Rattle.tk_script.specs.Grammar.{fields}
-use Rattle.tk_script.specs.Reading.{IsRead, named, read_clients}
+use Rattle.tk_script.specs.Reading.{named, read_clients}
 use Rattle.tk_script.proofs.CauseLaws.{lacks_by_test}
 use Rattle.tk_script.proofs.FieldLaws.{IsWord}
-use Rattle.tk_script.proofs.OptionLaws.{never, the_some, if_some}
+use Rattle.tk_script.proofs.OptionLaws.{never, if_some}
 use Rattle.tk_script.proofs.PartLaws.{numbers_after-none, numbers_after-some}
-use Rattle.tk_script.proofs.RoleLaws.{role_words}
 use Rattle.tk_script.proofs.role_lines.role_of.Goals as goal
 
-pub returns-in_default-clause-only : goal.returns-in_default-clause-only
-returns-in_default-clause-only c role e sound =
-    let numbers = role.writer ∷ role.followers in
-    absurd (never c.in_ok-numbers.field-0 (λ v. v.items ≡ numbers) c.in_default.is
-    (c.in_ok-numbers.ensures.only numbers (role_words c.args.shape.now role sound) e))
-
-pub returns-in_default-clause-read : goal.returns-in_default-clause-read
-returns-in_default-clause-read c =
-    ap (read_clients (named c.args.shape.now)) (numbers_after-none (codes "log") c.args.line.now
+pub returns-in_default : goal.returns-in_default
+returns-in_default c =
+    sym (ap (read_clients (named c.args.shape.now))
+    (numbers_after-none (codes "log") c.args.line.now
     (λ ns words e. never c.in_ok-numbers.field-0 (λ v. v.items ≡ ns) c.in_default.is
-    (c.in_ok-numbers.ensures.only ns words e)))
+    (c.in_ok-numbers.ensures.only ns words e))))
 
-pub returns-clause-only : goal.returns-clause-only
-returns-clause-only c role e sound =
-    let numbers = role.writer ∷ role.followers in
-    let read = the_some c.in_ok-numbers.field-0 (λ v. v.items ≡ numbers) c.in-Some.numbers
-    c.in-Some.is
-    (c.in_ok-numbers.ensures.only numbers (role_words c.args.shape.now role sound) e)
-    in
-    c.role_from.ensures.only role (c.as_slice.ensures.value ∙ read) sound
-
-pub returns-clause-read : goal.returns-clause-read
-returns-clause-read c =
+pub returns : goal.returns
+returns c =
     let found = if_some c.in_ok-numbers.field-0
     (λ v. c.args.line.now ≡ fields (codes "log" ∷ map decimal v.items)) c.in-Some.numbers
     c.in-Some.is c.in_ok-numbers.ensures.found
@@ -45,6 +30,5 @@ returns-clause-read c =
     (lacks_by_test (codes "log") refl) words found
     ∙ ap Some (sym c.as_slice.ensures.value)
     in
-    subst (λ o. IfOk c.role_from.result (λ r.
-    IsRead (λ role. tt) r (read_clients (named c.args.shape.now) o))) (sym numbers)
-    c.role_from.ensures.read
+    subst (λ o. IfOk c.role_from.result (λ r. r ≡ read_clients (named c.args.shape.now) o))
+    (sym numbers) c.role_from.ensures

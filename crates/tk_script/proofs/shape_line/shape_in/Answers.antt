@@ -1,37 +1,22 @@
 -- A shape's line is the word and its numbers.
 use Rattle.std.proofs.Common.{◌≡◌, ◌∙◌, ◌∷◌, codes, map, decimal, Some, ap, sym, subst, refl}
 use Rattle.std.specs.List.{AllByRecursion}
-use Rattle.tk_shape.specs.Numbers.{numbers_of}
 use Rattle.tk_script.specs.Grammar.{fields}
 use Rattle.tk_script.specs.Reading.{IsRead, named, read_numbers}
 use Rattle.tk_script.proofs.CauseLaws.{lacks_by_test}
 use Rattle.tk_script.proofs.FieldLaws.{IsWord}
-use Rattle.tk_script.proofs.OptionLaws.{never, the_some, if_some}
+use Rattle.tk_script.proofs.OptionLaws.{never, if_some}
 use Rattle.tk_script.proofs.PartLaws.{numbers_after-none, numbers_after-some}
-use Rattle.tk_script.proofs.ShapeLaws.{numbers_are_words}
 use Rattle.tk_script.proofs.shape_line.shape_in.Goals as goal
 
-pub returns-in_default-clause-only : goal.returns-in_default-clause-only
-returns-in_default-clause-only c shape e =
-    absurd (never c.in_ok-numbers.field-0 (λ v. v.items ≡ numbers_of shape) c.in_default.is
-    (c.in_ok-numbers.ensures.only (numbers_of shape) (numbers_are_words shape) e))
-
-pub returns-in_default-clause-read : goal.returns-in_default-clause-read
-returns-in_default-clause-read c =
+pub returns-in_default : goal.returns-in_default
+returns-in_default c =
     ap read_numbers (numbers_after-none (codes "shape") c.args.line.now
     (λ ns words e. never c.in_ok-numbers.field-0 (λ v. v.items ≡ ns) c.in_default.is
     (c.in_ok-numbers.ensures.only ns words e)))
 
-pub returns-clause-only : goal.returns-clause-only
-returns-clause-only c shape e =
-    let read = the_some c.in_ok-numbers.field-0 (λ v. v.items ≡ numbers_of shape) c.in-Some.numbers
-    c.in-Some.is
-    (c.in_ok-numbers.ensures.only (numbers_of shape) (numbers_are_words shape) e)
-    in
-    c.shape_from.ensures.only shape (sym (c.as_slice.ensures.value ∙ read))
-
-pub returns-clause-read : goal.returns-clause-read
-returns-clause-read c =
+pub returns : goal.returns
+returns c =
     let found = if_some c.in_ok-numbers.field-0
     (λ v. c.args.line.now ≡ fields (codes "shape" ∷ map decimal v.items)) c.in-Some.numbers
     c.in-Some.is c.in_ok-numbers.ensures.found
@@ -44,4 +29,4 @@ returns-clause-read c =
     ∙ ap Some (sym c.as_slice.ensures.value)
     in
     subst (λ o. IsRead named c.shape_from.result (read_numbers o)) (sym numbers)
-    c.shape_from.ensures.read
+    c.shape_from.ensures

@@ -1,101 +1,89 @@
--- Each line is its piece's alone, up to the one that ends them.
-use Rattle.std.proofs.Common.{◌≡◌, ◌∙◌, ◌∷◌, ◌++◌, ◌+◌, ◌-◌, ◌^◌, codes, length, take, min, ap, rules}
-use Rattle.std.specs.Prelude.{IsErr}
-use Rattle.tk_script.specs.Grammar.{lines_of, SpellsPiece}
+-- Each line is its piece, up to the one that ends them.
+use Rattle.std.proofs.Common.{◌≡◌, ◌++◌, ◌+◌, ◌-◌, ◌^◌, Err, codes, length, take, min, refl, rules}
+use Rattle.tk_script.specs.declared.cause.Cause.TheVariants as cause
+use Rattle.tk_script.specs.Grammar.{lines_of}
 use Rattle.tk_script.specs.Pieces.{piece_bytes}
-use Rattle.tk_script.specs.Reading.{read_piece}
+use Rattle.tk_script.specs.Reading.{read_kept, read_next_piece, read_piece}
 use Rattle.tk_script.specs.Stands.{stands}
-use Rattle.tk_script.proofs.OptionLaws.{if_ok, the_ok, never_ok}
-use Rattle.tk_script.proofs.PieceLaws.{pieces-more, pieces-end_early, pieces-stuck, pieces-done}
-use Rattle.tk_script.proofs.PlaceLaws.{end_more, read_ok}
+use Rattle.tk_script.proofs.AnswerLaws.{refused_as, told_refused}
+use Rattle.tk_script.proofs.PlaceLaws.{end_early, end_here, end_refused, read_ok, read_err}
+use Rattle.tk_script.proofs.TapeSoFar.{so_far_refused, so_far_done, so_far_more}
 use Rattle.tk_script.proofs.tape.pieces_of.Goals as goal
 
-pub returns-in_err-line-clause-only : goal.returns-in_err-line-clause-only
-returns-in_err-line-clause-only c bytes behind b =
-    absurd (pieces-end_early c.args.want (lines_of c.args.start.rest.now) c.pieces.kept.items
-    c.pieces.got
-    (lines_of c.pieces.here.rest.now) c.pieces.invariant.reads
-    c.in_err-line.ensures.none bytes behind b)
+pub returns-in_err-line : goal.returns-in_err-line
+returns-in_err-line c =
+    let out : c.from_residual.result ≡ Err c.in_err-line.field-0.0 = search rules in
+    let s = c.pieces.invariant.so_far in
+    told_refused c.from_residual.result c.in_err-line.field-0.0 (λ x. (x.0, stands x.1))
+    (read_kept c.args.want c.args.start.line (lines_of c.args.start.rest.now))
+    c.pieces.here.line cause.Early out c.in_err-line.ensures.early
+    (so_far_refused c.args.want (stands c.args.start) (stands c.pieces.here) c.pieces.kept.items
+    c.pieces.got s c.pieces.here.line cause.Early
+    (end_early read_next_piece s.parts (stands c.pieces.here) c.in_err-line.ensures.none))
 
-pub returns-then-is_end-clause-only : goal.returns-then-is_end-clause-only
-returns-then-is_end-clause-only c bytes behind b =
+pub returns-then-is_end : goal.returns-then-is_end
+returns-then-is_end c =
     let end : c.in_ok-line.line.now ≡ codes "end" = search rules in
-    let done = pieces-done c.args.want (lines_of c.args.start.rest.now) c.pieces.kept.items
-    c.pieces.got
-    (lines_of c.pieces.here.rest.now) c.pieces.invariant.reads
-    (lines_of c.in_ok-line.behind.rest.now) (c.in_ok-line.ensures.line
-    ∙ ap (λ l. l ∷ lines_of c.in_ok-line.behind.rest.now) end) bytes behind b
-    in
-    (c.from_vec-bytes.ensures ∙ done.0, done.1, done.2)
+    let s = c.pieces.invariant.so_far in
+    so_far_done c.args.want (stands c.args.start) (stands c.pieces.here) c.pieces.kept.items
+    c.pieces.got s (stands c.in_ok-line.behind)
+    (record { bytes = c.from_vec-bytes.result; got = c.pieces.got })
+    (end_here read_next_piece s.parts (stands c.pieces.here) c.in_ok-line.line.now
+    (stands c.in_ok-line.behind)
+    (record { number = c.in_ok-line.ensures.number; lines = c.in_ok-line.ensures.line }) end
+    s.parts refl)
+    c.from_vec-bytes.ensures refl
 
-pub returns-in-Err-clause-only : goal.returns-in-Err-clause-only
-returns-in-Err-clause-only c bytes behind b =
-    let refused : IsErr c.in_ok-piece.field-0 = search rules in
+pub returns-in-Err : goal.returns-in-Err
+returns-in-Err c =
     let other : c.in_ok-line.line.now ≡ codes "end" → ⊥ = search rules in
-    absurd (pieces-stuck c.args.want (lines_of c.args.start.rest.now) c.pieces.kept.items
-    c.pieces.got
-    (lines_of c.pieces.here.rest.now) c.pieces.invariant.reads
-    c.in_ok-line.line.now (lines_of c.in_ok-line.behind.rest.now) c.in_ok-line.ensures.line other
-    (λ y here. never_ok c.in_ok-piece.field-0 (λ p. piece_bytes p ≡ y) refused
-    (c.in_ok-piece.ensures.only y here))
-    bytes behind b)
+    let s = c.pieces.invariant.so_far in
+    refused_as c.refused.result c.pieces.here.line c.in-Err.cause
+    (read_kept c.args.want c.args.start.line (lines_of c.args.start.rest.now)) c.refused.ensures
+    (so_far_refused c.args.want (stands c.args.start) (stands c.pieces.here) c.pieces.kept.items
+    c.pieces.got s c.pieces.here.line c.in-Err.cause
+    (end_refused read_next_piece s.parts (stands c.pieces.here) c.in_ok-line.line.now
+    (stands c.in_ok-line.behind) c.in-Err.cause
+    (record { number = c.in_ok-line.ensures.number; lines = c.in_ok-line.ensures.line }) other
+    (read_err piece_bytes c.in_ok-piece.field-0 c.in-Err.cause (read_piece c.in_ok-line.line.now)
+    c.in-Err.is c.in_ok-piece.ensures)))
 
 pub pieces-preserved : goal.pieces-preserved
 pieces-preserved c =
     let other : c.in_ok-line.line.now ≡ codes "end" → ⊥ = search rules in
-    let bytes = piece_bytes c.in-Ok.piece in
     let keeps : c.append_to.new.kept.items ≡ c.pieces.kept.items ++ take
     (c.args.want - length c.pieces.kept.items) (piece_bytes c.in-Ok.piece)
     = search rules
     in
     let counts : c.saturating_add-got.result ≡ min (c.pieces.got + length
     (piece_bytes c.in-Ok.piece)) (2 ^ 64 - 1) = search rules in
-    let reads = pieces-more c.args.want (lines_of c.args.start.rest.now) c.pieces.kept.items
-    c.pieces.got
-    (lines_of c.pieces.here.rest.now) c.pieces.invariant.reads
-    c.in_ok-line.line.now (lines_of c.in_ok-line.behind.rest.now) bytes c.append_to.new.kept.items
-    c.saturating_add-got.result c.in_ok-line.ensures.line other
-    (if_ok c.in_ok-piece.field-0 (λ p. SpellsPiece c.in_ok-line.line.now (piece_bytes p))
-    c.in-Ok.piece c.in-Ok.is c.in_ok-piece.ensures.found)
-    (λ y here. the_ok c.in_ok-piece.field-0 (λ p. piece_bytes p ≡ y) c.in-Ok.piece
-    c.in-Ok.is (c.in_ok-piece.ensures.only y here))
+    let more = so_far_more c.args.want (stands c.args.start) (stands c.pieces.here)
+    c.pieces.kept.items c.pieces.got c.pieces.invariant.so_far c.in_ok-line.line.now
+    (stands c.in_ok-line.behind) (piece_bytes c.in-Ok.piece) c.append_to.new.kept.items
+    c.saturating_add-got.result
+    (record { number = c.in_ok-line.ensures.number; lines = c.in_ok-line.ensures.line }) other
+    (read_ok piece_bytes c.in_ok-piece.field-0 c.in-Ok.piece (read_piece c.in_ok-line.line.now)
+    c.in-Ok.is c.in_ok-piece.ensures)
     keeps counts
     in
-    let said = c.pieces.invariant.said
-    ∙ end_more (λ (x : Unit {0}) l. read_piece l) tt (stands c.pieces.here) c.in_ok-line.line.now
-    (stands c.in_ok-line.behind) tt
-    (record { number = c.in_ok-line.ensures.number; lines = c.in_ok-line.ensures.line }) other
-    (read_ok (λ piece. tt) c.in_ok-piece.field-0 c.in-Ok.piece (read_piece c.in_ok-line.line.now)
-    c.in-Ok.is c.in_ok-piece.ensures.read)
-    in
-    record { reads = reads; said = said }
+    record { so_far = more }
 
 pub pieces-preserved-in_ok-append_to : goal.pieces-preserved-in_ok-append_to
 pieces-preserved-in_ok-append_to c =
     let other : c.in_ok-line.line.now ≡ codes "end" → ⊥ = search rules in
-    let bytes = piece_bytes c.in-Ok.piece in
     let keeps : c.append_to.new.kept.items ≡ c.pieces.kept.items ++ take
     (c.args.want - length c.pieces.kept.items) (piece_bytes c.in-Ok.piece)
     = search rules
     in
     let counts : c.saturating_add-got.result ≡ min (c.pieces.got + length
     (piece_bytes c.in-Ok.piece)) (2 ^ 64 - 1) = search rules in
-    let reads = pieces-more c.args.want (lines_of c.args.start.rest.now) c.pieces.kept.items
-    c.pieces.got
-    (lines_of c.pieces.here.rest.now) c.pieces.invariant.reads
-    c.in_ok-line.line.now (lines_of c.in_ok-line.behind.rest.now) bytes c.append_to.new.kept.items
-    c.saturating_add-got.result c.in_ok-line.ensures.line other
-    (if_ok c.in_ok-piece.field-0 (λ p. SpellsPiece c.in_ok-line.line.now (piece_bytes p))
-    c.in-Ok.piece c.in-Ok.is c.in_ok-piece.ensures.found)
-    (λ y here. the_ok c.in_ok-piece.field-0 (λ p. piece_bytes p ≡ y) c.in-Ok.piece
-    c.in-Ok.is (c.in_ok-piece.ensures.only y here))
+    let more = so_far_more c.args.want (stands c.args.start) (stands c.pieces.here)
+    c.pieces.kept.items c.pieces.got c.pieces.invariant.so_far c.in_ok-line.line.now
+    (stands c.in_ok-line.behind) (piece_bytes c.in-Ok.piece) c.append_to.new.kept.items
+    c.saturating_add-got.result
+    (record { number = c.in_ok-line.ensures.number; lines = c.in_ok-line.ensures.line }) other
+    (read_ok piece_bytes c.in_ok-piece.field-0 c.in-Ok.piece (read_piece c.in_ok-line.line.now)
+    c.in-Ok.is c.in_ok-piece.ensures)
     keeps counts
     in
-    let said = c.pieces.invariant.said
-    ∙ end_more (λ (x : Unit {0}) l. read_piece l) tt (stands c.pieces.here) c.in_ok-line.line.now
-    (stands c.in_ok-line.behind) tt
-    (record { number = c.in_ok-line.ensures.number; lines = c.in_ok-line.ensures.line }) other
-    (read_ok (λ piece. tt) c.in_ok-piece.field-0 c.in-Ok.piece (read_piece c.in_ok-line.line.now)
-    c.in-Ok.is c.in_ok-piece.ensures.read)
-    in
-    record { reads = reads; said = said }
+    record { so_far = more }

@@ -1,16 +1,12 @@
--- The pieces so far have the first lines, and each line takes some of the text.
-use Rattle.std.proofs.Common.{◌≡◌, length}
-use Rattle.tk_script.specs.Grammar.{lines_of}
-use Rattle.tk_script.specs.Reading.{read_pieces}
-use Rattle.tk_script.proofs.PieceLaws.{ReadsPieces}
+-- What is read so far is read of the lines before this one, and each line takes some of the text.
+use Rattle.std.proofs.Common.{length}
+use Rattle.tk_script.specs.Stands.{stands}
+use Rattle.tk_script.proofs.TapeSoFar.{TapeSoFar}
 use Rattle.tk_script.proofs.tape.pieces_of.Given as goal
 
 abbrev pub invariant-pieces : goal.invariant-pieces
 invariant-pieces l = record {
-  reads : ReadsPieces l.want (lines_of l.start.rest.now) l.kept.items l.got
-      (lines_of l.here.rest.now);
-  said : read_pieces l.start.line (lines_of l.start.rest.now)
-      ≡ read_pieces l.here.line (lines_of l.here.rest.now);
+  so_far : TapeSoFar l.want (stands l.start) (stands l.here) l.kept.items l.got;
 }
 
 abbrev pub decreases-pieces : goal.decreases-pieces

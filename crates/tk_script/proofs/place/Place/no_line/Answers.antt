@@ -7,23 +7,15 @@ use Rattle.tk_script.proofs.LineLaws.{empty_lines, no_lines}
 use Rattle.tk_script.proofs.PlaceLaws.{no_line_here, line_here}
 use Rattle.tk_script.proofs.place.Place.no_line.Goals as goal
 
-pub returns-then-not-is_empty-clause-only : goal.returns-then-not-is_empty-clause-only
-returns-then-not-is_empty-clause-only c none =
-    let some : 0 < length c.args.self.rest.now = search rules in
-    absurd (omega (arith, ap length (no_lines c.args.self.rest.now none), some))
-
-pub returns-then-not-is_empty-clause-read : goal.returns-then-not-is_empty-clause-read
-returns-then-not-is_empty-clause-read c =
+pub returns-then-not-is_empty : goal.returns-then-not-is_empty
+returns-then-not-is_empty c =
     let some : 0 < length c.args.self.rest.now = search rules in
     subst (λ e. IsRefusal e (no_line c.args.self.line (lines_of c.args.self.rest.now)))
     (sym c.refused.ensures)
     (line_here c.args.self.line (lines_of c.args.self.rest.now)
     (λ none. absurd (omega (arith, ap length (no_lines c.args.self.rest.now none), some))))
 
-pub returns-clause-found : goal.returns-clause-found
-returns-clause-found c = empty_lines c.args.self.rest.now (search rules)
-
-pub returns-clause-read : goal.returns-clause-read
-returns-clause-read c =
+pub returns : goal.returns
+returns c =
     no_line_here c.args.self.line (lines_of c.args.self.rest.now)
     (empty_lines c.args.self.rest.now (search rules))
