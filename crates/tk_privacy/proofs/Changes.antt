@@ -121,7 +121,7 @@ module _ (S : Script) (u : List ℕ) (whole : length u ≡ tape_len S.shape) whe
         keyed_sized = λ log low s less. shown_keyed_len log s (sent_as S log s) refl low less;
       })
 
-  regained-IsTape :
+  pub regained-IsTape :
       IsTape S.shape (λ g c. hidden_write_cell S.shape u g c (sent S g c)) (read_cell S.shape u)
       (λ log s. hidden_keyed_cell S.shape u (writer_of S log) log s (sent_as S log s))
       (regained S u)

@@ -11,3 +11,6 @@ pub mod QueueLaws
 pub mod ExchangingLaws
 pub mod HidingLaws
 pub mod StepsLaws
+pub mod AskingLaws
+pub mod ReadsLaws
+pub mod EnteringLaws

@@ -1,5 +1,5 @@
 -- The text is another client's, or comes too late, or joins the queue.
-use Rattle.std.proofs.Common.{◌≡◌, ◌∙◌, ◌<◌, ◌+◌, ℕ, ap, sym, refl, arith, ne_eqb, eq-eqb}
+use Rattle.std.proofs.Common.{◌≡◌, ◌∙◌, ◌<◌, ℕ, ap, sym, refl, arith, ne_eqb, eq-eqb}
 use Rattle.std.proofs.Common.{length, get_or, List, [], ◌∷◌, ◌++◌, max}
 use Rattle.std.proofs.lemmas.List.{get_or_default}
 use Rattle.std.proofs.lemmas.Option.{get_or_from_slice_get}

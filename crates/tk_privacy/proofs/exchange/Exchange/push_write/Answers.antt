@@ -5,7 +5,7 @@ use Rattle.std.specs.Option.{option_copied}
 use Rattle.tk_shape.specs.declared.shape.Shape.{Shape}
 use Rattle.tk_shape.specs.Lengths.{turn_count}
 use Rattle.tk_seal.specs.Texts.{is_allowed}
-use Rattle.tk_script.specs.Sent.{Sending, sent}
+use Rattle.tk_script.specs.Sent.{Sending}
 use Rattle.tk_script.proofs.Offers.{sent-is}
 use Rattle.tk_privacy.proofs.exchange.Exchange.push_write.Goals as goal
 

@@ -1,0 +1,151 @@
+-- The reads that a server sees of a run, turn after turn.
+use Rattle.std.proofs.Common.{◌≡◌, refl, ap, ap₂, sym, ◌∙◌, arith}
+use Rattle.std.proofs.Common.{ℕ, zero, suc, ◌+◌, ◌*◌, ◌<◌, List, [], ◌∷◌, ◌++◌, length, map, flat_map}
+use Rattle.std.proofs.Common.{length-append, suc-mul, zero-mul, append-nil, zero-add}
+use Rattle.std.specs.Prelude.{slice_index_or, Result, Ok, Err, IfOk}
+use Rattle.std.specs.List.{range_with_len}
+use Rattle.std.proofs.lemmas.List.{get_or_append_left, get_or-append-add, map-id}
+use Rattle.std.proofs.lemmas.List.FromFn.{length-map-range_with_len, get_or-map-range_with_len}
+use Rattle.std.proofs.lemmas.List.FromFn.{map-range_with_len_more}
+use Rattle.std.proofs.lemmas.Grind.{flat_map-append}
+use Rattle.tk_shape.specs.Lengths.{turn_count}
+use Rattle.tk_schedule.specs.declared.history.History.{History}
+use Rattle.tk_script.specs.declared.script.Script.{Script}
+use Rattle.tk_words.specs.Words.{WordBook, drawn}
+use Rattle.tk_frames.specs.declared.read_frame.ReadFrame.{ReadFrame}
+use Rattle.tk_client.specs.Looking.{FollowerState, new_follower}
+use Rattle.tk_words.specs.Words.{BookWords}
+use Rattle.tk_report.specs.Clients.{AreFollowers, follower_before}
+use Rattle.tk_report.specs.Entries.{entries_before}
+use Rattle.tk_report.specs.Exchange.{read_at}
+use Rattle.tk_report.specs.Report.{follows_of, reader_before}
+use Rattle.tk_report.specs.Turns.{placed_before}
+use Rattle.tk_privacy.specs.Hiding.{read_in, blank_read}
+use Rattle.tk_privacy.specs.Reads.{reads_at, reads_before, all_reads}
+use Rattle.tk_privacy.specs.Steps.{AreLastReads}
+
+-- ---- rows of one length
+
+-- a row for each number, of which each has so many elements
+abbrev row : {X : Type 0} → ℕ → (ℕ → ℕ → X) → ℕ → List X
+row width at k = map (at k) (range_with_len 0 width)
+
+length-rows : {X : Type 0} (width : ℕ) (at : ℕ → ℕ → X) (a n : ℕ) →
+    length (flat_map (row width at) (range_with_len a n)) ≡ n * width
+length-rows width at a zero = sym (zero-mul width)
+length-rows width at a (suc n) =
+    length-append (row width at a) (flat_map (row width at) (range_with_len (a + 1) n))
+    ∙ ap₂ (λ x y. x + y) (length-map-range_with_len (at a) 0 width)
+    (length-rows width at (a + 1) n)
+    ∙ omega (arith, suc-mul n width)
+
+-- the element at a column of a row
+in-rows : {X : Type 0} (width : ℕ) (at : ℕ → ℕ → X) (a n i c : ℕ) (d : X) → i < n → c < width →
+    slice_index_or (flat_map (row width at) (range_with_len a n)) (i * width + c) d ≡ at (a + i) c
+in-rows width at a zero i c d within low = absurd (omega (arith, within))
+in-rows width at a (suc n) zero c d within low =
+    let front = row width at a in
+    let rest = flat_map (row width at) (range_with_len (a + 1) n) in
+    let counted = length-map-range_with_len (at a) 0 width in
+    let here : zero * width + c ≡ c = omega (arith, zero-mul width) in
+    let this : a ≡ a + 0 = omega arith in
+    ap (λ k. slice_index_or (front ++ rest) k d) here
+    ∙ get_or_append_left front rest d c (omega (arith, low, counted))
+    ∙ get_or-map-range_with_len (at a) 0 width c c d low (zero-add c)
+    ∙ ap (λ k. at k c) this
+in-rows width at a (suc n) (suc i) c d within low =
+    let front = row width at a in
+    let rest = flat_map (row width at) (range_with_len (a + 1) n) in
+    let counted = length-map-range_with_len (at a) 0 width in
+    let here : suc i * width + c ≡ length front + (i * width + c) =
+    omega (arith, suc-mul i width, counted)
+    in
+    let there : a + 1 + i ≡ a + suc i = omega arith in
+    ap (λ k. slice_index_or (front ++ rest) k d) here
+    ∙ get_or-append-add front rest (i * width + c) d
+    ∙ in-rows width at (a + 1) n i c d (omega (arith, within)) low
+    ∙ ap (λ k. at k c) there
+
+-- ---- the reads of a run
+
+pub length-all_reads : (S : Script) (b : WordBook) (H : History) (j : ℕ) →
+    length (all_reads S b H j) ≡ turn_count S.shape * S.shape.clients
+unfolding reads_before
+length-all_reads S b H j =
+    length-rows S.shape.clients (λ g c. read_at S b H g c j) 0 (turn_count S.shape)
+
+-- each at the place of its turn and client
+pub read-in : (S : Script) (b : WordBook) (H : History) (j g c : ℕ) → g < turn_count S.shape →
+    c < S.shape.clients → read_in S.shape (all_reads S b H j) g c ≡ read_at S b H g c j
+unfolding reads_before
+read-in S b H j g c within low =
+    in-rows S.shape.clients (λ k d. read_at S b H k d j) 0 (turn_count S.shape) g c blank_read
+    within low
+    ∙ ap (λ k. read_at S b H k c j) (zero-add g)
+
+-- over a tape those of the last server are the last reads
+are-last_reads : (S : Script) (b : WordBook) (H : History) (u : List ℕ) (reads : List ReadFrame) →
+    b ≡ drawn u → reads ≡ all_reads S b H S.shape.servers → AreLastReads S H u reads
+are-last_reads S b H u reads tape are g c within low =
+    ap (λ (xs : List ReadFrame). read_in S.shape xs g c) are
+    ∙ read-in S b H S.shape.servers g c within low
+    ∙ ap (λ (k : WordBook). read_at S k H g c S.shape.servers) tape
+
+-- where they are found
+pub found-last_reads : {T E : Type 0} (items : T → List ReadFrame) (r : Result T E) (S : Script)
+    (b : WordBook) (H : History) (u : List ℕ) → b ≡ drawn u →
+    IfOk r (λ x. items x ≡ all_reads S b H S.shape.servers) →
+    IfOk r (λ x. AreLastReads S H u (items x))
+found-last_reads items (Ok x) S b H u tape are = are-last_reads S b H u (items x) tape are
+found-last_reads items (Err e) S b H u tape are = tt
+
+pub found-counted : {T E : Type 0} (items : T → List ReadFrame) (r : Result T E) (S : Script)
+    (b : WordBook) (H : History) (j : ℕ) → IfOk r (λ x. items x ≡ all_reads S b H j) →
+    IfOk r (λ x. length (items x) ≡ turn_count S.shape * S.shape.clients)
+found-counted items (Ok x) S b H j are = ap length are ∙ length-all_reads S b H j
+found-counted items (Err e) S b H j are = tt
+
+-- ---- turn after turn
+
+pub numbers-more : (n : ℕ) → range_with_len 0 (n + 1) ≡ range_with_len 0 n ++ n ∷ []
+numbers-more n =
+    sym (map-id (range_with_len 0 (n + 1)))
+    ∙ map-range_with_len_more {X = ℕ} (λ k. k) 0 n n (zero-add n)
+    ∙ ap (λ numbers. numbers ++ n ∷ []) (map-id (range_with_len 0 n))
+
+-- what one more number gives
+pub flat_map-more : {A : Type 0} (f : ℕ → List A) (n : ℕ) →
+    flat_map f (range_with_len 0 (n + 1)) ≡ flat_map f (range_with_len 0 n) ++ f n
+flat_map-more f n =
+    ap (flat_map f) (numbers-more n)
+    ∙ flat_map-append f (range_with_len 0 n) (n ∷ [])
+    ∙ ap (λ (xs : List _). flat_map f (range_with_len 0 n) ++ xs) (append-nil (f n))
+
+pub reads-next : (S : Script) (b : WordBook) (H : History) (j g : ℕ) →
+    reads_before S b H j (g + 1) ≡ reads_before S b H j g ++ reads_at S b H j g
+unfolding reads_before
+reads-next S b H j g = flat_map-more (reads_at S b H j) g
+
+pub reads-none : (S : Script) (b : WordBook) (H : History) (j : ℕ) → [] ≡ reads_before S b H j 0
+unfolding reads_before
+reads-none S b H j = refl
+
+-- ---- before the first turn
+
+first-look : (S : Script) (w : BookWords) (H : History) (c : ℕ) →
+    new_follower S.shape (follows_of S c) ≡ follower_before S w H 0 c
+unfolding reader_before
+first-look S w H c = refl
+
+pub followers-first : (S : Script) (w : BookWords) (H : History) (followers : List FollowerState) →
+    AreFollowers S.shape.clients (λ c. new_follower S.shape (follows_of S c)) followers →
+    AreFollowers S.shape.clients (follower_before S w H 0) followers
+followers-first S w H followers are =
+    record {
+      counted = are.counted;
+      each = λ c d low. are.each c d low ∙ first-look S w H c;
+    }
+
+pub placed-none : (S : Script) (w : BookWords) (H : History) → [] ≡ placed_before S w H 0
+unfolding entries_before
+placed-none S w H = refl

@@ -1,0 +1,37 @@
+-- A run as far as its frames were seen.
+use Rattle.std.specs.Prelude.{◌≡◌, ℕ, List, [], ◌∷◌, length}
+use Rattle.tk_shape.specs.declared.shape.Shape.{Shape}
+use Rattle.tk_schedule.specs.declared.history.History.{History}
+use Rattle.tk_script.specs.declared.script.Script.{Script}
+use Rattle.tk_words.specs.Words.{WordBook, words_of}
+use Rattle.tk_frames.specs.declared.entry.Placed.{Placed}
+use Rattle.tk_frames.specs.declared.read_frame.ReadFrame.{ReadFrame}
+use Rattle.tk_frames.specs.InOrder.{IsOrder}
+use Rattle.tk_frames.specs.Spelling.{read_frame}
+use Rattle.tk_report.specs.Clients.{AreClients, client_knowing, known_first}
+use Rattle.tk_report.specs.Entries.{write_at}
+use Rattle.tk_report.specs.Exchange.{frames_before}
+use Rattle.tk_report.specs.Queues.{said_before}
+use Rattle.tk_report.specs.Turns.{placed_before}
+use Rattle.tk_privacy.specs.declared.watching.Seen.{Seen}
+use Rattle.tk_privacy.specs.declared.viewing.Viewed.{Viewed}
+use Rattle.tk_privacy.specs.Hiding.{read_in}
+
+-- the frame of a client's read in a turn, where these are the read frames of all turns
+abbrev pub frame_in : Shape → List ReadFrame → ℕ → ℕ → List (List ℕ)
+frame_in shape reads g c = read_frame (read_in shape reads g c) ∷ []
+
+-- behind these entries, which are in order, as many were counted
+pub record HasEntered (shape : Shape) (E : List Placed) (seen : Seen) : Type 0 where
+  pub order : IsOrder shape E
+  pub count : seen.entries ≡ length E
+
+-- before turn g all is as the definitions say of it, and the frames so far are those of its entries
+-- and of these reads
+pub record IsViewBefore (S : Script) (b : WordBook) (H : History) (reads : List ReadFrame) (g : ℕ)
+    (v : Viewed) : Type 0 where
+  pub said : v.said ≡ said_before S g
+  pub clients : AreClients S.shape.clients (client_knowing S (known_first S) g) v.clients.items
+  pub entered : HasEntered S.shape (placed_before S (words_of S.shape b) H g) v.seen
+  pub frames : v.seen.frames.items
+      ≡ frames_before S.shape H (write_at S (words_of S.shape b)) (frame_in S.shape reads) g

@@ -1,0 +1,135 @@
+ghost use Rattle.std.specs.Prelude.{◌≡◌, ◌*◌, ◌≤◌, length, None, IfOk, IfErr, OnOk};
+ghost use Rattle.tk_shape.specs.Lengths.{tape_len, turn_count};
+ghost use Rattle.tk_schedule.specs.Schedule.{IsLegal};
+ghost use Rattle.tk_privacy.specs.Privacy as told;
+ghost use Rattle.tk_privacy.specs.Refusals.{mirror_refusal, IsMirrorRefusal};
+ghost use Rattle.tk_privacy.specs.Steps.{AreLastReads};
+
+use crate::exchange::push;
+use crate::mirror_error::MirrorError;
+use crate::queue::all_sent;
+use crate::reads::all_reads;
+use crate::steps::Steps;
+use std::alloc::Global;
+use tk_frames::ReadFrame;
+use tk_report::Plan;
+use tk_schedule::History;
+use tk_script::Script;
+use tk_shape::Memory;
+use tk_words::{DrawnDraws, Tape};
+
+/// The tape over which one script shows every server but the hidden one what another of the same
+/// shape shows over a tape. The tape is lost with a refusal: shapes that differ come first, then
+/// the hidden server, then want of memory.
+pub fn mirror(
+    alloc: Global,
+    a: &Script,
+    b: &Script,
+    history: &History,
+    hidden: u32,
+    tape: Tape,
+) -> Result<Tape, MirrorError>
+    requires legal { IsLegal a.now.shape history.now }
+    requires whole { length tape ≡ tape_len a.now.shape }
+    ensures kept { OnOk result (mirror_refusal a.now.shape b.now.shape hidden ≡ None) }
+    ensures mirrored { IfOk result (λ v.
+        v ≡ told.mirror a.now b.now history.now hidden tape) }
+    ensures refused { IfErr result (IsMirrorRefusal
+        (mirror_refusal a.now.shape b.now.shape hidden)) }
+{
+    if let Some(differs) = a.shape.differs(&b.shape) {
+        return Err(MirrorError::Shapes(differs));
+    }
+    let servers = a.shape.servers;
+    if hidden < 1 || hidden > servers {
+        return Err(MirrorError::Hidden {
+            got: hidden,
+            servers,
+        });
+    }
+    let shown = normal(alloc, a, history, hidden, tape.as_bytes())?;
+    let mirrored = unnormal(alloc, b, history, hidden, shown.as_slice())?;
+    Ok(tape_of(b, mirrored))
+}
+
+/// The tape of what a script shows to all servers but the hidden one.
+fn normal(
+    alloc: Global,
+    script: &Script,
+    history: &History,
+    hidden: u32,
+    tape: &[u8],
+) -> Result<Vec<u8>, Memory>
+    requires legal { IsLegal script.now.shape history.now }
+    requires low { 1 ≤ hidden }
+    requires high { hidden ≤ script.now.shape.servers }
+    requires whole { length tape.now ≡ tape_len script.now.shape }
+    ensures { IfOk result (λ v. v.items ≡ told.normal script.now history.now hidden tape.now) }
+{
+    let sent = all_sent(alloc, script)?;
+    let steps = Steps {
+        script,
+        sent: sent.as_slice(),
+        hidden,
+    };
+    let reads = last_reads(alloc, script, history, tape)?;
+    steps.normal(alloc, tape, reads.as_slice())
+}
+
+/// The tape over which a script shows that.
+fn unnormal(
+    alloc: Global,
+    script: &Script,
+    history: &History,
+    hidden: u32,
+    tape: &[u8],
+) -> Result<Vec<u8>, Memory>
+    requires legal { IsLegal script.now.shape history.now }
+    requires low { 1 ≤ hidden }
+    requires high { hidden ≤ script.now.shape.servers }
+    requires whole { length tape.now ≡ tape_len script.now.shape }
+    ensures { IfOk result (λ v. v.items ≡ told.unnormal script.now history.now hidden tape.now) }
+{
+    let sent = all_sent(alloc, script)?;
+    let steps = Steps {
+        script,
+        sent: sent.as_slice(),
+        hidden,
+    };
+    let regained = steps.regained(alloc, tape)?;
+    let reads = last_reads(alloc, script, history, regained.as_slice())?;
+    steps.with_reads_changed(alloc, regained.as_slice(), reads.as_slice())
+}
+
+/// The read frames that the last server sees of a run over a tape.
+fn last_reads(
+    alloc: Global,
+    script: &Script,
+    history: &History,
+    tape: &[u8],
+) -> Result<Vec<ReadFrame>, Memory>
+    requires legal { IsLegal script.now.shape history.now }
+    requires whole { length tape.now ≡ tape_len script.now.shape }
+    ensures counted { let shape = script.now.shape in
+        IfOk result (λ reads. length reads.items ≡ turn_count shape * shape.clients) }
+    ensures reads { IfOk result (λ reads.
+        AreLastReads script.now history.now tape.now reads.items) }
+{
+    let mut bytes = Vec::new(alloc);
+    push(tape, &mut bytes)?;
+    let draws = DrawnDraws::new(&script.shape, tape_of(script, bytes));
+    let plan = Plan {
+        script,
+        draws: &draws,
+        history,
+    };
+    all_reads(alloc, &plan, script.shape.servers)
+}
+
+/// These bytes as a tape of a script.
+fn tape_of(script: &Script, bytes: Vec<u8>) -> Tape
+    requires { length bytes.items ≡ tape_len script.now.shape }
+    ensures { result ≡ bytes.items }
+{
+    Tape::from_bytes(&script.shape, bytes).unwrap()
+}

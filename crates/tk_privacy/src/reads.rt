@@ -1,0 +1,88 @@
+ghost use Rattle.std.specs.Prelude.{◌≡◌, ℕ, ◌+◌, ◌<◌, ◌≤◌, IfOk, OnOk};
+ghost use Rattle.tk_shape.specs.Lengths.{turn_count};
+ghost use Rattle.tk_schedule.specs.declared.history.History.{History};
+ghost use Rattle.tk_words.specs.Words.{WordBook};
+ghost use Rattle.tk_privacy.specs.Reads as reads;
+
+use crate::asking::{Spot, ask_turn};
+use std::alloc::Global;
+use tk_client::{Client, Follower};
+use tk_frames::ReadFrame;
+use tk_replica::ReplicaState;
+use tk_report::{Plan, open_clients, open_followers, read_turn, say_turn, write_turn};
+use tk_script::Script;
+use tk_shape::Memory;
+use tk_words::Draws;
+
+/// A history as far as it was gone through: how many texts were said, the clients that write, one
+/// for each who reads in its place, what a server has of the entries, and the read frames that one
+/// server sees.
+#[derive(Drop)]
+pub(crate) struct Fold {
+    pub said: usize,
+    pub clients: Vec<Client>,
+    pub followers: Vec<Follower>,
+    pub replica: ReplicaState,
+    pub reads: Vec<ReadFrame>,
+}
+
+/// The read frames that a server sees of a run, turn after turn and in each by client.
+pub(crate) fn all_reads<D: Draws>(
+    alloc: Global,
+    plan: &Plan<D>,
+    server: u32,
+) -> Result<Vec<ReadFrame>, Memory>
+    requires low { 1 ≤ server }
+    requires high { server ≤ plan.now.script.now.shape.servers }
+    ensures { IfOk result (λ found. found.items ≡ reads.all_reads plan.now.script.now
+        (D.book plan.now.draws.now) plan.now.history.now server) }
+{
+    let mut fold = open_fold(alloc, plan.script)?;
+    'turns: for turn in 0..plan.script.shape.turns() {
+        take_turn(alloc, plan, Spot { turn, server }, &mut fold)?;
+    }
+    Ok(fold.reads)
+}
+
+/// A history before its first turn.
+fn open_fold(alloc: Global, script: &Script) -> Result<Fold, Memory>
+    ensures { (b : WordBook) (H : History) (j : ℕ)
+        → IfOk result (reads.IsFoldBefore script.now b H j 0) }
+{
+    Ok(Fold {
+        said: 0,
+        clients: open_clients(alloc, script)?,
+        followers: open_followers(alloc, script)?,
+        replica: ReplicaState::open(alloc, &script.shape)?,
+        reads: Vec::new(alloc),
+    })
+}
+
+/// What happens in a turn: texts are said, the clients write in the history's order, and for each a
+/// read is made over the epoch that the history gives it. The epochs before the newest are read no
+/// more.
+fn take_turn<D: Draws>(
+    alloc: Global,
+    plan: &Plan<D>,
+    spot: Spot,
+    fold: &mut Fold,
+) -> Result<(), Memory>
+    requires turn_in { spot.turn < turn_count plan.now.script.now.shape }
+    requires low { 1 ≤ spot.server }
+    requires high { spot.server ≤ plan.now.script.now.shape.servers }
+    requires fold { reads.IsFoldBefore plan.now.script.now (D.book plan.now.draws.now)
+        plan.now.history.now spot.server spot.turn fold.old }
+    ensures { OnOk result (reads.IsFoldBefore plan.now.script.now (D.book plan.now.draws.now)
+        plan.now.history.now spot.server (spot.turn + 1) fold.new) }
+{
+    let clients = fold.clients.as_mut_slice();
+    fold.said = say_turn(alloc, plan.script, spot.turn, fold.said, clients)?;
+    write_turn(alloc, plan, spot.turn, clients, &mut fold.replica)?;
+    let followers = fold.followers.as_mut_slice();
+    let mut asked = ask_turn(alloc, plan, spot, &fold.replica, followers)?;
+    read_turn(alloc, plan, spot.turn, &fold.replica, followers)?;
+    fold.reads.append(&mut asked)?;
+    let newest = fold.replica.last();
+    fold.replica.release(newest);
+    Ok(())
+}
