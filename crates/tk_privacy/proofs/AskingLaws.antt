@@ -72,7 +72,8 @@ asked-is : (S : Script) (b : WordBook) (H : History) (g c e : ℕ) (marks : List
     ≡ asked S.shape b g c (epoch_at H g c) (target_at S w H g c)
 asked-is S b H g c e marks s was epoch shows =
     let w = words_of S.shape b in
-    ap (λ (t : Option Target). asked s.shape b g c e t) (looked-is S b H g c e marks s was epoch shows)
+    ap (λ (t : Option Target). asked s.shape b g c e t)
+    (looked-is S b H g c e marks s was epoch shows)
     ∙ ap (λ (l : FollowerState). asked l.shape b g c e (target_at S w H g c)) was
     ∙ ap (λ (n : ℕ). asked S.shape b g c n (target_at S w H g c)) epoch
 

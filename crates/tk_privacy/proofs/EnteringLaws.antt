@@ -1,6 +1,6 @@
 -- The frames of a turn's entries, seen one after the other.
 use Rattle.std.proofs.Common.{◌≡◌, refl, ap, ap₂, sym, ◌∙◌, subst, arith}
-use Rattle.std.proofs.Common.{ℕ, suc, zero, ◌+◌, ◌^◌, ◌<◌, ◌≤◌, List, [], ◌∷◌, ◌++◌, length, map}
+use Rattle.std.proofs.Common.{ℕ, ◌+◌, ◌^◌, ◌<◌, ◌≤◌, List, [], ◌∷◌, ◌++◌, length, map}
 use Rattle.std.proofs.Common.{flat_map, append_assoc, append-nil, length-append}
 use Rattle.std.specs.List.{range_with_len}
 use Rattle.std.proofs.lemmas.List.{take_all, map-append}
@@ -26,6 +26,7 @@ use Rattle.tk_privacy.specs.Reads.{all_reads}
 use Rattle.tk_privacy.specs.Views.{HasEntered, frame_in}
 use Rattle.tk_privacy.specs.declared.watching.Seen.{Seen}
 use Rattle.tk_privacy.proofs.ReadsLaws.{flat_map-more, read-in}
+use Rattle.tk_privacy.proofs.Seen.{same-flat}
 
 -- ---- the next entry
 
@@ -138,13 +139,6 @@ frames-next S w H reads g old now new before entered asked =
     ∙ sym (flat_map-more (turn_frames S.shape H (write_at S w) (frame_in S.shape reads)) g)
 
 -- ---- all
-
-same-flat : {X : Type 0} (f h : ℕ → List X) (a n : ℕ) → ((k : ℕ) → k < a + n → f k ≡ h k) →
-    flat_map f (range_with_len a n) ≡ flat_map h (range_with_len a n)
-same-flat f h a zero same = refl
-same-flat {X} f h a (suc n) same =
-    ap₂ (λ (x y : List X). x ++ y) (same a (omega arith))
-    (same-flat f h (a + 1) n (λ k l. same k (omega arith)))
 
 -- with the reads that a server sees the frames are those that it sees
 pub frames-seen : (S : Script) (b : WordBook) (H : History) (j : ℕ) (reads : List ReadFrame) →

@@ -21,6 +21,13 @@ use Rattle.tk_privacy.specs.Privacy.{masked_cell, cells}
 use Rattle.tk_privacy.specs.Queue.{sent_by}
 use Rattle.tk_privacy.specs.Exchanging.{write_exchanged, keyed_exchanged}
 
+-- the numbers up to one are those below it and itself
+pub numbers-more : (n : ℕ) → range_with_len 0 (n + 1) ≡ range_with_len 0 n ++ n ∷ []
+numbers-more n =
+    sym (map-id (range_with_len 0 (n + 1)))
+    ∙ map-range_with_len_more {X = ℕ} (λ k. k) 0 n n (zero-add n)
+    ∙ ap (λ numbers. numbers ++ n ∷ []) (map-id (range_with_len 0 n))
+
 -- one cell more, behind what was there and those before it
 pub next_cell : (f : ℕ → List ℕ) (n : ℕ) (old before new : List ℕ) → before ≡ old ++ cells n f →
     new ≡ before ++ f n → new ≡ old ++ cells (n + 1) f
@@ -28,13 +35,7 @@ next_cell f n old before new before_is new_is =
     new_is
     ∙ ap (λ (front : List ℕ). front ++ f n) before_is
     ∙ flat_map_more f old (range_with_len 0 n) n
-    ∙ ap (λ numbers. old ++ flat_map f numbers) (sym more)
-  where
-    more : range_with_len 0 (n + 1) ≡ range_with_len 0 n ++ n ∷ []
-    more =
-        sym (map-id (range_with_len 0 (n + 1)))
-        ∙ map-range_with_len_more {X = ℕ} (λ k. k) 0 n n (zero-add n)
-        ∙ ap (λ numbers. numbers ++ n ∷ []) (map-id (range_with_len 0 n))
+    ∙ ap (λ numbers. old ++ flat_map f numbers) (sym (numbers-more n))
 
 -- what a client sends, among what each sends
 pub sent_of : (S : Script) (all : List (List Sending)) (c : ℕ) (d : List Sending) →

@@ -1,12 +1,12 @@
 -- The reads that a server sees of a run, turn after turn.
 use Rattle.std.proofs.Common.{◌≡◌, refl, ap, ap₂, sym, ◌∙◌, arith}
-use Rattle.std.proofs.Common.{ℕ, zero, suc, ◌+◌, ◌*◌, ◌<◌, List, [], ◌∷◌, ◌++◌, length, map, flat_map}
+use Rattle.std.proofs.Common.{ℕ, zero, suc, ◌+◌, ◌*◌, ◌<◌, List, [], ◌∷◌, ◌++◌, length, map}
+use Rattle.std.proofs.Common.{flat_map}
 use Rattle.std.proofs.Common.{length-append, suc-mul, zero-mul, append-nil, zero-add}
 use Rattle.std.specs.Prelude.{slice_index_or, Result, Ok, Err, IfOk}
 use Rattle.std.specs.List.{range_with_len}
-use Rattle.std.proofs.lemmas.List.{get_or_append_left, get_or-append-add, map-id}
+use Rattle.std.proofs.lemmas.List.{get_or_append_left, get_or-append-add}
 use Rattle.std.proofs.lemmas.List.FromFn.{length-map-range_with_len, get_or-map-range_with_len}
-use Rattle.std.proofs.lemmas.List.FromFn.{map-range_with_len_more}
 use Rattle.std.proofs.lemmas.Grind.{flat_map-append}
 use Rattle.tk_shape.specs.Lengths.{turn_count}
 use Rattle.tk_schedule.specs.declared.history.History.{History}
@@ -23,6 +23,7 @@ use Rattle.tk_report.specs.Turns.{placed_before}
 use Rattle.tk_privacy.specs.Hiding.{read_in, blank_read}
 use Rattle.tk_privacy.specs.Reads.{reads_at, reads_before, all_reads}
 use Rattle.tk_privacy.specs.Steps.{AreLastReads}
+use Rattle.tk_privacy.proofs.ExchangingLaws.{numbers-more}
 
 -- ---- rows of one length
 
@@ -106,12 +107,6 @@ found-counted items (Ok x) S b H j are = ap length are ∙ length-all_reads S b 
 found-counted items (Err e) S b H j are = tt
 
 -- ---- turn after turn
-
-pub numbers-more : (n : ℕ) → range_with_len 0 (n + 1) ≡ range_with_len 0 n ++ n ∷ []
-numbers-more n =
-    sym (map-id (range_with_len 0 (n + 1)))
-    ∙ map-range_with_len_more {X = ℕ} (λ k. k) 0 n n (zero-add n)
-    ∙ ap (λ numbers. numbers ++ n ∷ []) (map-id (range_with_len 0 n))
 
 -- what one more number gives
 pub flat_map-more : {A : Type 0} (f : ℕ → List A) (n : ℕ) →

@@ -55,7 +55,7 @@ same-placed f g n same position e (Publish ∷ items) within =
     ap (λ (rest : List Placed). record { position = position; entry = Mark e } ∷ rest)
     (same-placed f g n same (position + 1) (e + 1) items within)
 
-same-flat : {X : Type 0} (f g : ℕ → List X) (a n : ℕ) → ((k : ℕ) → k < a + n → f k ≡ g k) →
+pub same-flat : {X : Type 0} (f g : ℕ → List X) (a n : ℕ) → ((k : ℕ) → k < a + n → f k ≡ g k) →
     flat_map f (range_with_len a n) ≡ flat_map g (range_with_len a n)
 same-flat f g a zero h = refl
 same-flat {X} f g a (suc n) h =

@@ -47,7 +47,8 @@ swap_remove-requires g c =
     let servers = ap (λ (l : FollowerState). l.shape.servers) c.requires.follower in
     let asked = ap length c.in_ok-frames.ensures.frames in
     let counted = length-asked s.shape book c.args.spot.turn c.args.number due target in
-    omega (arith, c.requires.low, c.requires.high, servers, asked, counted, c.in_ok-frames.frames.ok)
+    let len = c.in_ok-frames.frames.ok in
+    omega (arith, c.requires.low, c.requires.high, servers, asked, counted, len)
 
 pub returns-clause-read : goal.returns-clause-read
 returns-clause-read g c =
@@ -63,10 +64,13 @@ returns-clause-read g c =
     let marks = c.filter.result.now in
     let made = epoch-made S.shape H turn number plan.legal c.requires.turn_in in
     let within : due ≤ phases_over S.shape (turn + 1) = omega (arith, c.epoch-due.ensures, made) in
-    let is = c.epoch-epoch.ensures.stands S.shape (placed_before S words H (turn + 1))
-    c.requires.replica in
-    let shows = filter-shows S book H turn number due held marks plan.legal c.requires.turn_in within
-    c.epoch-due.ensures is c.filter.ensures in
+    let is =
+    c.epoch-epoch.ensures.stands S.shape (placed_before S words H (turn + 1)) c.requires.replica
+    in
+    let shows =
+    filter-shows S book H turn number due held marks plan.legal c.requires.turn_in within
+    c.epoch-due.ensures is c.filter.ensures
+    in
     read-is S book H turn number due c.args.spot.server marks c.args.follower.now
     c.in_ok-frames.frames.items c.swap_remove.result c.requires.follower c.epoch-due.ensures shows
     c.requires.low c.requires.high c.in_ok-frames.ensures.frames c.swap_remove.ensures.value
