@@ -1,4 +1,4 @@
--- What no server but one can tell from what it sees.
+-- That no server but one can tell two scripts of one shape apart by what it sees under one history.
 use Rattle.std.specs.Prelude.{◌≡◌, ◌≢◌, ℕ, ◌≤◌, List, length}
 use Rattle.tk_shape.specs.Lengths.{tape_len}
 use Rattle.tk_schedule.specs.declared.history.History.{History}

@@ -36,8 +36,7 @@ unfoldable pub masked_cell : Shape → List ℕ → List ℕ → List ℕ
 masked_cell shape text cell = cell_words shape cell ++ cell_sealed shape cell text
 
 -- the write cell of a client that sends: the masked keyed cell of what it sends; else the write
--- cell
--- as it was
+-- cell as it was
 abbrev pub shown_write_cell : Shape → List ℕ → ℕ → ℕ → Option Sending → List ℕ
 shown_write_cell shape u g c None = write_cell shape u g c
 shown_write_cell shape u g c (Some y) = masked_cell shape y.text (keyed_cell shape u y.log y.number)
