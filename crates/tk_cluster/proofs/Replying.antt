@@ -1,0 +1,62 @@
+-- What a set replies.
+use Rattle.std.proofs.Common.{◌≡◌, ◌≢◌, ℕ, ◌+◌, ◌-◌, ◌*◌, ◌/◌, ◌%◌, ◌^◌, ◌<◌, ◌≤◌, IsTrue, ap, ap₂, sym, ◌∙◌}
+use Rattle.std.proofs.Common.{arith, subst, List, length, All}
+use Rattle.std.specs.Int.{is_power_of_two}
+use Rattle.std.specs.Int.Count.{ones}
+use Rattle.std.proofs.lemmas.Bool.{eqb-true}
+use Rattle.std.proofs.lemmas.Nat.{div-add-mod', ones_cat, zero_from_ones}
+use Rattle.tk_shape.specs.declared.shape.Shape.{Shape}
+use Rattle.tk_shape.specs.Lengths.{vector_len, width}
+use Rattle.tk_kernel.specs.Chosen.{chosen_sum}
+use Rattle.tk_frames.specs.declared.entry.Placed.{Placed}
+use Rattle.tk_frames.specs.declared.read_frame.ReadFrame.{ReadFrame}
+use Rattle.tk_frames.specs.Fields.{read_in}
+use Rattle.tk_frames.specs.Order.{before}
+use Rattle.tk_frames.specs.Spelling.{reply_frame}
+use Rattle.tk_frames.proofs.Offers.{read-again}
+use Rattle.tk_table.specs.Replies.{reply_to}
+use Rattle.tk_replica.specs.declared.epoch.Epoch.{Epoch}
+use Rattle.tk_replica.specs.Epochs.{IsEpochOf}
+use Rattle.tk_replica.specs.Replies.{frame_over, reply_over, reply_for, reply_due, reply_bytes}
+use Rattle.tk_cluster.specs.Refusals.{SpellsRead}
+
+-- a power of two from 8 on is a number of whole bytes
+whole_bytes : (n : ℕ) → IsTrue (is_power_of_two n) → 8 ≤ n → n ≡ 8 * (n / 8)
+whole_bytes n one low =
+    let split : n / 8 * 2 ^ 3 + n % 8 ≡ n = omega (arith, div-add-mod' n 8) in
+    let counted : ones (n / 8) + ones (n % 8) ≡ 1 =
+    sym (ones_cat 3 (n / 8) (n % 8) (omega arith)) ∙ ap ones split ∙ eqb-true (ones n) 1 one in
+    let high : ones (n / 8) ≢ 0 =
+    λ e. let none = zero_from_ones (n / 8) e in omega (arith, none, low)
+    in
+    let none : ones (n % 8) ≡ 0 = omega (arith, counted, high) in
+    let no_rest = zero_from_ones (n % 8) none in
+    omega (arith, no_rest)
+
+-- a vector has a bit for each bucket
+pub vector_bits : (shape : Shape) → shape.buckets ≡ 8 * vector_len shape
+vector_bits shape =
+    whole_bytes shape.buckets shape.in_range.buckets_power shape.in_range.buckets_low
+
+-- a reply over the epoch that the read names is one over the writes before its mark
+over-epoch : (shape : Shape) (E : List Placed) (e : ℕ) (epoch : Epoch) (r : ReadFrame) →
+    IsEpochOf shape E e epoch → r.epoch ≡ e → reply_over epoch r ≡ reply_for shape E r
+over-epoch shape E e epoch r is named =
+    ap₂ (λ (n : ℕ) (bs : List (List ℕ)). record {
+      client = r.client;
+      turn = r.turn;
+      epoch = r.epoch;
+      first = chosen_sum n bs r.first;
+      second = chosen_sum n bs r.second;
+    }) (epoch.wide ∙ ap width is.stands.same) is.stands.blocks
+    ∙ ap (λ n. reply_to shape (before E n) r) (sym named)
+
+-- it is the reply to the bytes that spell the read
+pub reply-over : (shape : Shape) (E : List Placed) (e : ℕ) (epoch : Epoch) (bytes : List ℕ)
+    (r : ReadFrame) → IsEpochOf shape E e epoch → r.epoch ≡ e → SpellsRead shape bytes r →
+    frame_over epoch r ≡ reply_bytes shape E bytes
+unfolding reply_due
+reply-over shape E e epoch bytes r is named spells =
+    ap reply_frame (over-epoch shape E e epoch r is named
+    ∙ ap (reply_for shape E)
+    (sym (ap (read_in shape) spells.spelled ∙ read-again shape r spells.in_range)))
