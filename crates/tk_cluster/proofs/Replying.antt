@@ -1,6 +1,6 @@
 -- What a set replies.
-use Rattle.std.proofs.Common.{◌≡◌, ◌≢◌, ℕ, ◌+◌, ◌-◌, ◌*◌, ◌/◌, ◌%◌, ◌^◌, ◌<◌, ◌≤◌, IsTrue, ap, ap₂, sym, ◌∙◌}
-use Rattle.std.proofs.Common.{arith, subst, List, length, All}
+use Rattle.std.proofs.Common.{◌≡◌, ◌≢◌, ℕ, ◌+◌, ◌*◌, ◌/◌, ◌%◌, ◌^◌, ◌≤◌, IsTrue, ap, ap₂, sym, ◌∙◌}
+use Rattle.std.proofs.Common.{arith, List}
 use Rattle.std.specs.Int.{is_power_of_two}
 use Rattle.std.specs.Int.Count.{ones}
 use Rattle.std.proofs.lemmas.Bool.{eqb-true}

@@ -3,7 +3,12 @@
 
 mod answer;
 mod error;
+mod pass;
 mod set;
 
 pub use error::{AnswerError, WriteError};
+pub use pass::Pass;
 pub use set::EpochSet;
+
+/// What the publisher told: the sets that it had shown then.
+pub type Told = tk_board::Told<std::sync::Arc<EpochSet>>;
