@@ -1,2 +1,4 @@
 pub mod Replying
 pub mod Passing
+pub mod Standing
+pub mod Telling

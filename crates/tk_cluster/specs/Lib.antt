@@ -1,3 +1,4 @@
 pub mod Sets
 pub mod Refusals
 pub mod Passes
+pub mod Tellings

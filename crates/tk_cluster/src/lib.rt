@@ -2,12 +2,17 @@
 #![tactic(auto)]
 
 mod answer;
+mod cluster;
 mod error;
 mod pass;
+mod publisher;
+mod servers;
 mod set;
 
+pub use cluster::Cluster;
 pub use error::{AnswerError, WriteError};
 pub use pass::Pass;
+pub use publisher::Publisher;
 pub use set::EpochSet;
 
 /// What the publisher told: the sets that it had shown then.

@@ -1,0 +1,160 @@
+ghost use Rattle.std.specs.Prelude.{◌≡◌, ◌+◌, ◌≤◌, [], ◌∷◌, length, Some, None};
+ghost use Rattle.std.specs.Prelude.{IfOk, OnErr, OnOk};
+ghost use mathlib.Core.List.{IsPrefix};
+ghost use Rattle.tk_order.specs.Legality.{IsLegal};
+ghost use Rattle.tk_order.specs.Seats.{seated};
+ghost use Rattle.tk_cluster.specs.Sets.{Shows, Stands};
+ghost use Rattle.tk_cluster.specs.Tellings.{marks, told_of, Grows, Published, Withheld};
+
+use crate::{Cluster, EpochSet, Told};
+use std::marker::Model;
+use std::sync::{Arc, Wait};
+use tk_board::Publisher as Board;
+use tk_frames::Entry;
+use tk_order::{Naming, Order, OrderSeat};
+use tk_shape::Memory;
+
+/// Orders the marks, and shows the sets of their epochs. Seen as the list of entries that it has
+/// seen, its board and the sets that it has shown. It isn't `Drop`: its cluster's `close` ends it.
+pub struct Publisher<B: Naming> {
+    seat: OrderSeat<B>,
+    board: Board<Arc<EpochSet>>,
+    /// The position of the last mark; 0 before the first.
+    marked: u64,
+    /// How many marks it has ordered.
+    ordered: u32,
+    /// How many epochs it has shown.
+    shown: u32,
+}
+
+impl<B: Naming> Model for Publisher<B> {
+    ghost use Rattle.tk_cluster.specs.Tellings.{Telling, IsPublisher};
+
+    ghost Value = { Telling };
+
+    ghost view = { λ p. record {
+      seen = p.seat.seen;
+      board = p.board.board;
+      shown = p.board.list;
+    } };
+
+    ghost invariant = { λ p. IsPublisher B.shape p.seat p.board p.marked p.ordered p.shown };
+}
+
+impl<B: Naming> Publisher<B> {
+    /// A publisher that has seen nothing, and shown the first set.
+    pub(crate) fn new(seat: OrderSeat<B>, board: Board<Arc<EpochSet>>) -> Publisher<B>
+        requires seat { seat ≡ seated [] (Some 0) }
+        requires first { (set : _) × (board.list ≡ set ∷ []) × Stands B.shape [] 0 set }
+        ensures { (result.seen ≡ []) × (told_of result ≡ board) }
+    {
+        Publisher {
+            seat,
+            board,
+            marked: 0,
+            ordered: 0,
+            shown: 0,
+        }
+    }
+
+    /// How many epochs it has shown, epoch 0 not counted.
+    pub fn shown(&self) -> u32
+        ensures { length self.now.shown ≡ result + 1 }
+    {
+        self.shown
+    }
+
+    /// Each shown set stands for the writes before its mark in what was seen, which may be an order.
+    pub fn stands(&self)
+        ensures shows { Shows B.shape self.now.shown self.now.seen }
+        ensures legal { IsLegal B.shape self.now.seen }
+    {
+        self.seat.legal();
+    }
+
+    /// One mark more is ordered, if none is left of a call before, and the set of its epoch is
+    /// shown.
+    pub(crate) fn publish<R: Wait + AllocGlobal>(
+        &mut self,
+        rt: &R,
+        cluster: &Cluster<B>,
+    ) -> Result<Told, Memory>
+        requires { length self.old.shown ≤ B.shape.phases }
+        ensures published { OnOk result (Published B.shape self.old self.new) }
+        ensures told { IfOk result (λ t. t ≡ told_of self.new) }
+        ensures err { OnErr result (Withheld self.old self.new) }
+    {
+        self.mark(rt, &cluster.order)?;
+        self.show(rt, cluster)
+    }
+
+    /// The mark of the next set stands in the order.
+    fn mark<R: Wait>(&mut self, rt: &R, order: &Order<B>) -> Result<(), Memory>
+        requires { length self.old.shown ≤ B.shape.phases }
+        ensures grows { Grows self.old self.new }
+        ensures ok { OnOk result (length (marks self.new) ≡ length self.old.shown) }
+        ensures err { OnErr result (marks self.new ≡ marks self.old) }
+    {
+        if self.ordered > self.shown {
+            return Ok(());
+        }
+        let number = self.shown + 1;
+        let position = order.append(rt, &mut self.seat, &Entry::Mark(number));
+        self.seat.legal();
+        self.marked = position?;
+        self.ordered = number;
+        Ok(())
+    }
+
+    /// Shows the set of the mark that stands in the order.
+    fn show<R: Wait + AllocGlobal>(&mut self, rt: &R, cluster: &Cluster<B>) -> Result<Told, Memory>
+        requires room { length self.old.shown ≤ B.shape.phases }
+        requires due { length (marks self.old) ≡ length self.old.shown }
+        ensures published { OnOk result (Published B.shape self.old self.new) }
+        ensures told { IfOk result (λ t. t ≡ told_of self.new) }
+        ensures err { OnErr result (self.new ≡ self.old) }
+    {
+        let number = self.ordered;
+        let set = cluster.set(rt, &mut self.seat, number, self.marked)?;
+        let Ok(told) = self.board.show(rt, set) else {
+            return Err(Memory);
+        };
+        cluster.release(rt, self.shown);
+        self.shown = number;
+        Ok(told)
+    }
+
+    /// A note of what it has seen.
+    pub(crate) fn note(&mut self, order: &Order<B>) -> OrderSeat<B>
+        ensures same { self.new ≡ self.old }
+        ensures new { result ≡ seated self.old.seen None }
+    {
+        order.split(&mut self.seat)
+    }
+
+    /// Takes in a note.
+    pub(crate) fn take_in(&mut self, order: &Order<B>, note: OrderSeat<B>)
+        requires { note.number ≡ None }
+        ensures grows { Grows self.old self.new }
+        ensures marks { marks self.new ≡ marks self.old }
+        ensures begins { IsPrefix note.seen self.new.seen }
+    {
+        order.join(&mut self.seat, note);
+        self.seat.legal();
+    }
+
+    /// Its seat and its board.
+    pub(crate) fn into_parts(self) -> (OrderSeat<B>, Board<Arc<EpochSet>>)
+        ensures seat { result.0 ≡ seated self.seen (Some 0) }
+        ensures board { result.1 ≡ told_of self }
+    {
+        let Publisher {
+            seat,
+            board,
+            marked: _,
+            ordered: _,
+            shown: _,
+        } = self;
+        (seat, board)
+    }
+}
