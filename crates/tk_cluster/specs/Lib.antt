@@ -2,3 +2,4 @@ pub mod Sets
 pub mod Refusals
 pub mod Passes
 pub mod Tellings
+pub mod Clusters

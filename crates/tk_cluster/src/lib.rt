@@ -2,8 +2,11 @@
 #![tactic(auto)]
 
 mod answer;
+mod calls;
 mod cluster;
 mod error;
+mod meet;
+mod open;
 mod pass;
 mod publisher;
 mod servers;

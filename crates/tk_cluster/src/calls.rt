@@ -1,0 +1,67 @@
+ghost use Rattle.std.specs.Prelude.{◌≡◌, ◌<◌, ◌≤◌, length, IfOk, IfErr, OnErr, OnOk};
+ghost use Rattle.std.specs.Arc.{arc_value};
+ghost use Rattle.tk_shape.specs.Lengths.{turn_count};
+ghost use Rattle.tk_cluster.specs.Refusals.{IsWriteRefusal};
+ghost use Rattle.tk_cluster.specs.Passes.{own, WroteBytes, Sees, Pins, Knows, Learns, Reads};
+ghost use Rattle.tk_cluster.specs.Tellings.{told_of, Published, Withheld};
+
+use crate::{Cluster, EpochSet, Pass, Publisher, Told, WriteError};
+use std::sync::{Arc, Wait};
+use tk_order::Naming;
+use tk_shape::Memory;
+
+impl<B: Naming> Cluster<B> {
+    /// Orders the write that a frame spells under the pass's number, and answers its position.
+    /// After a refusal nothing is ordered.
+    pub fn write<R: Wait + AllocGlobal>(
+        &self,
+        rt: &R,
+        pass: &mut Pass<B>,
+        frame: &[u8],
+    ) -> Result<u64, WriteError>
+        requires { length (own pass.old) < turn_count B.shape }
+        ensures last { IfOk result (λ p. p ≡ length pass.new.seen) }
+        ensures wrote { OnOk result (WroteBytes B.shape frame.now pass.old pass.new) }
+        ensures refused { IfErr result (IsWriteRefusal B.shape pass.old.client frame.now) }
+        ensures err { OnErr result (Sees pass.old pass.new) }
+    {
+        pass.write(rt, &self.shape, &self.order, frame)
+    }
+
+    /// Orders a mark, has every server apply all up to it, shows the set of its epoch, and lets the
+    /// epochs below the one before it go. Where memory runs out the mark may be ordered, and then
+    /// the next call finishes it and orders no other.
+    pub fn publish<R: Wait + AllocGlobal>(
+        &self,
+        rt: &R,
+        publisher: &mut Publisher<B>,
+    ) -> Result<Told, Memory>
+        requires { length publisher.old.shown ≤ B.shape.phases }
+        ensures published { OnOk result (Published B.shape publisher.old publisher.new) }
+        ensures told { IfOk result (λ t. t ≡ told_of publisher.new) }
+        ensures err { OnErr result (Withheld publisher.old publisher.new) }
+    {
+        publisher.publish(rt, self)
+    }
+
+    /// The newest set that is shown, where its number is at most `most`, or else the one that the
+    /// pass knows. It waits for nobody.
+    pub fn pin(&self, pass: &mut Pass<B>, most: u32) -> Result<Arc<EpochSet>, Memory>
+        requires { pass.old.reads.known ≤ most }
+        ensures ok { IfOk result
+            (λ s. Reads (λ a b. Pins a most (arc_value s) b) pass.old pass.new) }
+        ensures err { OnErr result (Reads Knows pass.old pass.new) }
+    {
+        pass.pin(most)
+    }
+
+    /// The pass takes in what the publisher told. It waits for nobody.
+    pub fn learn(&self, pass: &mut Pass<B>, told: &mut Told) -> Result<(), Memory>
+        requires { told.old.board ≡ pass.old.reads.board }
+        ensures told { told.new ≡ told.old }
+        ensures ok { OnOk result (Reads (λ a b. Learns a told.old b) pass.old pass.new) }
+        ensures err { OnErr result (pass.new ≡ pass.old) }
+    {
+        pass.learn(told)
+    }
+}
