@@ -4,3 +4,4 @@ pub mod Standing
 pub mod Telling
 pub mod Opening
 pub mod Meeting
+pub mod Closing

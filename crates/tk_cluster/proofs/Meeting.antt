@@ -1,6 +1,5 @@
 -- How all passes meet.
 use Rattle.std.proofs.Common.{◌≡◌, ◌∙◌, List, ◌∷◌}
-use mathlib.Core.List.{IsPrefix}
 use Rattle.tk_shape.specs.declared.shape.Shape.{Shape}
 use Rattle.tk_order.proofs.Offers.{prefix_trans}
 use Rattle.tk_cluster.specs.Passes.{Passing, MeetsAt}

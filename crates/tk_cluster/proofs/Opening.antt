@@ -1,11 +1,11 @@
 -- The seats and the passes of a new cluster.
-use Rattle.std.proofs.Common.{◌≡◌, ℕ, zero, suc, ◌+◌, ◌-◌, ◌<◌, ◌≤◌, List, [], ◌∷◌, ◌++◌, length}
+use Rattle.std.proofs.Common.{◌≡◌, ℕ, zero, suc, ◌+◌, ◌<◌, List, [], ◌∷◌, ◌++◌, length}
 use Rattle.std.proofs.Common.{map, Some, refl, ap, sym, ◌∙◌, subst, arith, All, length-append}
 use Rattle.std.specs.Prelude.{slice_index_or}
 use Rattle.std.specs.List.{range_with_len}
 use Rattle.std.proofs.lemmas.List.{map-append}
 use Rattle.atomic_table.specs.Seated.{TableId}
-use Rattle.tk_order.specs.Seats.{Seated, seated, opened}
+use Rattle.tk_order.specs.Seats.{seated, opened}
 use Rattle.tk_board.specs.Boards.{Known}
 use Rattle.tk_cluster.specs.declared.set.EpochSet.{EpochSet}
 use Rattle.tk_cluster.specs.Passes.{Passing, fresh, seat_for, seats_for}

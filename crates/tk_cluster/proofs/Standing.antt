@@ -1,19 +1,18 @@
 -- What sets stand for when more entries come.
-use Rattle.std.proofs.Common.{◌≡◌, ◌⊎◌, inl, inr, ⊎_elim, ℕ, zero, suc, ◌+◌, ◌<◌, ◌≤◌, refl, ap}
-use Rattle.std.proofs.Common.{sym, ◌∙◌, subst, arith, true, false, ◌||◌, cond, All}
-use Rattle.std.proofs.Common.{List, [], ◌∷◌, ◌++◌, length, take, drop, Some, slice_get}
+use Rattle.std.proofs.Common.{◌≡◌, ◌⊎◌, inl, inr, ⊎_elim, ℕ, zero, suc, ◌≤◌, refl, ap}
+use Rattle.std.proofs.Common.{sym, ◌∙◌, subst, arith, true, false, ◌||◌, cond}
+use Rattle.std.proofs.Common.{List, [], ◌∷◌, ◌++◌, length, take, Some, slice_get}
 use Rattle.std.proofs.lemmas.List.{take-append-le}
-use Rattle.std.specs.Arc.{arc_value}
 use mathlib.Core.List.{IsPrefix}
 use Rattle.tk_shape.specs.declared.shape.Shape.{Shape}
 use Rattle.tk_frames.specs.declared.entry.Placed.{Placed}
-use Rattle.tk_frames.specs.Order.{Record, before, has_mark, is_mark_of}
+use Rattle.tk_frames.specs.Order.{Record, has_mark, is_mark_of}
 use Rattle.tk_frames.specs.InOrder.{mark_count, mark_position, IsOrder}
 use Rattle.tk_frames.proofs.Offers.{has-mark, before-more, mark_position-none, order-front}
 use Rattle.tk_frames.proofs.Offers.{marks-append}
 use Rattle.tk_replica.specs.declared.epoch.Epoch.{Epoch}
 use Rattle.tk_replica.specs.Epochs.{EpochStandsFor, IsEpochOf}
-use Rattle.tk_replica.specs.Following.{marks_among, IsEpochAt}
+use Rattle.tk_replica.specs.Following.{marks_among}
 use Rattle.tk_cluster.specs.declared.set.EpochSet.{EpochSet}
 use Rattle.tk_cluster.specs.Sets.{Stands, Shows}
 

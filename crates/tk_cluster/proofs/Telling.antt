@@ -1,21 +1,20 @@
 -- What each call does to the publisher.
-use Rattle.std.proofs.Common.{◌≡◌, ◌⊎◌, inl, inr, ⊎_elim, ℕ, zero, suc, ◌+◌, ◌<◌, ◌≤◌, refl, ap}
+use Rattle.std.proofs.Common.{◌≡◌, inl, inr, ⊎_elim, ℕ, zero, suc, ◌+◌, ◌≤◌, refl, ap}
 use Rattle.std.proofs.Common.{sym, ◌∙◌, subst, arith, length-append}
-use Rattle.std.proofs.Common.{List, [], ◌∷◌, ◌++◌, length, take, drop, Some}
+use Rattle.std.proofs.Common.{List, [], ◌∷◌, ◌++◌, length, take, Some}
 use mathlib.Core.List.{IsPrefix}
 use Rattle.tk_shape.specs.declared.shape.Shape.{Shape}
 use Rattle.tk_frames.specs.declared.entry.Placed.{Placed}
 use Rattle.tk_frames.specs.declared.entry.Entry.TheVariants.{Mark}
 use Rattle.tk_frames.specs.InOrder.{mark_count, IsOrder}
 use Rattle.tk_order.specs.Legality.{of, placed, MayFollow}
-use Rattle.tk_order.specs.Seats.{Seated, own, own_in, SeesMore, Ordered, Meets}
+use Rattle.tk_order.specs.Seats.{Seated, own, own_in, Ordered}
 use Rattle.tk_order.proofs.Offers.{marks_under_zero, prefix_self, prefix_trans, prefix_length}
 use Rattle.tk_board.specs.Boards.{Known}
-use Rattle.tk_replica.specs.Following.{marks_among}
 use Rattle.tk_cluster.specs.declared.set.EpochSet.{EpochSet}
 use Rattle.tk_cluster.specs.Sets.{Stands, Shows}
-use Rattle.tk_cluster.specs.Tellings.{Telling, IsPublisher, marks, Grows, Published}
-use Rattle.tk_cluster.proofs.Standing.{shows-more, shows-next, among-more, stands-more}
+use Rattle.tk_cluster.specs.Tellings.{Telling, IsPublisher, Grows, Published}
+use Rattle.tk_cluster.proofs.Standing.{shows-more, shows-next, among-more}
 
 abbrev pub telling : List Placed → Known EpochSet → Telling
 telling seen board = record { seen = seen; board = board.board; shown = board.list }

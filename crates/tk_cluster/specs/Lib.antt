@@ -3,3 +3,4 @@ pub mod Refusals
 pub mod Passes
 pub mod Tellings
 pub mod Clusters
+pub mod Closings

@@ -3,6 +3,7 @@
 
 mod answer;
 mod calls;
+mod close;
 mod cluster;
 mod error;
 mod meet;
@@ -12,6 +13,7 @@ mod publisher;
 mod servers;
 mod set;
 
+pub use close::Closed;
 pub use cluster::Cluster;
 pub use error::{AnswerError, WriteError};
 pub use pass::Pass;

@@ -75,6 +75,14 @@ impl<B: Naming> Pass<B> {
         }
     }
 
+    /// Whose it is.
+    pub(crate) fn client(&self) -> u32
+        ensures is { result ≡ self.now.client }
+        ensures inside { result < B.shape.clients }
+    {
+        self.client
+    }
+
     /// How many writes it has ordered.
     pub fn ordered(&self) -> u32
         ensures { result ≡ length (own self.now) }

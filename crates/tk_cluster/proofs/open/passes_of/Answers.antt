@@ -1,13 +1,12 @@
 -- The next seat, and any reader.
-use Rattle.std.proofs.Common.{◌≡◌, ◌+◌, ◌-◌, ◌<◌, ◌∷◌, ◌++◌, [], ℕ, List, All, length, map, refl}
-use Rattle.std.proofs.Common.{ap, sym, ◌∙◌, subst, arith}
+use Rattle.std.proofs.Common.{◌≡◌, ◌+◌, ◌-◌, ◌∷◌, [], length}
+use Rattle.std.proofs.Common.{ap, sym, ◌∙◌, arith}
 use Rattle.std.specs.Prelude.{slice_index_or}
 use Rattle.std.specs.Arc.{arc_value}
-use Rattle.std.specs.List.{range_with_len, remove}
-use Rattle.atomic_table.specs.Seated.{TableId}
+use Rattle.std.specs.List.{remove}
 use Rattle.tk_board.specs.Boards.{Known}
 use Rattle.tk_cluster.specs.declared.set.EpochSet.{EpochSet}
-use Rattle.tk_cluster.specs.Passes.{Passing, fresh, seat_for, seats_for}
+use Rattle.tk_cluster.specs.Passes.{fresh, seat_for, seats_for}
 use Rattle.tk_cluster.proofs.Opening.{seats_next, all_front, all_last, passes_more}
 use Rattle.tk_cluster.proofs.open.passes_of.Goals as goal
 

@@ -1,16 +1,15 @@
 -- The first seat is the publisher's, and the others are the clients', by number.
-use Rattle.std.proofs.Common.{◌≡◌, ◌+◌, ◌<◌, ◌≤◌, ◌∷◌, [], ℕ, List, All, Some, length, map, refl, ap}
+use Rattle.std.proofs.Common.{◌≡◌, ◌∷◌, [], Some, length, map, ap}
 use Rattle.std.proofs.Common.{sym, ◌∙◌, subst, arith}
 use Rattle.std.specs.Prelude.{slice_index_or}
 use Rattle.std.specs.Arc.{arc_value}
 use Rattle.std.specs.List.{range_with_len, remove}
-use Rattle.tk_frames.specs.declared.entry.Placed.{Placed}
 use Rattle.tk_shape.specs.declared.shape.Shape.{Shape}
-use Rattle.tk_order.specs.Seats.{Seated, seated, opened}
+use Rattle.tk_order.specs.Seats.{Seated, seated}
 use Rattle.tk_board.specs.Boards.{Known}
 use Rattle.tk_cluster.specs.declared.set.EpochSet.{EpochSet}
 use Rattle.tk_cluster.specs.Sets.{Stands}
-use Rattle.tk_cluster.specs.Passes.{Passing, fresh, seats_for}
+use Rattle.tk_cluster.specs.Passes.{fresh, seats_for}
 use Rattle.tk_cluster.proofs.Opening.{opened_is, same_boards, same_lists}
 use Rattle.tk_cluster.proofs.cluster.Cluster.open.Goals as goal
 
