@@ -1,4 +1,4 @@
--- What is retained is delivered as it was written, and nothing else is.
+-- In a clear run what is retained is delivered as it was written, and nothing else is.
 use Rattle.std.specs.Prelude.{◌≡◌, ◌↔◌, ℕ, ◌<◌, ◌==◌, Bool, true, false, not, ◌&&◌, ◌||◌, List}
 use Rattle.std.specs.Prelude.{Option, Some, None, is_some, Contains}
 use Rattle.std.specs.List.{AllByRecursion, list_all, range_with_len}

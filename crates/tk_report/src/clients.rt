@@ -19,18 +19,21 @@ impl Model for Clients {
 impl Clients {
     ghost use Rattle.std.specs.Prelude.{◌≡◌};
 
+    /// Clients by number: the first one is client 0.
     pub fn from_vec(items: Vec<Client>) -> Clients
         ensures { result ≡ items.items }
     {
         Clients { items }
     }
 
+    /// The clients by number, lent.
     pub fn as_slice(&self) -> &[Client]
         ensures { result.now ≡ self.now }
     {
         self.items.as_slice()
     }
 
+    /// The clients by number, handed over.
     pub fn into_vec(self) -> Vec<Client>
         ensures { result.items ≡ self }
     {

@@ -52,7 +52,8 @@ pub fn one_history()
     ensures one { ShowsOne }
 {}
 
-/// What is retained is delivered as it was written, and nothing else is.
+/// In a clear run what is retained is delivered as it was written, and nothing else is. A run is
+/// clear where no write gives a text for a number but the record of that number.
 pub fn delivered()
     ensures delivers { DeliversAsWritten }
     ensures in_range { SentInRange }

@@ -14,7 +14,7 @@ use tk_shape::Memory;
 use tk_words::Draws;
 
 /// For each client its read in a turn, over the epoch that the history gives it. A turn's own epoch
-/// is there too.
+/// is there too. Where memory runs out nothing is promised of the clients.
 pub fn read_turn<D: Draws>(
     alloc: Global,
     plan: &Plan<D>,

@@ -11,7 +11,8 @@ use tk_script::Script;
 use tk_shape::Memory;
 
 /// The texts that are said in a turn, from this place on in the script, join the queues of their
-/// logs' writers. Answers the place behind them.
+/// logs' writers. Answers the place after them. Where memory runs out some of them may have joined,
+/// and nothing is promised of the clients.
 pub fn say_turn(
     alloc: Global,
     script: &Script,

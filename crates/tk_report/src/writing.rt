@@ -31,7 +31,7 @@ use tk_shape::{Memory, Shape};
 use tk_words::Draws;
 
 /// Applies each entry of a turn in the order of the history: what each client writes, and the mark
-/// where the turn closes a phase.
+/// where the turn closes a phase. Where memory runs out nothing is promised of clients and replica.
 pub fn write_turn<D: Draws>(
     alloc: Global,
     plan: &Plan<D>,
@@ -73,7 +73,8 @@ fn place_next(alloc: Global, entry: Entry, replica: &mut ReplicaState) -> Result
     replica.apply(alloc, &Placed { position, entry })
 }
 
-/// The entry of an item of a turn: its client's write, or the mark of the turn's phase.
+/// The entry of an item of a turn: its client's write, or the mark of the turn's phase. Where memory
+/// runs out nothing is promised of the client.
 pub fn entry_of<D: Draws>(
     alloc: Global,
     plan: &Plan<D>,
