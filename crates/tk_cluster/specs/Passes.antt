@@ -111,6 +111,13 @@ pub record Reads (step : Reading → Reading → Type 0) (a b : Passing) : Type 
   pub seen : b.seen ≡ a.seen
   pub reads : step a.reads b.reads
 
+-- ---- any call
+
+-- the pass of the same client, of the same board
+pub record Stays (a b : Passing) : Type 0 where
+  pub client : b.client ≡ a.client
+  pub board : b.reads.board ≡ a.reads.board
+
 -- ---- meet
 
 -- the pass has seen just this list, which begins with what it had seen

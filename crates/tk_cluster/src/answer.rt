@@ -1,9 +1,11 @@
-ghost use Rattle.std.specs.Prelude.{◌≡◌, ◌≤◌, List, None, length, IfOk, IfErr, OnOk};
+ghost use Rattle.std.specs.Prelude.{◌≡◌, ◌≤◌, ℕ, List, None, length, IfOk, IfErr, OnOk};
 ghost use Rattle.tk_shape.specs.declared.shape.Shape.{Shape};
 ghost use Rattle.tk_frames.specs.declared.entry.Placed.{Placed};
 ghost use Rattle.tk_frames.specs.Faults.{first_fault, read_checks};
 ghost use Rattle.tk_frames.specs.Ranges.{IsRead};
 ghost use Rattle.tk_shape.specs.Lengths.{vector_len};
+ghost use Rattle.tk_bloom.specs.Filters.{all_marked};
+ghost use Rattle.tk_table.specs.Shown.{is_shown};
 ghost use Rattle.tk_replica.specs.Replies.{sum_over, frame_over, reply_bytes};
 ghost use Rattle.tk_replica.specs.Epochs.{filter_of, IsEpochOf};
 ghost use Rattle.tk_frames.specs.Order.{before};
@@ -21,8 +23,11 @@ use tk_shape::{Bytes, Memory};
 impl EpochSet {
     /// What is worth reading in its epochs.
     pub fn filter(&self) -> &Filter
-        ensures { (shape : Shape) (E : List Placed) → Stands shape E self.now.number self.now
+        ensures marks { (shape : Shape) (E : List Placed) → Stands shape E self.now.number self.now
             → result.now ≡ filter_of shape (before E self.now.number) }
+        ensures shows { (shape : Shape) (E : List Placed) → Stands shape E self.now.number self.now
+            → (hits : List ℕ)
+            → all_marked result.now hits ≡ is_shown shape (before E self.now.number) hits }
     {
         self.epoch(1).filter()
     }

@@ -13,7 +13,7 @@ use tk_shape::Memory;
 impl<B: Naming> Cluster<B> {
     /// Orders the write that a frame spells under the pass's number, and answers its position.
     /// After a refusal nothing is ordered.
-    pub fn write<R: Wait + AllocGlobal>(
+    pub fn write<R: Wait>(
         &self,
         rt: &R,
         pass: &mut Pass<B>,

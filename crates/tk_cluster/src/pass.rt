@@ -76,7 +76,7 @@ impl<B: Naming> Pass<B> {
     }
 
     /// Whose it is.
-    pub(crate) fn client(&self) -> u32
+    pub fn client(&self) -> u32
         ensures is { result ≡ self.now.client }
         ensures inside { result < B.shape.clients }
     {
@@ -98,7 +98,7 @@ impl<B: Naming> Pass<B> {
     }
 
     /// Orders the write of its client that a frame spells.
-    pub(crate) fn write<R: Wait + AllocGlobal>(
+    pub(crate) fn write<R: Wait>(
         &mut self,
         rt: &R,
         shape: &Shape,
@@ -112,7 +112,8 @@ impl<B: Naming> Pass<B> {
         ensures refused { IfErr result (IsWriteRefusal B.shape self.old.client frame.now) }
         ensures err { OnErr result (Sees self.old self.new) }
     {
-        let write = self.checked(rt.alloc(), shape, frame)?;
+        let alloc = *self.pinned.allocator();
+        let write = self.checked(alloc, shape, frame)?;
         Ok(self.order(rt, order, write)?)
     }
 

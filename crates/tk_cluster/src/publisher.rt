@@ -143,6 +143,12 @@ impl<B: Naming> Publisher<B> {
         self.seat.legal();
     }
 
+    /// Ends it where a run is given up, without its cluster.
+    pub fn give_up<R: Wait + AllocGlobal>(self, rt: &R) {
+        let (_seat, board) = self.into_parts();
+        let _lost = board.close(rt, Vec::new(rt.alloc()));
+    }
+
     /// Its seat and its board.
     pub(crate) fn into_parts(self) -> (OrderSeat<B>, Board<Arc<EpochSet>>)
         ensures seat { result.0 ≡ seated self.seen (Some 0) }
