@@ -2,3 +2,11 @@ pub mod Pages
 pub mod OneSlot
 pub mod Tables
 pub mod Rest
+pub mod Rows
+pub mod Changing
+pub mod PageBlocks
+pub mod Sized
+pub mod Powers
+pub mod PerPage
+pub mod BecomeShared
+pub mod Opened

@@ -84,7 +84,7 @@ table_in-put_mid buckets depth block b s bytes x in_table in_bucket long e =
 
 -- ---- an empty table
 
-map-replicate : {X Y : Type 0} (f : X → Y) → (n : ℕ) (x : X) → map f (replicate n x) ≡ replicate n (f x)
+pub map-replicate : {X Y : Type 0} (f : X → Y) → (n : ℕ) (x : X) → map f (replicate n x) ≡ replicate n (f x)
 map-replicate f zero x = refl
 map-replicate f (suc n) x = ap (λ ys. f x ∷ ys) (map-replicate f n x)
 

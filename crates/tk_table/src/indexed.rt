@@ -26,12 +26,12 @@ pub(crate) struct Indexed {
 
 impl Model for Indexed {
     ghost use Rattle.std.specs.Prelude.{◌≡◌};
-    ghost use Rattle.tk_bucket.specs.Table.{Stored};
+    ghost use Rattle.tk_bucket.specs.Paging.{Stored};
     ghost use Rattle.tk_table.specs.Table.{others_from};
 
     ghost Value = { Stored };
 
-    ghost view = { λ i. record { contents = i.buckets.contents } };
+    ghost view = { λ i. i.buckets };
 
     ghost invariant = { λ i. i.index ≡ others_from 0 i.buckets.contents.table };
 }
@@ -55,7 +55,7 @@ impl Indexed {
         }) }
     {
         Ok(Indexed {
-            buckets: Buckets::new(alloc, buckets, depth, block).map_err(|_| Memory)?,
+            buckets: Buckets::new(alloc, buckets, depth, block)?,
             index: Index::new(alloc, buckets, depth)?,
         })
     }
@@ -170,6 +170,6 @@ impl Indexed {
         ensures blocks { IfOk result (λ p. p.blocks ≡ blocks_of self.old.contents.table) }
         ensures kept { self.new.contents ≡ self.old.contents }
     {
-        self.buckets.snapshot(alloc).map_err(|_| Memory)
+        self.buckets.snapshot(alloc)
     }
 }

@@ -51,6 +51,13 @@ impl Model for Table {
         t.latest };
 }
 
+/// What searches among so many buckets keep their steps in.
+fn scratch_for(alloc: Global, buckets: u32) -> Result<Scratch, Memory>
+    ensures { IfOk result (λ s. s.buckets ≡ buckets) }
+{
+    Scratch::new(alloc, buckets).map_err(|_| Memory)
+}
+
 impl Table {
     /// An empty table. It takes all its memory here.
     pub fn open(alloc: Global, shape: &Shape) -> Result<Table, Memory>
@@ -60,7 +67,7 @@ impl Table {
         Ok(Table {
             shape: *shape,
             grid: Grid::open(alloc, shape)?,
-            scratch: Scratch::new(alloc, shape.buckets).map_err(|_| Memory)?,
+            scratch: scratch_for(alloc, shape.buckets)?,
             latest: Latest::new(alloc, shape.retained)?,
         })
     }

@@ -1,11 +1,7 @@
-use Rattle.tk_bucket.proofs.Tables.{sized_table}
+use Rattle.tk_bucket.proofs.Sized.{sized_pages}
 use Rattle.tk_bucket.proofs.buckets.Buckets.sized.Goals as goal
 
-pub returns : goal.returns
-returns c =
+pub returns-clause-sizes : goal.returns-clause-sizes
+returns-clause-sizes c =
     let inside = c.self.inside in
-    let sizes = inside.sizes in
-    record {
-      sizes = rw (← c.self.view_is)
-          (sized_table sizes.buckets sizes.depth sizes.block inside.bytes.items sizes.in_range c.self.invariant);
-    }
+    rw (← c.self.view_is) (sized_pages inside.cut.page inside.pages.items inside.pool c.self.invariant)

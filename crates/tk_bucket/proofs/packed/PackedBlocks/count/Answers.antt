@@ -1,9 +1,14 @@
-use Rattle.std.proofs.Common.{sym}
-use Rattle.tk_kernel.proofs.Offers.{length-pieces}
-use Rattle.tk_bucket.specs.Sizes.{bucket_len}
+use Rattle.std.proofs.Common.{◌*◌, length, map, ap, sym, ◌∙◌}
+use Rattle.std.specs.Arc.{arc_value}
+use Rattle.std.proofs.lemmas.List.{length-map}
+use Rattle.tk_bucket.specs.Bytes.{BlockList}
+use Rattle.tk_bucket.proofs.PageBlocks.{block_count}
 use Rattle.tk_bucket.proofs.packed.PackedBlocks.count.Goals as goal
 
 pub returns : goal.returns
 returns c =
     let inside = c.self.inside in
-    rw (← c.self.view_is) (sym (length-pieces (bucket_len inside.sizes.depth inside.sizes.block) inside.sizes.buckets inside.bytes.items))
+    let xs = map arc_value inside.pages.items in
+    ap (λ n. n * inside.cut.page.buckets) (c.len.ensures ∙ inside.pages.ok.0 ∙ sym (length-map inside.pages.items arc_value))
+    ∙ sym (block_count inside.cut.page xs c.self.invariant.each)
+    ∙ ap (λ (v : BlockList). length v.blocks) c.self.view_is

@@ -1,39 +1,52 @@
-use Rattle.std.proofs.Common.{◌≡◌, ◌+◌, ◌-◌, ◌<◌, length, arith, sym, ap, ◌∙◌}
-use Rattle.tk_kernel.proofs.Offers.{length-pieces}
-use Rattle.tk_bucket.specs.Sizes.{bucket_len}
-use Rattle.tk_bucket.specs.Bytes.{BlockList}
-use Rattle.tk_bucket.proofs.Tables.{slot_ends}
-use Rattle.tk_bucket.proofs.Rest.{rest_is_run}
+use Rattle.std.proofs.Common.{◌≡◌, ◌+◌, ◌-◌, ◌<◌, length, map, arith, ap, ◌∙◌}
+use Rattle.std.specs.Arc.{arc_value}
+use Rattle.std.proofs.Math.Nat.{mod-lt}
+use Rattle.tk_bucket.specs.Bytes.{BlockList, blocks_of}
+use Rattle.tk_bucket.specs.Holding.{table_in_pages}
+use Rattle.tk_bucket.proofs.PageBlocks.{run_page, run_whole, page_is_run}
 use Rattle.tk_bucket.proofs.packed.PackedBlocks.run.Goals as goal
+
+pub index-page-requires : goal.index-page-requires
+index-page-requires c =
+    let page = c.self.inside.cut.page in
+    let ps = c.self.inside.pages.items in
+    let below : c.args.i < length (blocks_of (table_in_pages page (map arc_value ps))) =
+    omega (arith, ap (λ (v : BlockList). length v.blocks) c.self.view_is, c.requires) in
+    let found = run_page arc_value page ps c.self.invariant.each c.args.i c.page_of.result below
+    c.page_of.ensures in
+    omega (arith, found, c.self.inside.pages.ok.0)
 
 pub bucket_start-requires : goal.bucket_start-requires
 bucket_start-requires c =
-    let inside = c.self.inside in
-    let counted : length c.args.self.now.blocks ≡ inside.sizes.buckets =
-    ap (λ (v : BlockList). length v.blocks) (sym c.self.view_is)
-    ∙ length-pieces (bucket_len inside.sizes.depth inside.sizes.block) inside.sizes.buckets inside.bytes.items in
-    omega (arith, counted, c.requires)
+    let page = c.self.inside.cut.page in
+    rw c.place_in-first.ensures.bucket (mod-lt c.args.i page.in_range.buckets_low)
 
-pub slice_bounds-result-start : goal.slice_bounds-result-start
-slice_bounds-result-start c =
-    omega (arith, c.bucket_start.ensures.within, c.self.invariant, ap length c.deref.ensures.value)
-
-pub slice_bounds-result-count : goal.slice_bounds-result-count
-slice_bounds-result-count c =
-    omega (arith, c.bucket_start.ensures.within, c.self.invariant, ap length c.deref.ensures.value)
+pub rest_from-requires : goal.rest_from-requires
+rest_from-requires c =
+    let page = c.self.inside.cut.page in
+    let ps = c.self.inside.pages.items in
+    let below : c.args.i < length (blocks_of (table_in_pages page (map arc_value ps))) =
+    omega (arith, ap (λ (v : BlockList). length v.blocks) c.self.view_is, c.requires) in
+    let whole = run_whole arc_value page ps c.self.invariant.each c.args.i c.page_of.result below
+    c.page_of.ensures c.index-page.result.now c.bytes.result.now c.index-page.ensures
+    (c.bytes.ensures ∙ c.deref.ensures) in
+    omega (arith, c.bucket_start.ensures.within, whole)
 
 pub returns : goal.returns
 returns c =
-    let inside = c.self.inside in
-    let sizes = inside.sizes in
-    let i = c.args.i in
-    let items = inside.bytes.items in
+    let page = c.self.inside.cut.page in
+    let ps = c.self.inside.pages.items in
+    let x = c.bytes.result.now in
     let start = c.bucket_start.result in
-    let wide = bucket_len sizes.depth sizes.block in
-    let counted : length c.args.self.now.blocks ≡ sizes.buckets =
-    ap (λ (v : BlockList). length v.blocks) (sym c.self.view_is) ∙ length-pieces wide sizes.buckets items in
-    let less : i < sizes.buckets = omega (arith, counted, c.requires) in
-    let some : 0 < wide = omega (arith, slot_ends sizes.depth sizes.block 0 (omega (arith, sizes.in_range.depth_low))) in
-    let ends : length items - start + start ≡ length items = omega (arith, c.bucket_start.ensures.within, c.self.invariant) in
-    rw (← c.self.view_is, c.deref.ensures.value)
-    (rest_is_run wide sizes.buckets i (sizes.buckets - i) start (length items - start) items some (omega arith) (omega arith) c.self.invariant c.bucket_start.ensures.value ends)
+    let below : c.args.i < length (blocks_of (table_in_pages page (map arc_value ps))) =
+    omega (arith, ap (λ (v : BlockList). length v.blocks) c.self.view_is, c.requires) in
+    let whole = run_whole arc_value page ps c.self.invariant.each c.args.i c.page_of.result below
+    c.page_of.ensures c.index-page.result.now x c.index-page.ensures
+    (c.bytes.ensures ∙ c.deref.ensures) in
+    let ends : length x - start + start ≡ length x =
+    omega (arith, c.bucket_start.ensures.within, whole) in
+    rw (← c.self.view_is, c.rest_from.ensures.rest)
+    (page_is_run arc_value page ps c.self.invariant.each c.args.i c.page_of.result below
+    c.page_of.ensures c.index-page.result.now x c.index-page.ensures
+    (c.bytes.ensures ∙ c.deref.ensures) c.place_in-first.result.bucket start (length x - start)
+    c.place_in-first.ensures.bucket c.rest_from.ensures.bytes c.bucket_start.ensures.value ends)

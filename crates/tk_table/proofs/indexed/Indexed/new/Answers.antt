@@ -15,6 +15,6 @@ invariant_of-result c =
       table = empty_table a.buckets a.depth a.block;
     }
     in
-    let e : c.in_ok-map_err.field-0.contents ≡ empty = search rules in
-    c.in_ok-new.ensures ∙ sym (others-empty a.buckets a.depth a.block)
+    let e : c.in_ok-new.field-0.contents ≡ empty = search rules in
+    c.in_ok-new-2.ensures ∙ sym (others-empty a.buckets a.depth a.block)
     ∙ ap (λ (n : Contents). others_from 0 n.table) (sym e)
