@@ -11,6 +11,7 @@ use Rattle.tk_script.specs.declared.error.ScriptError.{ScriptError}
 use Rattle.tk_script.specs.declared.error.ScriptError.TheVariants as script_error
 use Rattle.tk_script.specs.Reading.{read_input}
 use Rattle.tk_script.specs.Grammar.{lines_of, Spells}
+use Rattle.tk_script.specs.declared.form.Form.TheVariants.{Run}
 use Rattle.tk_run.specs.declared.run_error.RunError.{RunError}
 use Rattle.tk_run.specs.declared.run_error.RunError.TheVariants as run_error
 use Rattle.tk_cli.specs.declared.status.Status.{Status}
@@ -23,8 +24,8 @@ Taps = ℕ → Option (List ℕ)
 
 -- bytes that are no input
 pub script_refused : (e : ScriptError) (bytes : List ℕ) (tap : Taps) →
-    IsRefusal e (read_input (lines_of bytes)) →
-    ((input : Input) → Spells bytes input → IsMemory e) →
+    IsRefusal e (read_input Run (lines_of bytes)) →
+    ((input : Input) → Spells Run bytes input → IsMemory e) →
     EndsWith (script_status e) bytes tap tap
 script_refused (script_error.Line line c) bytes tap said none =
     (record { first = said; none = none }, λ j. refl)
@@ -46,7 +47,7 @@ ended_by s bytes tap tap' (inr memory) fronts =
 
 -- a tape of another length
 pub tape_refused : (e : BookError) (bytes : List ℕ) (input : Input) (tap : Taps) →
-    Spells bytes input →
+    Spells Run bytes input →
     ((want got : ℕ) → e ≡ book_error.Tape want got →
     IsOtherTape input.first.shape input.tape want got) →
     EndsWith (book_status e) bytes tap tap

@@ -6,6 +6,7 @@ use Rattle.std.proofs.lemmas.List.{length-take-le}
 use Rattle.tk_shape.specs.declared.shape.Shape.{Shape}
 use Rattle.tk_shape.specs.Lengths.{tape_len}
 use Rattle.tk_script.specs.Grammar.{Line, Spells, TapeFor, kept_of}
+use Rattle.tk_script.specs.declared.form.Form.TheVariants.{Run}
 use Rattle.tk_script.specs.SoundScript.{has_keys}
 use Rattle.std.proofs.lemmas.Bool.{and_parts as parts}
 use Rattle.tk_script.specs.declared.keys.Keys.{Keys}
@@ -29,7 +30,7 @@ keyed_whole shape None lines tape k t is = absurd (search rules)
 keyed_whole shape (Some keys) lines tape k t is =
     subst (IsWholeTape shape) (sym t.1) tt
 
-keyed_run : (bytes : List ℕ) (input : Input) (keys : Keys) → Spells bytes input →
+keyed_run : (bytes : List ℕ) (input : Input) (keys : Keys) → Spells Run bytes input →
     input.first.keys ≡ Some keys → IsRunOf bytes input
 keyed_run bytes input keys s is = record {
   spelled = s;
@@ -58,14 +59,14 @@ tape_kept shape None lines tape t ends is some got =
     ∙ all_kept (tape_len shape) (2 ^ 64 - 1) ends.0 counted
 tape_kept shape (Some keys) lines tape t ends is some got = absurd (search rules)
 
-drawn_kept : (bytes : List ℕ) (input : Input) (t : RawTape) → Spells bytes input →
+drawn_kept : (bytes : List ℕ) (input : Input) (t : RawTape) → Spells Run bytes input →
     input.first.keys ≡ None → input.tape ≡ Some t → t.got ≡ tape_len input.first.shape →
     length t.bytes ≡ tape_len input.first.shape
 drawn_kept bytes input t s is some got =
     tape_kept input.first.shape input.first.keys s.rest input.tape t s.tape is some got
 
 -- a drawn input has a tape, of which all is kept where as much was read as the shape wants
-pub input-has_tape : (bytes : List ℕ) (input : Input) → Spells bytes input →
+pub input-has_tape : (bytes : List ℕ) (input : Input) → Spells Run bytes input →
     HasTape input.first.shape input.first.keys input.tape
 input-has_tape bytes input s =
     let shape = input.first.shape in
@@ -78,7 +79,7 @@ input-has_tape bytes input s =
     ] refl
 
 -- with the tape that it wants an input may run
-pub input-runs : (bytes : List ℕ) (input : Input) → Spells bytes input →
+pub input-runs : (bytes : List ℕ) (input : Input) → Spells Run bytes input →
     (input.first.keys ≡ None → IsWholeTape input.first.shape input.tape) → IsRunOf bytes input
 input-runs bytes input s whole =
     elim input.first.keys as (λ k. input.first.keys ≡ k → IsRunOf bytes input) [

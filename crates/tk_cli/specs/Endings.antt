@@ -10,6 +10,7 @@ use Rattle.tk_script.specs.declared.error.ScriptError.TheVariants as script_erro
 use Rattle.tk_script.specs.declared.input.Input.{Input}
 use Rattle.tk_script.specs.Grammar.{lines_of, Spells}
 use Rattle.tk_script.specs.Reading.{read_input}
+use Rattle.tk_script.specs.declared.form.Form.TheVariants.{Run}
 use Rattle.tk_run.specs.declared.run_error.RunError.{RunError}
 use Rattle.tk_run.specs.declared.run_error.RunError.TheVariants as run_error
 use Rattle.tk_cli.specs.declared.status.Status.{Status}
@@ -36,8 +37,8 @@ run_status run_error.Memory = status.Memory
 
 -- this line of the bytes is the first that is refused, for this cause; and they spell no input
 pub record Refuses (bytes : List ℕ) (line : ℕ) (c : Cause) : Type 0 where
-  pub first : read_input (lines_of bytes) ≡ Err (line, c)
-  pub none : (input : Input) → Spells bytes input → ⊥
+  pub first : read_input Run (lines_of bytes) ≡ Err (line, c)
+  pub none : (input : Input) → Spells Run bytes input → ⊥
 
 -- a run of the bytes may end with this status
 abbrev pub EndsWith : Status → List ℕ → (ℕ → Option (List ℕ)) → (ℕ → Option (List ℕ)) → Type 0

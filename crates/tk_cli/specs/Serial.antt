@@ -6,6 +6,7 @@ use Rattle.tk_schedule.specs.Schedule.{serial_history}
 use Rattle.tk_script.specs.declared.input.RawTape.{RawTape}
 use Rattle.tk_script.specs.declared.input.Input.{Input}
 use Rattle.tk_script.specs.Grammar.{Spells}
+use Rattle.tk_script.specs.declared.form.Form.TheVariants.{Run}
 use Rattle.tk_script.specs.Book.{book_of, IsWholeTape}
 use Rattle.tk_report.specs.Report.{report}
 use Rattle.tk_report.specs.Exchange.{exchange, bytes_of}
@@ -21,7 +22,7 @@ seen_in input j =
 
 -- the bytes spell this input, with a tape of the wanted length where it is drawn
 pub record IsRunOf (bytes : List ℕ) (input : Input) : Type 0 where
-  pub spelled : Spells bytes input
+  pub spelled : Spells Run bytes input
   pub tape : IsWholeTape input.first.shape input.tape
 
 -- the bytes spell an input, the output is the report of its serial run, and the taps gained what
@@ -44,7 +45,7 @@ pub record RunsInto (bytes : List ℕ) (tap tap' : ℕ → Option (List ℕ)) : 
 pub record HasOtherTape (bytes : List ℕ) (want got : ℕ) : Type 0 where
   pub input : Input
   pub tape : RawTape
-  pub spelled : Spells bytes input
+  pub spelled : Spells Run bytes input
   pub drawn : input.tape ≡ Some tape
   pub wanted : want ≡ tape_len input.first.shape
   pub gotten : got ≡ tape.got

@@ -20,7 +20,7 @@ use std::thread::Threads;
 use tk_io::{Gate, Sink, Source, Taps, put_all, read_all};
 use tk_report::{ends, print_outcome};
 use tk_run::serial;
-use tk_script::{Input, Script, parse};
+use tk_script::{Form, Input, Script, parse};
 use tk_shape::Bytes;
 use tk_words::{Book, Draws};
 
@@ -149,7 +149,8 @@ fn report_of<T: Taps>(alloc: Global, text: &[u8], taps: &mut T) -> Result<Vec<u8
     let Input {
         first: script,
         tape,
-    } = parse(alloc, text)?;
+        ..
+    } = parse(alloc, text, Form::Run)?;
     match script.book(alloc, tape)? {
         Book::Keyed(draws) => report_by(alloc, &script, &draws, taps),
         Book::Drawn(draws) => report_by(alloc, &script, &draws, taps),

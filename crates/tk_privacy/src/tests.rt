@@ -5,7 +5,7 @@ use crate::{MirrorError, mirror, view};
 use std::alloc::Global;
 use std::test::Fail;
 use tk_schedule::History;
-use tk_script::{Script, parse};
+use tk_script::{Form, Script, parse};
 use tk_shape::{Differs, Field};
 use tk_words::{DrawnDraws, Tape};
 
@@ -140,7 +140,7 @@ fn read(alloc: Global, script: &[u8], words: &[u8]) -> Result<(Script, Tape), Fa
     let mut text = Vec::new(alloc);
     text.extend_from_slice(script)?;
     text.extend_from_slice(words)?;
-    let input = parse(alloc, text.as_slice()).ok().ok_or("a script")?;
+    let input = parse(alloc, text.as_slice(), Form::Run).ok().ok_or("a script")?;
     let bytes = input.tape.ok_or("its words")?.bytes.into_vec();
     let shape = input.first.shape;
     let tape = Tape::from_bytes(&shape, bytes).ok().ok_or("its length")?;

@@ -19,7 +19,6 @@ pub mod OneHistoryLaws
 pub mod TextLines
 pub mod KindLaws
 pub mod RawLaws
-pub mod PartLaws
 pub mod StorableLaws
 pub mod DeliveredLaws
 pub mod ClearLaws

@@ -23,7 +23,8 @@ use Rattle.tk_script.proofs.Offers.{feed_by_test}
 use Rattle.tk_script.proofs.Offers.{all_digits}
 use Rattle.std.proofs.lemmas.Bool.{and_parts as parts}
 use Rattle.tk_frames.proofs.Offers.{turn_count_small}
-use Rattle.tk_report.specs.Report.{line, item_field, turn_lines, history_lines}
+use Rattle.tk_script.specs.Grammar.{item_word}
+use Rattle.tk_report.specs.Report.{line, turn_lines, history_lines}
 use Rattle.tk_report.specs.Histories.{ShowsOne}
 use Rattle.tk_report.proofs.LineCuts.{IsField, decimal-field, cut_line, space_by_test}
 
@@ -44,7 +45,7 @@ pub below : (c n : ℕ) → nat_lt c n ≡ true → c < n
 below c n h = grind (arith, tests)
 
 pub items-fields : (n : ℕ) (items : List Item) → n ≤ 64 → list_all (is_within n) items ≡ true →
-    AllByRecursion IsField (map item_field items)
+    AllByRecursion IsField (map item_word items)
 items-fields n [] small within = tt
 items-fields n (Client c ∷ items) small within =
     let both = parts (nat_lt c n) (list_all (is_within n) items) within in
@@ -70,7 +71,7 @@ cons_both x y xs ys p q = cc (p, q)
 
 -- fields tell one order
 items-same : (n : ℕ) (xs ys : List Item) → n ≤ 64 → list_all (is_within n) xs ≡ true →
-    list_all (is_within n) ys ≡ true → map item_field xs ≡ map item_field ys → xs ≡ ys
+    list_all (is_within n) ys ≡ true → map item_word xs ≡ map item_word ys → xs ≡ ys
 items-same n [] [] small p q e = refl
 items-same n [] (y ∷ ys) small p q e = absurd (cc e)
 items-same n (x ∷ xs) [] small p q e = absurd (cc e)
@@ -80,25 +81,25 @@ items-same n (Client c ∷ xs) (Client d ∷ ys) small p q e =
     let low = below c n one.0 in
     let also = below d n two.0 in
     let same = decimal_injective c d (omega (arith, low, small)) (omega (arith, also, small))
-    (first_same (decimal c) (decimal d) (map item_field xs) (map item_field ys) e)
+    (first_same (decimal c) (decimal d) (map item_word xs) (map item_word ys) e)
     in
     cons_both (Client c) (Client d) xs ys (ap (λ k. Client k) same)
     (items-same n xs ys small one.1 two.1
-    (rest_same (decimal c) (decimal d) (map item_field xs) (map item_field ys) e))
+    (rest_same (decimal c) (decimal d) (map item_word xs) (map item_word ys) e))
 items-same n (Client c ∷ xs) (Publish ∷ ys) small p q e =
     let one = parts (nat_lt c n) (list_all (is_within n) xs) p in
     let low = below c n one.0 in
     absurd (not_mark c (omega (arith, low, small))
-    (first_same (decimal c) (codes "mark") (map item_field xs) (map item_field ys) e))
+    (first_same (decimal c) (codes "mark") (map item_word xs) (map item_word ys) e))
 items-same n (Publish ∷ xs) (Client d ∷ ys) small p q e =
     let two = parts (nat_lt d n) (list_all (is_within n) ys) q in
     let low = below d n two.0 in
     absurd (not_mark d (omega (arith, low, small))
-    (sym (first_same (codes "mark") (decimal d) (map item_field xs) (map item_field ys) e)))
+    (sym (first_same (codes "mark") (decimal d) (map item_word xs) (map item_word ys) e)))
 items-same n (Publish ∷ xs) (Publish ∷ ys) small p q e =
     cons_both Publish Publish xs ys refl
     (items-same n xs ys small p q
-    (rest_same (codes "mark") (codes "mark") (map item_field xs) (map item_field ys) e))
+    (rest_same (codes "mark") (codes "mark") (map item_word xs) (map item_word ys) e))
 
 -- ---- the fields of epochs
 
@@ -163,7 +164,7 @@ is-small shape g low =
 
 abbrev pub order_fields : Shape → History → ℕ → Fields
 order_fields shape H g =
-    decimal (phase_of shape g) ∷ decimal (tick_of shape g) ∷ map item_field (order_at H g)
+    decimal (phase_of shape g) ∷ decimal (tick_of shape g) ∷ map item_word (order_at H g)
 
 abbrev pub reads_fields : Shape → History → ℕ → Fields
 reads_fields shape H g =
@@ -270,8 +271,8 @@ turn-told shape H K g x y low legal also e =
     (sym (append_assoc first reads x) ∙ e ∙ append_assoc other others y)
     in
     let told = behind_three (codes "order") (decimal (phase_of shape g))
-    (decimal (tick_of shape g)) (map item_field (order_at H g))
-    (map item_field (order_at K g)) cut.0
+    (decimal (tick_of shape g)) (map item_word (order_at H g))
+    (map item_word (order_at K g)) cut.0
     in
     let order = items-same shape.clients (order_at H g) (order_at K g) shape.in_range.clients_high
     (turn_within shape g (turn_of H g) legal) (turn_within shape g (turn_of K g) also) told

@@ -25,12 +25,12 @@ use Rattle.tk_schedule.specs.Due.{bad_line}
 use Rattle.tk_schedule.specs.Told as told
 use Rattle.tk_schedule.specs.Told.{Tells}
 use Rattle.tk_schedule.proofs.Offers.{turn_within}
-use Rattle.tk_script.specs.Grammar.{Line, lines_of}
+use Rattle.tk_script.specs.Grammar.{Line, lines_of, item_word, IsItem}
 use Rattle.tk_script.proofs.Offers.{feed_by_test}
 use Rattle.tk_script.proofs.Offers.{IsWord}
 use Rattle.tk_script.proofs.Offers.{no_lines}
 use Rattle.std.proofs.lemmas.Bool.{and_parts as parts}
-use Rattle.tk_report.specs.Report.{line, item_field, turn_lines, history_lines}
+use Rattle.tk_report.specs.Report.{line, turn_lines, history_lines}
 use Rattle.tk_report.specs.ReportLines.{no_line, kind_said, stops, raw_from, bad_report_line}
 use Rattle.tk_report.specs.Shown.{ShowsHistory}
 use Rattle.tk_report.proofs.EachLaws.{each-append}
@@ -38,7 +38,7 @@ use Rattle.tk_report.proofs.LineCuts.{IsField}
 use Rattle.tk_report.proofs.OneHistoryLaws.{turn_of, IsSmall, is-small, order_fields, order-fields}
 use Rattle.tk_report.proofs.OneHistoryLaws.{reads_fields, reads-fields, below}
 use Rattle.tk_report.proofs.TextLines.{lines_of-line, first-whole, stop-first, first-stops}
-use Rattle.tk_report.proofs.KindLaws.{kind_text, IsShortItem, IsOwn, own-order, own-reads}
+use Rattle.tk_report.proofs.KindLaws.{kind_text, IsOwn, own-order, own-reads}
 use Rattle.tk_report.proofs.KindLaws.{said-no_end}
 
 -- ---- an end stands behind all
@@ -165,7 +165,7 @@ text-raw n (k ∷ ks) rest own stop =
 -- ---- the lines of a turn
 
 items-short : (n : ℕ) (items : List Item) → n ≤ 64 → list_all (is_within n) items ≡ true →
-    AllByRecursion IsShortItem items
+    AllByRecursion IsItem items
 items-short n [] small within = tt
 items-short n (Client c ∷ items) small within =
     let both = parts (nat_lt c n) (list_all (is_within n) items) within in
@@ -226,11 +226,11 @@ order-own shape H g short small legal =
         let within = turn_within shape g (turn_of H g) legal in
         subst (λ (xs : List Item). IsOwn (Order (phase_of shape g) (tick_of shape g) xs)) (sym is)
         (own-order (phase_of shape g) (tick_of shape g) x items (omega arith) short.phase short.tick
-        (subst (AllByRecursion IsShortItem) is
+        (subst (AllByRecursion IsItem) is
         (items-short shape.clients (order_at H g) shape.in_range.clients_high within))
         (subst (λ (xs : List Item). AllByRecursion IsField
         (codes "order" ∷ decimal (phase_of shape g) ∷ decimal
-        (tick_of shape g) ∷ map item_field xs))
+        (tick_of shape g) ∷ map item_word xs))
         is (order-fields shape H g small legal)))
 
 -- the epochs of a turn as they are told

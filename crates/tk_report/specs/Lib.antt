@@ -8,7 +8,6 @@ pub mod Outcomes
 pub mod PassingOver
 pub mod Shown
 pub mod ReportLines
-pub mod Heads
 pub mod Agreement
 pub mod Histories
 pub mod Delivered

@@ -4,10 +4,9 @@ use Rattle.std.specs.Prelude.{filter, flat_map, codes, decimal, slice_index_or, 
 use Rattle.std.specs.Prelude.{option_and_then}
 use Rattle.std.specs.List.{range_with_len, list_any, join_with_byte}
 use Rattle.tk_shape.specs.declared.shape.Shape.{Shape}
-use Rattle.tk_schedule.specs.declared.item.Item.{Item}
-use Rattle.tk_schedule.specs.declared.item.Item.TheVariants.{Client, Publish}
 use Rattle.tk_schedule.specs.declared.history.History.{History}
 use Rattle.tk_script.specs.declared.script.Script.{Script}
+use Rattle.tk_script.specs.Grammar.{item_word}
 use Rattle.tk_script.specs.declared.role.Role.{Role}
 use Rattle.tk_client.specs.declared.got.Got.{Got}
 use Rattle.tk_client.specs.declared.got.Got.TheVariants.{Absent, Text}
@@ -94,15 +93,11 @@ got_of S w H c log = got_in (logs S w H c) log
 abbrev pub line : List (List ℕ) → List ℕ
 line fields = join_with_byte 0x20 fields ++ 0x0A ∷ []
 
-abbrev pub item_field : Item → List ℕ
-item_field (Client c) = decimal c
-item_field Publish = codes "mark"
-
 -- a turn's order, and where it closes a phase its epochs
 abbrev pub turn_lines : Shape → History → ℕ → List ℕ
 turn_lines shape H g =
     line (codes "order" ∷ decimal (phase_of shape g) ∷ decimal (tick_of shape g)
-    ∷ map item_field (order_at H g))
+    ∷ map item_word (order_at H g))
     ++ cond (is_closing shape g)
     (line (codes "reads" ∷ decimal (phase_of shape g) ∷ decimal (tick_of shape g)
     ∷ map (λ c. decimal (epoch_at H g c)) (range_with_len 0 shape.clients)))

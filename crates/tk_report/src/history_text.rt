@@ -4,7 +4,8 @@ ghost use Rattle.std.specs.List.{range_with_len, join_with_byte};
 ghost use Rattle.tk_shape.specs.Lengths.{turn_count};
 ghost use Rattle.tk_schedule.specs.Schedule.{IsLegal, blank_turn, phase_of, tick_of, order_at};
 ghost use Rattle.tk_schedule.specs.Schedule.{epoch_at};
-ghost use Rattle.tk_report.specs.Report.{line, item_field, turn_lines, history_lines};
+ghost use Rattle.tk_script.specs.Grammar.{item_word};
+ghost use Rattle.tk_report.specs.Report.{line, turn_lines, history_lines};
 
 use std::alloc::Global;
 use tk_schedule::{History, Item, closes, place};
@@ -60,7 +61,7 @@ fn push_order(
     requires turn_in { turn < turn_count shape.now }
     ensures ok { OnOk result (out.new.items ≡ out.old.items ++ line (codes "order"
         ∷ decimal (phase_of shape.now turn) ∷ decimal (tick_of shape.now turn)
-        ∷ map item_field (order_at history.now turn))) }
+        ∷ map item_word (order_at history.now turn))) }
 {
     push_head(alloc, b"order", shape, turn, out)?;
     push_items(alloc, history.order(turn), out)?;
@@ -107,7 +108,7 @@ fn push_head(
 /// Appends items, each with a space in front.
 fn push_items(alloc: Global, order: &[Item], out: &mut Vec<u8>) -> Result<(), Memory>
     ensures ok { OnOk result (out.new.items
-        ≡ out.old.items ++ flat_map (λ x. 0x20 ∷ item_field x) order.now) }
+        ≡ out.old.items ++ flat_map (λ x. 0x20 ∷ item_word x) order.now) }
 {
     for item in order {
         push_item(alloc, *item, out)?;
@@ -117,7 +118,7 @@ fn push_items(alloc: Global, order: &[Item], out: &mut Vec<u8>) -> Result<(), Me
 
 /// Appends an item with a space in front.
 fn push_item(alloc: Global, item: Item, out: &mut Vec<u8>) -> Result<(), Memory>
-    ensures ok { OnOk result (out.new.items ≡ out.old.items ++ 0x20 ∷ item_field item) }
+    ensures ok { OnOk result (out.new.items ≡ out.old.items ++ 0x20 ∷ item_word item) }
 {
     match item {
         Item::Client(client) => push_field(alloc, u64::from(client), out),

@@ -5,9 +5,10 @@ ghost use Rattle.tk_script.specs.Grammar.{lines_of};
 ghost use Rattle.tk_report.specs.ReportLines.{bad_report_line};
 ghost use Rattle.tk_report.specs.Shown.{ShowsHistory};
 
-use crate::report_lines::{next_line, raw_lines};
+use crate::report_lines::raw_lines;
 use std::alloc::Global;
 use tk_schedule::{History, HistoryError};
+use tk_script::next_line;
 use tk_shape::Shape;
 
 /// The history that a report shows. An error names the first line that isn't the one due: of a

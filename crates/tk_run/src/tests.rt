@@ -3,7 +3,7 @@ use std::test::Fail;
 use tk_client::Client;
 use tk_io::MemTaps;
 use tk_report::{parse_history, print_outcome, report};
-use tk_script::{Input, parse};
+use tk_script::{Form, Input, parse};
 use tk_words::Book;
 
 /// A script of two clients with one text, over two phases of one tick, and its tape.
@@ -51,8 +51,9 @@ fn runs_and_their_taps(rt: HostRuntime) -> Result<(), Fail> {
             Input {
                 first: script,
                 tape,
+                ..
             },
-        ) = parse(alloc, ONE_TEXT)
+        ) = parse(alloc, ONE_TEXT, Form::Run)
         else {
             return Err(Fail::from("a script"));
         };
@@ -111,8 +112,9 @@ fn reports_of_serial_histories(rt: HostRuntime) -> Result<(), Fail> {
             Input {
                 first: script,
                 tape,
+                ..
             },
-        ) = parse(alloc, text)
+        ) = parse(alloc, text, Form::Run)
         else {
             return Err(Fail::from("a script"));
         };

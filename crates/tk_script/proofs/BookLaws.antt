@@ -1,6 +1,6 @@
 -- A text's input has the tape that its words want, and its words fit its shape.
-use Rattle.std.proofs.Common.{◌≡◌, ◌∙◌, ◌-◌, ◌^◌, ◌==◌, refl, ap, sym, subst, ℕ, List, length, take}
-use Rattle.std.proofs.Common.{Option, Some, arith, rules, eqb-true, IsTrue}
+use Rattle.std.proofs.Common.{◌≡◌, ◌-◌, ◌^◌, ◌==◌, refl, sym, subst, ℕ, List, length, take}
+use Rattle.std.proofs.Common.{Option, Some, arith, eqb-true, IsTrue}
 use Rattle.std.specs.Prelude.{None, min}
 use Rattle.std.proofs.lemmas.Bool.{and_parts}
 use Rattle.std.proofs.lemmas.List.{length-take-le}
@@ -8,6 +8,8 @@ use Rattle.tk_shape.specs.declared.shape.Shape.{Shape}
 use Rattle.tk_shape.specs.Lengths.{tape_len}
 use Rattle.tk_words.specs.Words.{IsBook}
 use Rattle.tk_script.specs.declared.keys.Keys.{Keys}
+use Rattle.tk_script.specs.declared.form.Form.{Form}
+use Rattle.tk_script.specs.declared.form.Form.TheVariants.{Run, View, Mirror}
 use Rattle.tk_script.specs.declared.input.RawTape.{RawTape}
 use Rattle.tk_script.specs.declared.input.Input.{Input}
 use Rattle.tk_script.specs.Book.{book_from, book_of, IsWholeTape, HasTape}
@@ -30,10 +32,18 @@ has-tape shape (Some keys) lines tape ends = tt
 has-tape shape None lines tape ends =
     subst (HasTape shape None) (sym ends.2) (kept-is shape ends.0)
 
-pub spelled-HasTape : (bytes : List ℕ) (input : Input) → Spells bytes input →
+-- the tape of an input of any form is that of its first script
+ends-with_tape : (form : Form) (bytes : List ℕ) (input : Input) → Spells form bytes input →
+    (rest : List Line) × TapeFor input.first.shape input.first.keys rest input.tape
+ends-with_tape Run bytes input spelled = (spelled.rest, spelled.tape)
+ends-with_tape View bytes input spelled = (spelled.rest, spelled.tape)
+ends-with_tape Mirror bytes input spelled = (spelled.rest, spelled.tape)
+
+pub spelled-HasTape : (form : Form) (bytes : List ℕ) (input : Input) → Spells form bytes input →
     HasTape input.first.shape input.first.keys input.tape
-spelled-HasTape bytes input spelled =
-    has-tape input.first.shape input.first.keys spelled.rest input.tape spelled.tape
+spelled-HasTape form bytes input spelled =
+    let tape = ends-with_tape form bytes input spelled in
+    has-tape input.first.shape input.first.keys tape.0 input.tape tape.1
 
 -- a keyed input has no tape, so that a tape is whole if that of a drawn one is
 whole-from : (shape : Shape) (keys : Option Keys) (lines : List Line) (tape : Option RawTape) →
@@ -42,11 +52,12 @@ whole-from : (shape : Shape) (keys : Option Keys) (lines : List Line) (tape : Op
 whole-from shape None lines tape ends drawn = drawn refl
 whole-from shape (Some keys) lines tape ends drawn = subst (IsWholeTape shape) (sym ends.1) tt
 
-pub spelled-IsWholeTape : (bytes : List ℕ) (input : Input) → Spells bytes input →
-    (input.first.keys ≡ None → IsWholeTape input.first.shape input.tape) →
+pub spelled-IsWholeTape : (form : Form) (bytes : List ℕ) (input : Input) →
+    Spells form bytes input → (input.first.keys ≡ None → IsWholeTape input.first.shape input.tape) →
     IsWholeTape input.first.shape input.tape
-spelled-IsWholeTape bytes input spelled drawn =
-    whole-from input.first.shape input.first.keys spelled.rest input.tape spelled.tape drawn
+spelled-IsWholeTape form bytes input spelled drawn =
+    let tape = ends-with_tape form bytes input spelled in
+    whole-from input.first.shape input.first.keys tape.0 input.tape tape.1 drawn
 
 -- ---- its words fit its shape
 
@@ -62,9 +73,9 @@ book-fits shape (Some k) tape counted has whole =
 book-fits shape None (Some t) counted has whole = whole.0
 book-fits shape None None counted has whole = absurd has
 
-pub spelled-IsBook : (bytes : List ℕ) (input : Input) → Spells bytes input →
+pub spelled-IsBook : (form : Form) (bytes : List ℕ) (input : Input) → Spells form bytes input →
     IsWholeTape input.first.shape input.tape → IsBook input.first.shape (book_of input)
-spelled-IsBook bytes input spelled whole =
+spelled-IsBook form bytes input spelled whole =
     let S = input.first in
-    book-fits S.shape S.keys input.tape S.sound.keys_counted (spelled-HasTape bytes input spelled)
-    whole
+    book-fits S.shape S.keys input.tape S.sound.keys_counted
+    (spelled-HasTape form bytes input spelled) whole

@@ -43,10 +43,22 @@ bool_false false never = refl
 pub differ : (xs ys : List ℕ) → (xs ≡ ys → ⊥) → bytes_eq xs ys ≡ false
 differ xs ys other = bool_false (bytes_eq xs ys) (λ t. other ((bytes_eq-Decides xs ys).0 t))
 
-pub read_kind-form : (n : Numbers) (line : List ℕ) → (line ≡ codes "drawn" → ⊥) →
-    (line ≡ codes "keyed" → ⊥) → read_kind n line ≡ Err cause.Form
-read_kind-form n line drawn keyed =
-    rw (differ line (codes "drawn") drawn, differ line (codes "keyed") keyed) refl
+and_false : (a b : Bool) → (IsTrue (a && b) → ⊥) → (a && b) ≡ false
+and_false a b never = bool_false (a && b) never
+
+pub read_kind-form : (may : Bool) (n : Numbers) (line : List ℕ) → (line ≡ codes "drawn" → ⊥) →
+    (IsTrue (may && bytes_eq line (codes "keyed")) → ⊥) →
+    read_kind may n line ≡ Err cause.Form
+read_kind-form may n line drawn keyed =
+    rw (differ line (codes "drawn") drawn, and_false may (bytes_eq line (codes "keyed")) keyed)
+    refl
+
+pub read_kind-keyed : (may : Bool) (n : Numbers) (line : List ℕ) →
+    IsTrue (may && bytes_eq line (codes "keyed")) → read_kind may n line ≡ Ok true
+read_kind-keyed may n line is =
+    let both = and_parts may (bytes_eq line (codes "keyed")) is in
+    ap (read_kind may n) ((bytes_eq-Decides line (codes "keyed")).0 both.1)
+    ∙ ap (λ m. read_kind m n (codes "keyed")) both.0
 
 short_size : (n : ℕ) → n ≤ 2097152 → nat_le n 2097152 ≡ true
 short_size n h = grind (arith, nat_tests)
@@ -60,59 +72,79 @@ drawn_short n h = rw (short_size n h) refl
 drawn_long : (n : ℕ) → 2097152 < n → drawn_if n ≡ Err (cause.Shape field.Tape n)
 drawn_long n h = rw (long_size n h) refl
 
-drawn_line : (z : Shape) (line : List ℕ) → line ≡ codes "drawn" →
-    read_kind (named z) line ≡ drawn_if (tape_len z)
-drawn_line z line e = ap (read_kind (named z)) e
+drawn_line : (m : Bool) (z : Shape) (line : List ℕ) → line ≡ codes "drawn" →
+    read_kind m (named z) line ≡ drawn_if (tape_len z)
+drawn_line m z line e = ap (read_kind m (named z)) e
 
-pub read_kind-drawn : (z : Shape) (line : List ℕ) (size : ℕ) → line ≡ codes "drawn" →
-    size ≡ tape_len z → size ≤ 2097152 → read_kind (named z) line ≡ Ok false
-read_kind-drawn z line size e value short =
-    drawn_line z line e ∙ ap drawn_if (sym value) ∙ drawn_short size short
+pub read_kind-drawn : (m : Bool) (z : Shape) (line : List ℕ) (size : ℕ) → line ≡ codes "drawn" →
+    size ≡ tape_len z → size ≤ 2097152 → read_kind m (named z) line ≡ Ok false
+read_kind-drawn m z line size e value short =
+    drawn_line m z line e ∙ ap drawn_if (sym value) ∙ drawn_short size short
 
-pub read_kind-long : (z : Shape) (line : List ℕ) (size : ℕ) → line ≡ codes "drawn" →
+pub read_kind-long : (m : Bool) (z : Shape) (line : List ℕ) (size : ℕ) → line ≡ codes "drawn" →
     size ≡ tape_len z → 2097152 < size →
-    read_kind (named z) line ≡ Err (cause.Shape field.Tape size)
-read_kind-long z line size e value long =
-    drawn_line z line e ∙ ap drawn_if (sym value) ∙ drawn_long size long
+    read_kind m (named z) line ≡ Err (cause.Shape field.Tape size)
+read_kind-long m z line size e value long =
+    drawn_line m z line e ∙ ap drawn_if (sym value) ∙ drawn_long size long
 
-pub read_kind-whole : (z : Shape) (keyed : Bool) → MayBeOfKind z keyed →
-    read_kind (named z) (kind_words keyed) ≡ Ok keyed
-read_kind-whole z true may = refl
-read_kind-whole z false may =
-    read_kind-drawn z (codes "drawn") (tape_len z) refl refl may
+-- a keyed script, where it may be keyed
+abbrev pub IsDue : Bool → Bool → Type 0
+IsDue m keyed = IsTrue keyed → IsTrue m
+
+pub read_kind-whole : (m : Bool) (z : Shape) (keyed : Bool) → MayBeOfKind z keyed →
+    IsDue m keyed → read_kind m (named z) (kind_words keyed) ≡ Ok keyed
+read_kind-whole true z true may due = refl
+read_kind-whole false z true may due = absurd (cc (due refl))
+read_kind-whole m z false may due =
+    read_kind-drawn m z (codes "drawn") (tape_len z) refl refl may
 
 size_from : (n : ℕ) → IsTrue (nat_le n 2097152) → n ≤ 2097152
 size_from n h = grind (arith, nat_tests)
 
 -- the kind that a line says
-abbrev pub IsKind : Shape → List ℕ → Bool → Type 0
-IsKind z line keyed = (line ≡ kind_words keyed) × MayBeOfKind z keyed
+pub record IsKind (m : Bool) (z : Shape) (line : List ℕ) (keyed : Bool) : Type 0 where
+  pub word : line ≡ kind_words keyed
+  pub may : MayBeOfKind z keyed
+  pub due : IsDue m keyed
 
-keyed_from : (z : Shape) (line : List ℕ) (keyed : Bool) →
-    IsTrue (bytes_eq line (codes "keyed")) × (true ≡ keyed) → IsKind z line keyed
-keyed_from z line keyed h =
-    subst (IsKind z line) h.1 ((bytes_eq-Decides line (codes "keyed")).0 h.0, tt)
+keyed_from : (m : Bool) (z : Shape) (line : List ℕ) (keyed : Bool) →
+    IsTrue (m && bytes_eq line (codes "keyed")) × (true ≡ keyed) → IsKind m z line keyed
+keyed_from m z line keyed h =
+    let both = and_parts m (bytes_eq line (codes "keyed")) h.0 in
+    subst (IsKind m z line) h.1 (record {
+      word = (bytes_eq-Decides line (codes "keyed")).0 both.1;
+      may = tt;
+      due = λ k. both.0;
+    })
 
-drawn_from : (z : Shape) (line : List ℕ) (keyed : Bool) →
+never_keyed : (m : Bool) → IsTrue false → IsTrue m
+never_keyed m e = absurd (cc e)
+
+drawn_from : (m : Bool) (z : Shape) (line : List ℕ) (keyed : Bool) →
     IsTrue (bytes_eq line (codes "drawn")) → drawn_if (tape_len z) ≡ Ok keyed →
-    IsKind z line keyed
-drawn_from z line keyed word said =
+    IsKind m z line keyed
+drawn_from m z line keyed word said =
     let test = ok_if (nat_le (tape_len z) 2097152) false keyed
     (cause.Shape field.Tape (tape_len z)) said in
-    subst (IsKind z line) test.1
-    ((bytes_eq-Decides line (codes "drawn")).0 word, size_from (tape_len z) test.0)
+    subst (IsKind m z line) test.1 (record {
+      word = (bytes_eq-Decides line (codes "drawn")).0 word;
+      may = size_from (tape_len z) test.0;
+      due = never_keyed m;
+    })
 
-kind_from : (z : Shape) (line : List ℕ) (keyed a : Bool) → bytes_eq line (codes "drawn") ≡ a →
-    cond a (drawn_if (tape_len z)) (ok_or (bytes_eq line (codes "keyed")) true cause.Form)
-    ≡ Ok keyed → IsKind z line keyed
-kind_from z line keyed true word said = drawn_from z line keyed word said
-kind_from z line keyed false word said =
-    keyed_from z line keyed (ok_if (bytes_eq line (codes "keyed")) true keyed cause.Form said)
+kind_from : (m : Bool) (z : Shape) (line : List ℕ) (keyed a : Bool) →
+    bytes_eq line (codes "drawn") ≡ a →
+    cond a (drawn_if (tape_len z)) (ok_or (m && bytes_eq line (codes "keyed")) true cause.Form)
+    ≡ Ok keyed → IsKind m z line keyed
+kind_from m z line keyed true word said = drawn_from m z line keyed word said
+kind_from m z line keyed false word said =
+    keyed_from m z line keyed
+    (ok_if (m && bytes_eq line (codes "keyed")) true keyed cause.Form said)
 
-pub read_kind-is : (z : Shape) (line : List ℕ) (keyed : Bool) →
-    read_kind (named z) line ≡ Ok keyed → IsKind z line keyed
-read_kind-is z line keyed said =
-    kind_from z line keyed (bytes_eq line (codes "drawn")) refl said
+pub read_kind-is : (m : Bool) (z : Shape) (line : List ℕ) (keyed : Bool) →
+    read_kind m (named z) line ≡ Ok keyed → IsKind m z line keyed
+read_kind-is m z line keyed said =
+    kind_from m z line keyed (bytes_eq line (codes "drawn")) refl said
 
 -- ---- the line of a log
 

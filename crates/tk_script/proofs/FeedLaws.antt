@@ -66,12 +66,13 @@ feed_by_index [] none = tt
 feed_by_index (x ∷ xs) none =
     (none 0 (omega arith), feed_by_index xs (λ k h. none (suc k) (omega (arith, h))))
 
-decimal_lacks : (n : ℕ) → n < 2 ^ 32 → LacksFeed (decimal n)
+pub decimal_lacks : (n : ℕ) → n < 2 ^ 32 → LacksFeed (decimal n)
 decimal_lacks n small = feed_by_index (decimal n) (λ k within e.
     let digit = all_digits (decimal n) n (omega (arith, small)) refl k within in
     omega (arith, digit.0, e))
 
-decimals_lack : (ns : List ℕ) → AllByRecursion IsWord ns → AllByRecursion LacksFeed (map decimal ns)
+pub decimals_lack : (ns : List ℕ) → AllByRecursion IsWord ns →
+    AllByRecursion LacksFeed (map decimal ns)
 decimals_lack [] words = tt
 decimals_lack (n ∷ ns) words = (decimal_lacks n words.0, decimals_lack ns words.1)
 

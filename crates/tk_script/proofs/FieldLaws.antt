@@ -3,14 +3,12 @@ use Rattle.std.proofs.Common.{◌≡◌, ℕ, suc, ◌<◌, ◌^◌, List, [], �
 use Rattle.std.specs.List.{AllByRecursion}
 use Rattle.tk_script.specs.Fields.{IsFieldEnd, LacksSpace}
 use Rattle.tk_script.specs.Grammar.{fields}
+use Rattle.tk_script.proofs.ListLaws.{cons_both}
 use Rattle.tk_script.proofs.NumberLaws.{all_digits}
 
 begins_so : (a : List ℕ) (y : ℕ) (t : List ℕ) → IsFieldEnd a → a ≡ y ∷ t → y ≡ 0x20
 begins_so [] y t end e = absurd (cc e)
 begins_so (c ∷ a) y t end e = cc (e, end)
-
-cons_both : (x y : ℕ) (xs ys : List ℕ) → x ≡ y → xs ≡ ys → x ∷ xs ≡ y ∷ ys
-cons_both x y xs ys p q = cc (p, q)
 
 -- a text has one first field
 pub cut : (xs ys a b : List ℕ) → LacksSpace xs → LacksSpace ys → IsFieldEnd a → IsFieldEnd b →

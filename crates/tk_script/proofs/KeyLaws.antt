@@ -1,5 +1,5 @@
 -- The lines of the keys.
-use Rattle.std.proofs.Common.{◌≡◌, ◌<◌, ◌^◌, ◌+◌, ℕ, List, [], ◌∷◌, ◌++◌, length, take, drop, get_or, map, codes, Option, Some, None, Ok, refl, ap, sym, subst, ◌∙◌, arith, IsTrue}
+use Rattle.std.proofs.Common.{◌≡◌, ◌<◌, ◌^◌, ℕ, List, [], ◌∷◌, ◌++◌, length, take, drop, get_or, map, codes, Option, Some, None, Ok, refl, ap, sym, subst, ◌∙◌, arith, IsTrue}
 use Rattle.std.specs.Prelude.{IsSome, IfSome, ◌==◌}
 use Rattle.std.specs.Int.{w64, to_be_bytes, from_be_bytes}
 use Rattle.std.specs.List.{AllZip, AllByRecursion}
@@ -19,12 +19,10 @@ use Rattle.tk_script.specs.SoundScript.{has_keys}
 use Rattle.tk_script.proofs.CauseLaws.{lacks_by_test}
 use Rattle.tk_script.proofs.HexLaws.{read_bytes-taken, read_bytes-is}
 use Rattle.tk_script.proofs.KeyLines.{IsHandleLine, IsSeedLine}
+use Rattle.tk_script.proofs.ListLaws.{cons_both}
 use Rattle.tk_script.proofs.OptionLaws.{seen_from}
 use Rattle.tk_script.proofs.PiecesLaws.{IsBytes-take}
 use Rattle.tk_script.proofs.ScriptLaws.{from_end}
-
-cons_both : {A : Type 0} (x y : A) (xs ys : List A) → x ≡ y → xs ≡ ys → x ∷ xs ≡ y ∷ ys
-cons_both x y xs ys p q = cc (p, q)
 
 -- ---- one handle
 

@@ -7,11 +7,10 @@ pub use Rattle.tk_script.proofs.NumberLaws.{AreDigits, all_digits}
 -- what has no space is one part of a line, and a word of a line
 pub use Rattle.tk_script.proofs.PartLaws.{split_field, one_field}
 pub use Rattle.tk_script.proofs.FieldLaws.{IsWord}
--- numbers of a line are the plain decimals that spell them
-pub use Rattle.tk_script.proofs.PartLaws.{number_spelled-decimal, number_spelled-is}
-pub use Rattle.tk_script.proofs.PartLaws.{numbers_spelled-decimals, numbers_spelled-are}
--- the lines of a text with its first line taken, of a text of one line, and of none
-pub use Rattle.tk_script.proofs.LineLaws.{lines_of-first, lines_of-whole, lines_of-empty, empty_lines, no_lines}
+-- which line says a turn
+pub use Rattle.tk_script.proofs.TurnLaws.{IsTurnLine, turn_is, turn_whole}
+-- a text of no lines is empty
+pub use Rattle.tk_script.proofs.LineLaws.{no_lines}
 -- what has no line feed
 pub use Rattle.tk_script.proofs.FeedLaws.{LacksFeed, feed_by_test, feed_by_index, fields_lack}
 -- the texts of a client when more are said

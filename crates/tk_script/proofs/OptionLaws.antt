@@ -1,6 +1,7 @@
 -- Answers that are given, or aren't.
 use Rattle.std.proofs.Common.{◌≡◌, Bool, true, false, cond, IsTrue, Option, Some, None, Result, Ok, Err, refl, subst}
-use Rattle.std.specs.Prelude.{IsSomeAnd, IfSome}
+use Rattle.std.specs.Prelude.{IsSomeAnd, IfSome, IfOk}
+use Rattle.std.specs.Option.{IfNone}
 use Rattle.tk_script.specs.declared.cause.Cause.{Cause}
 use Rattle.tk_script.specs.Reading.{Verdict, seen_as}
 
@@ -36,3 +37,23 @@ pub seen_from : {X Y : Type 0} (f : X → Y) (v : Verdict X) (y : Y) → seen_as
     (x : X) × (v ≡ Ok x) × (f x ≡ y)
 seen_from f (Ok x) y e = (x, refl, ok_same (f x) y e)
 seen_from f (Err c) y e = absurd (cc e)
+
+-- ---- told of the one that it is
+
+pub none-then : {A : Type 0} (o : Option A) (P : Type 0) → o ≡ None → IfNone o P → P
+none-then None P e h = h
+none-then (Some x) P e h = absurd (cc e)
+
+pub some-then : {A : Type 0} (o : Option A) (x : A) (P : A → Type 0) → o ≡ Some x → IfSome o P →
+    P x
+some-then None x P e h = absurd (cc e)
+some-then (Some y) x P e h = subst P (cc e) h
+
+pub if-none : {A : Type 0} (o : Option A) (P : Type 0) → P → IfNone o P
+if-none None P h = h
+if-none (Some x) P h = tt
+
+pub ok-then : {A E : Type 0} (r : Result A E) (P Q : A → Type 0) → ((x : A) → P x → Q x) →
+    IfOk r P → IfOk r Q
+ok-then (Ok x) P Q then h = then x h
+ok-then (Err e) P Q then h = tt

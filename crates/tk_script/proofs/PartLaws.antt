@@ -12,6 +12,7 @@ use Rattle.tk_script.specs.Fields.{LacksSpace}
 use Rattle.tk_script.specs.Grammar.{fields}
 use Rattle.tk_script.specs.Reading.{parts_of, number_if, number_spelled, number_before, numbers_spelled, word_then, numbers_after}
 use Rattle.tk_script.proofs.FieldLaws.{IsWord, LacksSpace-decimal}
+use Rattle.tk_script.proofs.ListLaws.{cons_both}
 use Rattle.tk_script.proofs.NumberLaws.{digits_value-spelled}
 
 -- ---- parts
@@ -94,9 +95,6 @@ before_some (Some n) (Some rest) ns e = (n, rest, refl, refl, cc e)
 -- texts that spell these numbers
 abbrev pub AreSpelled : List (List ℕ) → List ℕ → Type 0
 AreSpelled ts ns = (ts ≡ map decimal ns) × AllByRecursion IsWord ns
-
-cons_both : (x y : List ℕ) (xs ys : List (List ℕ)) → x ≡ y → xs ≡ ys → x ∷ xs ≡ y ∷ ys
-cons_both x y xs ys p q = cc (p, q)
 
 no_numbers : (ns : List ℕ) → Some [] ≡ Some ns → AreSpelled [] ns
 no_numbers [] e = (refl, tt)

@@ -56,7 +56,7 @@ keys_lack (Some keys) has =
 
 -- ---- a script
 
-script_lacks : (S : Script) → HasKeys S.keys → AllByRecursion LacksFeed (lines_of_script S)
+pub script_lacks : (S : Script) → HasKeys S.keys → AllByRecursion LacksFeed (lines_of_script S)
 script_lacks S has =
     let logs = map role_line S.roles in
     let keys = lines_of_keys S.keys in
@@ -119,7 +119,7 @@ script_alone S reads =
     subst (λ r. BeginsWithScript (lines_of (printed S)) S r) lines_of-empty
     (subst (λ t. BeginsWithScript (lines_of t) S (lines_of [])) (append-nil (printed S)) (reads []))
 
-tape_alone : (bytes : List ℕ) → ReadsPrintedTape bytes →
+pub tape_alone : (bytes : List ℕ) → ReadsPrintedTape bytes →
     BeginsWithTape (lines_of (printed_tape bytes)) bytes []
 tape_alone bytes reads =
     subst (λ r. BeginsWithTape (lines_of (printed_tape bytes)) bytes r) lines_of-empty
@@ -130,6 +130,8 @@ pub prints_keyed : PrintsKeyed
 prints_keyed S keys keyed has = record {
   rest = [];
   script = script_alone S (prints_scripts S has);
+  no_second = refl;
+  no_history = refl;
   tape = tape_of_keyed S.shape S.keys [] (ap is_some keyed) refl;
 }
 
@@ -139,6 +141,8 @@ prints_drawn S bytes drawn are =
     record {
       rest = lines_of (printed_tape bytes);
       script = prints_scripts S has (printed_tape bytes);
+      no_second = refl;
+      no_history = refl;
       tape = tape_of_drawn S.shape S.keys (lines_of (printed_tape bytes)) (kept_of S.shape bytes)
           (ap is_some drawn) (bytes, tape_alone bytes (prints_tapes bytes are), refl);
     }

@@ -9,15 +9,21 @@ use Rattle.hex.proofs.OnLiterals.{hex_on_literals}
 use Rattle.tk_shape.specs.declared.field.Field.TheVariants.{Servers, Tape}
 use Rattle.tk_script.specs.declared.cause.Cause.{Cause}
 use Rattle.tk_script.specs.declared.cause.Cause.TheVariants.{Early, Form, Shape, Number, Order, Room, Text, After}
+use Rattle.tk_script.specs.declared.form.Form.{Form as InputForm}
+use Rattle.tk_script.specs.declared.form.Form.TheVariants.{Run, View, Mirror}
 use Rattle.tk_script.specs.Grammar.{lines_of}
-use Rattle.tk_script.specs.Reading.{Refusal, InputLines, read_head, read_keys, read_script, read_tape, read_end, read_input}
+use Rattle.tk_script.specs.Reading.{Refusal, InputLines, read_head, read_keys, read_script, read_history, read_tape, read_end, read_run, read_view, read_mirror, read_input}
 
 unfoldable reading : ⊤
-unfolding read_head read_keys read_script read_tape read_end
+unfolding read_head read_keys read_script read_history read_tape read_end
 reading = tt
 
+unfoldable forms : ⊤
+unfolding read_run read_view read_mirror reading
+forms = tt
+
 unfoldable computing : ⊤
-unfolding ones digits chars encode_utf8 is_utf8 hex_on_literals lines_of read_input reading
+unfolding ones digits chars encode_utf8 is_utf8 hex_on_literals lines_of forms
 computing = tt
 
 abbrev accepted : Result (Unit {0}) Refusal
@@ -31,13 +37,22 @@ abbrev judged : Result InputLines Refusal → Result (Unit {0}) Refusal
 judged (Ok input) = Ok tt
 judged (Err refusal) = Err refusal
 
--- what is said of a text, and of one that begins with these three lines
+-- what is said of a text in a form, and of one that begins with these three lines
+abbrev said_in : InputForm → List ℕ → Result (Unit {0}) Refusal
+said_in form text = judged (read_input form (lines_of text))
+
 abbrev said : List ℕ → Result (Unit {0}) Refusal
-said text = judged (read_input (lines_of text))
+said text = said_in Run text
+
+abbrev drawn : List ℕ
+drawn = codes "talek 1\nshape 2 8 4 4 24 64 1 0 2 2 1 1\ndrawn\n"
 
 abbrev said_drawn : List ℕ → Result (Unit {0}) Refusal
-said_drawn text =
-    said (codes "talek 1\nshape 2 8 4 4 24 64 1 0 2 2 1 1\ndrawn\n" ++ text)
+said_drawn text = said (drawn ++ text)
+
+-- a script of two drawn words, and what follows it in a form
+abbrev said_behind : InputForm → List ℕ → Result (Unit {0}) Refusal
+said_behind form text = said_in form (drawn ++ codes "log 0 1\nend\n" ++ text)
 
 whole : said_drawn (codes "log 0 1\nsay 1 1 0 hi\nend\ntape\nfill 11 36\nx aB\nend\n") ≡ accepted
 unfolding computing
@@ -105,3 +120,44 @@ keyed : said (codes "talek 1\nshape 2 8 4 4 24 64 1 0 2 2 1 1\nkeyed\nlog 0 1\nh
     ≡ refused 5 Form
 unfolding computing
 keyed = refl
+
+-- ---- a history, and a second script
+
+view : said_behind View
+    (codes "history\norder 1 1 mark 0 1\nreads 1 1 0 0\nend\ntape\nfill 11 36\nend\n") ≡ accepted
+unfolding computing
+view = refl
+
+no_history : said_behind View (codes "tape\nfill 11 36\nend\n") ≡ refused 6 Form
+unfolding computing
+no_history = refl
+
+history_of_run : said_behind Run (codes "history\nend\n") ≡ refused 6 Form
+unfolding computing
+history_of_run = refl
+
+no_items : said_behind View (codes "history\norder 1 1\nend\n") ≡ refused 7 Form
+unfolding computing
+no_items = refl
+
+epochs_of_marks : said_behind View (codes "history\nreads 1 1 mark\nend\n") ≡ refused 7 Form
+unfolding computing
+epochs_of_marks = refl
+
+history_cut : said_behind View (codes "history\norder 1 1 0\n") ≡ refused 8 Early
+unfolding computing
+history_cut = refl
+
+mirror : said_behind Mirror
+    (drawn ++ codes "log 1\nend\nhistory\norder 1 1 0\nend\ntape\nfill 11 36\nend\n") ≡ accepted
+unfolding computing
+mirror = refl
+
+one_script : said_behind Mirror (codes "history\nend\n") ≡ refused 6 Form
+unfolding computing
+one_script = refl
+
+keyed_mirror : said_in Mirror
+    (codes "talek 1\nshape 2 8 4 4 24 64 1 0 2 2 1 1\nkeyed\nlog 0 1\n") ≡ refused 3 Form
+unfolding computing
+keyed_mirror = refl

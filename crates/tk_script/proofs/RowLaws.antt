@@ -7,6 +7,7 @@ use Rattle.std.proofs.lemmas.Slice.Eq.{bytes_eq-Decides}
 use Rattle.tk_script.specs.Grammar.{Line}
 use Rattle.tk_script.specs.Reading.{Verdict, Place, Refusal, ◌>>=◌, taken, line_at, next_line, next_lines, to_end}
 use Rattle.tk_script.proofs.CauseLaws.{differ}
+use Rattle.tk_script.proofs.ListLaws.{cons_both}
 use Rattle.tk_script.proofs.OptionLaws.{ok_same}
 
 -- ---- one line, and what follows
@@ -41,11 +42,27 @@ pub next_from : {X : Type 0} (read : Line → Verdict X) (p : Place) (x : X × P
     next_line read p ≡ Ok x → GivesLine read p.rest x.0 x.1.rest
 next_from read p x e = line_from read p.line p.rest x e
 
-then_taken : {X Y : Type 0} (v : Verdict X) (line : ℕ) (ls : List Line)
+pub then_taken : {X Y : Type 0} (v : Verdict X) (line : ℕ) (ls : List Line)
     (f : X × Place → Result Y Refusal) (y : Y) → taken line ls v >>= f ≡ Ok y →
     (x : X) × (v ≡ Ok x) × (f (x, record { line = line + 1; rest = ls }) ≡ Ok y)
 then_taken (Ok x) line ls f y e = (x, refl, e)
 then_taken (Err c) line ls f y e = absurd (cc e)
+
+taken_then : {X : Type 0} (line : ℕ) (ls : List Line) (v : Verdict X) →
+    taken line ls v >>= (λ z. Ok z) ≡ taken line ls v
+taken_then line ls (Ok x) = refl
+taken_then line ls (Err c) = refl
+
+number_from : {X : Type 0} (read : Line → Verdict X) (line : ℕ) (ls : List Line)
+    (x : X × Place) → line_at read line ls ≡ Ok x → x.1.line ≡ line + 1
+number_from read line [] x e = absurd (cc e)
+number_from {X} read line (l ∷ ls) x e =
+    let test = then_taken (read l) line ls (λ z. Ok z) x (taken_then line ls (read l) ∙ e) in
+    sym (ap (λ (z : X × Place). z.1.line) (ok_same _ x test.2))
+
+pub next_number_from : {X : Type 0} (read : Line → Verdict X) (p : Place) (x : X × Place) →
+    next_line read p ≡ Ok x → x.1.line ≡ p.line + 1
+next_number_from read p x e = number_from read p.line p.rest x e
 
 -- ---- lines in a row
 
@@ -58,9 +75,9 @@ pub record Row {X : Type 0} (R : Line → X → Type 0) (lines : List Line) (bef
   pub all_is : all ≡ before ++ items
   pub whole : lines ≡ own ++ behind
 
-abbrev row_push : {X : Type 0} (R : Line → X → Type 0) (l : Line) (ls : List Line) (before all : List X)
-    (x : X) (behind : List Line) → R l x → Row R ls (before ++ x ∷ []) all behind →
-    Row R (l ∷ ls) before all behind
+abbrev row_push : {X : Type 0} (R : Line → X → Type 0) (l : Line) (ls : List Line)
+    (before all : List X) (x : X) (behind : List Line) → R l x →
+    Row R ls (before ++ x ∷ []) all behind → Row R (l ∷ ls) before all behind
 row_push R l ls before all x behind here row = record {
   own = l ∷ row.own;
   items = x ∷ row.items;
@@ -128,13 +145,10 @@ module _ {X : Type 0} (read : Line → Verdict X) (R : Line → X → Type 0) wh
 
 -- ---- lines up to the one that ends them
 
-cond_from : {Y : Type 0} (b : Bool) (r s : Result Y Refusal) (y : Y) → cond b r s ≡ Ok y →
+pub cond_from : {Y : Type 0} (b : Bool) (r s : Result Y Refusal) (y : Y) → cond b r s ≡ Ok y →
     (IsTrue b × (r ≡ Ok y)) ⊎ (s ≡ Ok y)
 cond_from true r s y e = inl (refl, e)
 cond_from false r s y e = inr e
-
-cons_both : (l m : Line) (ls ms : List Line) → l ≡ m → ls ≡ ms → l ∷ ls ≡ m ∷ ms
-cons_both l m ls ms p q = cc (p, q)
 
 -- P holds of what is read so far
 module _ {X : Type 0} (read : List X → Line → Verdict X) (R : Line → X → Type 0)

@@ -27,8 +27,14 @@ same_script S T p k r y = λ i. record {
       S.sound T.sound i;
 }
 
-pub same_input : (x y : Input) → x.first ≡ y.first → x.tape ≡ y.tape → x ≡ y
-same_input x y s t = λ i. record { first = s i; tape = t i }
+pub same_input : (x y : Input) → x.first ≡ y.first → x.second ≡ y.second →
+    x.history ≡ y.history → x.tape ≡ y.tape → x ≡ y
+same_input x y a b h t = λ i. record {
+  first = a i;
+  second = b i;
+  history = h i;
+  tape = t i;
+}
 
 -- what stands behind the first three lines of a script
 abbrev pub behind_head : Script → List Line → List Line → List Line

@@ -5,60 +5,60 @@ use Rattle.tk_handle.specs.declared.handle.Handle.{Handle}
 use Rattle.tk_shape.specs.Limits.{Numbers}
 use Rattle.tk_script.specs.declared.error.ScriptError.{ScriptError}
 use Rattle.tk_script.specs.Answer.{IsRefusal}
-use Rattle.tk_script.specs.Grammar.{Line}
 use Rattle.tk_script.specs.declared.keys.Keys.{Keys}
 use Rattle.tk_script.specs.declared.role.Role.{Role}
 use Rattle.tk_script.specs.declared.say.Say.{Say}
 use Rattle.tk_script.specs.declared.input.RawTape.{RawTape}
-use Rattle.tk_script.specs.Reading.{Place, Refusal, ◌>>=◌, next_line, next_lines, to_end, no_line, read_words, read_shape, read_kind, read_role, read_handle, read_seed, tape_in}
-use Rattle.tk_script.specs.Reading.{read_next_say, read_head, read_keys, ScriptLines, read_script, read_kept, read_tape, read_end, InputLines, read_input}
+use Rattle.tk_script.specs.Reading.{Place, Refusal, ◌>>=◌, next_line, next_lines, to_end, no_line, read_words, read_shape, read_kind, read_role, read_handle, read_seed}
+use Rattle.tk_script.specs.Reading.{read_next_say, read_head, read_keys, ScriptLines, read_script, read_kept, read_tape, read_end}
 use Rattle.tk_script.proofs.AnswerLaws.{stays_refused, same_refused, then_ok}
 
 -- ---- the three lines at the front
 
-abbrev pub behind_shape : Numbers × Place → Result (Numbers × Bool × Place) Refusal
-behind_shape s = next_line (read_kind s.0) s.1 >>= λ k. Ok (s.0, k.0, k.1)
+abbrev pub behind_shape : Bool → Numbers × Place → Result (Numbers × Bool × Place) Refusal
+behind_shape may s = next_line (read_kind may s.0) s.1 >>= λ k. Ok (s.0, k.0, k.1)
 
-abbrev pub behind_words : Unit {0} × Place → Result (Numbers × Bool × Place) Refusal
-behind_words w = next_line read_shape w.1 >>= behind_shape
+abbrev pub behind_words : Bool → Unit {0} × Place → Result (Numbers × Bool × Place) Refusal
+behind_words may w = next_line read_shape w.1 >>= behind_shape may
 
-pub head_parts : (p : Place) →
-    read_head p ≡ next_line (read_words (codes "talek 1")) p >>= behind_words
+pub head_parts : (may : Bool) (p : Place) →
+    read_head may p ≡ next_line (read_words (codes "talek 1")) p >>= behind_words may
 unfolding read_head
-head_parts p = refl
+head_parts may p = refl
 
-module _ (p q : Place) (words : next_line (read_words (codes "talek 1")) p ≡ Ok (tt, q)) where
-  head_words : read_head p ≡ next_line read_shape q >>= behind_shape
+module _ (may : Bool) (p q : Place)
+    (words : next_line (read_words (codes "talek 1")) p ≡ Ok (tt, q)) where
+  head_words : read_head may p ≡ next_line read_shape q >>= behind_shape may
   unfolding read_head
-  head_words = then_ok (next_line (read_words (codes "talek 1")) p) (tt, q) behind_words words
+  head_words = then_ok (next_line (read_words (codes "talek 1")) p) (tt, q) (behind_words may) words
 
   pub head_shape_refused : (e : ScriptError) → IsRefusal e (next_line read_shape q) →
-      IsRefusal e (read_head p)
+      IsRefusal e (read_head may p)
   head_shape_refused e h =
-      same_refused e (next_line read_shape q >>= behind_shape) (read_head p) head_words
-      (stays_refused e (next_line read_shape q) behind_shape h)
+      same_refused e (next_line read_shape q >>= behind_shape may) (read_head may p) head_words
+      (stays_refused e (next_line read_shape q) (behind_shape may) h)
 
   module _ (n : Numbers) (r : Place) (shape : next_line read_shape q ≡ Ok (n, r)) where
-    head_shape : read_head p ≡ next_line (read_kind n) r >>= λ k. Ok (n, k.0, k.1)
-    head_shape = head_words ∙ then_ok (next_line read_shape q) (n, r) behind_shape shape
+    head_shape : read_head may p ≡ next_line (read_kind may n) r >>= λ k. Ok (n, k.0, k.1)
+    head_shape = head_words ∙ then_ok (next_line read_shape q) (n, r) (behind_shape may) shape
 
-    pub head_kind_refused : (e : ScriptError) → IsRefusal e (next_line (read_kind n) r) →
-        IsRefusal e (read_head p)
+    pub head_kind_refused : (e : ScriptError) → IsRefusal e (next_line (read_kind may n) r) →
+        IsRefusal e (read_head may p)
     head_kind_refused e h =
-        same_refused e (next_line (read_kind n) r >>= λ k. Ok (n, k.0, k.1)) (read_head p)
-        head_shape (stays_refused e (next_line (read_kind n) r) (λ k. Ok (n, k.0, k.1)) h)
+        same_refused e (next_line (read_kind may n) r >>= λ k. Ok (n, k.0, k.1)) (read_head may p)
+        head_shape (stays_refused e (next_line (read_kind may n) r) (λ k. Ok (n, k.0, k.1)) h)
 
-    pub head_is : (keyed : Bool) (t : Place) → next_line (read_kind n) r ≡ Ok (keyed, t) →
-        read_head p ≡ Ok (n, keyed, t)
+    pub head_is : (keyed : Bool) (t : Place) → next_line (read_kind may n) r ≡ Ok (keyed, t) →
+        read_head may p ≡ Ok (n, keyed, t)
     head_is keyed t kind =
         head_shape
-        ∙ then_ok (next_line (read_kind n) r) (keyed, t) (λ k. Ok (n, k.0, k.1)) kind
+        ∙ then_ok (next_line (read_kind may n) r) (keyed, t) (λ k. Ok (n, k.0, k.1)) kind
 
-pub head_words_refused : (e : ScriptError) (p : Place) →
-    IsRefusal e (next_line (read_words (codes "talek 1")) p) → IsRefusal e (read_head p)
+pub head_words_refused : (e : ScriptError) (may : Bool) (p : Place) →
+    IsRefusal e (next_line (read_words (codes "talek 1")) p) → IsRefusal e (read_head may p)
 unfolding read_head
-head_words_refused e p h =
-    stays_refused e (next_line (read_words (codes "talek 1")) p) behind_words h
+head_words_refused e may p h =
+    stays_refused e (next_line (read_words (codes "talek 1")) p) (behind_words may) h
 
 -- ---- the keys
 
@@ -133,51 +133,51 @@ roles_from n p = next_lines n.logs (read_role n) [] p
 abbrev pub behind_head : Numbers × Bool × Place → Result (ScriptLines × Place) Refusal
 behind_head h = roles_from h.0 h.2 >>= behind_roles h.0 h.1
 
-pub script_parts : (p : Place) → read_script p ≡ read_head p >>= behind_head
+pub script_parts : (may : Bool) (p : Place) → read_script may p ≡ read_head may p >>= behind_head
 unfolding read_script
-script_parts p = refl
+script_parts may p = refl
 
-pub script_head_refused : (e : ScriptError) (p : Place) → IsRefusal e (read_head p) →
-    IsRefusal e (read_script p)
-script_head_refused e p h =
-    same_refused e (read_head p >>= behind_head) (read_script p) (script_parts p)
-    (stays_refused e (read_head p) behind_head h)
+pub script_head_refused : (e : ScriptError) (may : Bool) (p : Place) →
+    IsRefusal e (read_head may p) → IsRefusal e (read_script may p)
+script_head_refused e may p h =
+    same_refused e (read_head may p >>= behind_head) (read_script may p) (script_parts may p)
+    (stays_refused e (read_head may p) behind_head h)
 
-module _ (p : Place) (n : Numbers) (keyed : Bool) (q : Place)
-    (head : read_head p ≡ Ok (n, keyed, q)) where
-  script_head : read_script p ≡ roles_from n q >>= behind_roles n keyed
-  script_head = script_parts p ∙ then_ok (read_head p) (n, keyed, q) behind_head head
+module _ (may : Bool) (p : Place) (n : Numbers) (keyed : Bool) (q : Place)
+    (head : read_head may p ≡ Ok (n, keyed, q)) where
+  script_head : read_script may p ≡ roles_from n q >>= behind_roles n keyed
+  script_head = script_parts may p ∙ then_ok (read_head may p) (n, keyed, q) behind_head head
 
   pub script_roles_refused : (e : ScriptError) → IsRefusal e (roles_from n q) →
-      IsRefusal e (read_script p)
+      IsRefusal e (read_script may p)
   script_roles_refused e h =
-      same_refused e (roles_from n q >>= behind_roles n keyed) (read_script p)
+      same_refused e (roles_from n q >>= behind_roles n keyed) (read_script may p)
       script_head (stays_refused e (roles_from n q) (behind_roles n keyed) h)
 
   module _ (roles : List Role) (r : Place) (read_roles : roles_from n q ≡ Ok (roles, r)) where
-    script_roles : read_script p ≡ read_keys n keyed r >>= behind_keys n roles
+    script_roles : read_script may p ≡ read_keys n keyed r >>= behind_keys n roles
     script_roles =
         script_head ∙ then_ok (roles_from n q) (roles, r) (behind_roles n keyed) read_roles
 
     pub script_keys_refused : (e : ScriptError) → IsRefusal e (read_keys n keyed r) →
-        IsRefusal e (read_script p)
+        IsRefusal e (read_script may p)
     script_keys_refused e h =
-        same_refused e (read_keys n keyed r >>= behind_keys n roles) (read_script p) script_roles
-        (stays_refused e (read_keys n keyed r) (behind_keys n roles) h)
+        same_refused e (read_keys n keyed r >>= behind_keys n roles) (read_script may p)
+        script_roles (stays_refused e (read_keys n keyed r) (behind_keys n roles) h)
 
     module _ (keys : Option Keys) (s : Place) (keys_read : read_keys n keyed r ≡ Ok (keys, s)) where
-      script_keys : read_script p ≡ says_from n s >>= behind_says n keys roles
+      script_keys : read_script may p ≡ says_from n s >>= behind_says n keys roles
       script_keys =
           script_roles ∙ then_ok (read_keys n keyed r) (keys, s) (behind_keys n roles) keys_read
 
       pub script_says_refused : (e : ScriptError) → IsRefusal e (says_from n s) →
-          IsRefusal e (read_script p)
+          IsRefusal e (read_script may p)
       script_says_refused e h =
-          same_refused e (says_from n s >>= behind_says n keys roles) (read_script p) script_keys
-          (stays_refused e (says_from n s) (behind_says n keys roles) h)
+          same_refused e (says_from n s >>= behind_says n keys roles) (read_script may p)
+          script_keys (stays_refused e (says_from n s) (behind_says n keys roles) h)
 
       pub script_is : (says : List Say) (t : Place) → says_from n s ≡ Ok (says, t) →
-          read_script p
+          read_script may p
           ≡ Ok (record { numbers = n; keys = keys; roles = roles; says = says }, t)
       script_is says t read_says =
           script_keys ∙ then_ok (says_from n s) (says, t) (behind_says n keys roles) read_says
@@ -262,45 +262,3 @@ module _ (keys : Option Keys) (want : ℕ) (p : Place) where
       pub end_drawn_is : no_line q.line q.rest ≡ Ok tt → read_end keys want p ≡ Ok (Some tape)
       end_drawn_is h =
           end_after ∙ then_ok (no_line q.line q.rest) tt (ends_drawn tape) h
-
--- the front of these lines
-abbrev pub front : List Line → Place
-front lines = record { line = 1; rest = lines }
-
-abbrev pub behind_end : ScriptLines → Option RawTape → Result InputLines Refusal
-behind_end script tape = Ok (record { first = script; tape = tape })
-
-abbrev pub behind_script : ScriptLines × Place → Result InputLines Refusal
-behind_script x = read_end x.0.keys (tape_in x.0.numbers) x.1 >>= behind_end x.0
-
-pub input_parts : (lines : List Line) →
-    read_input lines ≡ read_script (front lines) >>= behind_script
-unfolding read_input
-input_parts lines = refl
-
-pub input_script_refused : (e : ScriptError) (lines : List Line) →
-    IsRefusal e (read_script (front lines)) → IsRefusal e (read_input lines)
-input_script_refused e lines h =
-    same_refused e (read_script (front lines) >>= behind_script) (read_input lines)
-    (input_parts lines) (stays_refused e (read_script (front lines)) behind_script h)
-
-module _ (lines : List Line) (script : ScriptLines) (q : Place)
-    (first : read_script (front lines) ≡ Ok (script, q)) where
-  input_script : read_input lines
-      ≡ read_end script.keys (tape_in script.numbers) q >>= behind_end script
-  input_script =
-      input_parts lines ∙ then_ok (read_script (front lines)) (script, q) behind_script first
-
-  pub input_end_refused : (e : ScriptError) →
-      IsRefusal e (read_end script.keys (tape_in script.numbers) q) → IsRefusal e (read_input lines)
-  input_end_refused e h =
-      same_refused e (read_end script.keys (tape_in script.numbers) q >>= behind_end script)
-      (read_input lines) input_script
-      (stays_refused e (read_end script.keys (tape_in script.numbers) q) (behind_end script) h)
-
-  pub input_is : (tape : Option RawTape) →
-      read_end script.keys (tape_in script.numbers) q ≡ Ok tape →
-      read_input lines ≡ Ok (record { first = script; tape = tape })
-  input_is tape h =
-      input_script
-      ∙ then_ok (read_end script.keys (tape_in script.numbers) q) tape (behind_end script) h

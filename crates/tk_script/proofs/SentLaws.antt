@@ -1,10 +1,10 @@
 -- Each client sends one text a turn at most, and no number of a log is sent twice; what is sent is
 -- in range, and may be sealed.
-use Rattle.std.proofs.Common.{◌≡◌, ◌∙◌, refl, ap, sym, subst, arith, rules}
-use Rattle.std.proofs.Common.{ℕ, ◌+◌, ◌<◌, ◌≤◌, ◌==◌, max, Bool, true, false, cond, ◌&&◌, IsTrue}
+use Rattle.std.proofs.Common.{◌≡◌, ◌∙◌, refl, ap, sym, subst, arith}
+use Rattle.std.proofs.Common.{ℕ, ◌+◌, ◌<◌, ◌≤◌, ◌==◌, max, Bool, true, false, cond, ◌&&◌}
 use Rattle.std.proofs.Common.{List, [], ◌∷◌, filter, find, Option, Some, eqb-true, eq-eqb, ne_eqb}
 use Rattle.std.proofs.Common.{ltb-true}
-use Rattle.std.specs.List.{All, AllByRecursion}
+use Rattle.std.specs.List.{All}
 use Rattle.std.proofs.lemmas.Bool.{and_parts}
 use Rattle.std.proofs.lemmas.List.Elements.{All-from_recursion, All-nil, All-cons, All-head, All-tail, All-weaker, All-filter, filter_passes}
 use Rattle.tk_shape.specs.declared.shape.Shape.{Shape}
@@ -13,7 +13,7 @@ use Rattle.tk_schedule.specs.Schedule.{turn_at}
 use Rattle.tk_script.specs.declared.say.Say.{Say}
 use Rattle.tk_script.specs.declared.script.Script.{Script}
 use Rattle.tk_script.specs.Sent.{Sending, sendings_from, sendings, in_run, writer_of, sent, sent_as, is_numbered}
-use Rattle.tk_script.specs.SentLaws.{IsSealable, IsSent, SendsInRange, SendsOnce, IsSentAs, FindsByNumber}
+use Rattle.tk_script.specs.SentLaws.{IsSealable, SendsInRange, SendsOnce, IsSentAs, FindsByNumber}
 use Rattle.tk_script.proofs.SoundLaws.{IsSaid, says-AreSaid}
 use Rattle.tk_script.proofs.SendingLaws.{of_log, of_log-cons, number-le-turn}
 

@@ -1,10 +1,17 @@
 -- Which texts spell which inputs.
 -- A text is lines of fields with one space between; numbers are plain decimal, and hexadecimal
 -- digits are in either case.
-use Rattle.std.specs.Prelude.{◌≡◌, ℕ, ◌<◌, ◌≤◌, ◌^◌, ◌-◌, min, ◌⊎◌, ◌==◌, cond, List, [], ◌∷◌, ◌++◌, length, map, take, replicate, codes, decimal, flat_map, Option, Some, None, Ok}
+use Rattle.std.specs.Prelude.{◌≡◌, ℕ, ◌+◌, ◌<◌, ◌≤◌, ◌^◌, ◌-◌, min, ◌⊎◌, ◌==◌, cond, List, [], ◌∷◌, ◌++◌, length, map, take, replicate, codes, decimal, flat_map, Option, Some, None, Ok}
 use Rattle.std.specs.List.{join_with_byte, onto_first, AllByRecursion, AllZip}
 use Rattle.hex.specs.Hex.{decode_of}
 use Rattle.tk_shape.specs.declared.shape.Shape.{Shape}
+use Rattle.tk_schedule.specs.declared.item.Item.{Item}
+use Rattle.tk_schedule.specs.declared.item.Item.TheVariants.{Client, Publish}
+use Rattle.tk_schedule.specs.declared.raw.RawLine.{RawLine}
+use Rattle.tk_schedule.specs.declared.raw.RawKind.{RawKind}
+use Rattle.tk_schedule.specs.declared.raw.RawKind.TheVariants.{Order, Reads, End}
+use Rattle.tk_script.specs.declared.form.Form.{Form}
+use Rattle.tk_script.specs.declared.form.Form.TheVariants.{Run, View, Mirror}
 use Rattle.tk_shape.specs.Numbers.{numbers_of}
 use Rattle.tk_handle.specs.declared.handle.Handle.{Handle}
 use Rattle.tk_script.specs.declared.script.Script.{Script}
@@ -99,7 +106,56 @@ pub record BeginsWithTape (lines : List Line) (tape : List ℕ) (rest : List Lin
   pub joined : tape ≡ flat_map (λ p. p) parts
   pub whole : lines ≡ codes "tape" ∷ (piece_lines ++ codes "end" ∷ rest)
 
+-- ---- the history section
+
+abbrev pub item_word : Item → List ℕ
+item_word (Client c) = decimal c
+item_word Publish = codes "mark"
+
+abbrev pub raw_line : RawKind → Line
+raw_line (Order phase tick items) =
+    fields (codes "order" ∷ decimal phase ∷ decimal tick ∷ map item_word items)
+raw_line (Reads phase tick epochs) =
+    fields (codes "reads" ∷ decimal phase ∷ decimal tick ∷ map decimal epochs)
+raw_line End = codes "end"
+
+abbrev pub IsNumber : ℕ → Type 0
+IsNumber n = n < 2 ^ 32
+
+abbrev pub IsItem : Item → Type 0
+IsItem (Client c) = IsNumber c
+IsItem Publish = Unit {0}
+
+-- numbers of 32 bits, and one thing at least on each line
+abbrev pub IsTurn : RawKind → Type 0
+IsTurn (Order phase tick items) =
+    IsNumber phase × IsNumber tick × AllByRecursion IsItem items × (1 ≤ length items)
+IsTurn (Reads phase tick epochs) =
+    IsNumber phase × IsNumber tick × AllByRecursion IsNumber epochs × (1 ≤ length epochs)
+IsTurn End = ⊥
+
+abbrev pub IsEnd : RawKind → Type 0
+IsEnd (Order phase tick items) = ⊥
+IsEnd (Reads phase tick epochs) = ⊥
+IsEnd End = Unit {0}
+
+-- lines by number from this one on, of which the last one alone is an end
+abbrev pub AreRawFrom : ℕ → List RawLine → Type 0
+AreRawFrom at [] = ⊥
+AreRawFrom at (l ∷ []) = (l.line ≡ at) × IsEnd l.kind
+AreRawFrom at (l ∷ m ∷ ls) = (l.line ≡ at) × IsTurn l.kind × AreRawFrom (at + 1) (m ∷ ls)
+
+-- at is the number of the first of these lines
+pub record BeginsWithHistory (at : ℕ) (lines : List Line) (raw : List RawLine)
+    (rest : List Line) : Type 0 where
+  pub numbered : AreRawFrom (at + 1) raw
+  pub whole : lines ≡ codes "history" ∷ (map (λ (l : RawLine). raw_line l.kind) raw ++ rest)
+
 -- ---- inputs
+
+-- the number of the first of these lines, which stand at the end of all
+abbrev pub number_of_first : List Line → List Line → ℕ
+number_of_first lines rest = length lines - length rest + 1
 
 -- what is kept of a tape: no more bytes than are wanted, and how many there were, as far as 64 bits
 -- count
@@ -119,8 +175,43 @@ TapeFor shape None lines tape =
 abbrev pub EndsWithTape : Script → List Line → Option RawTape → Type 0
 EndsWithTape S lines tape = TapeFor S.shape S.keys lines tape
 
--- the bytes are a text that spells this input
-pub record Spells (bytes : List ℕ) (input : Input) : Type 0 where
+-- a script, and its tape
+pub record IsRunInput (lines : List Line) (input : Input) : Type 0 where
   pub rest : List Line
-  pub script : BeginsWithScript (lines_of bytes) input.first rest
+  pub script : BeginsWithScript lines input.first rest
+  pub no_second : input.second ≡ None
+  pub no_history : input.history ≡ None
   pub tape : EndsWithTape input.first rest input.tape
+
+-- a script, a history, and the script's tape
+pub record IsViewInput (lines : List Line) (input : Input) : Type 0 where
+  pub behind_script : List Line
+  pub rest : List Line
+  pub raw : List RawLine
+  pub script : BeginsWithScript lines input.first behind_script
+  pub history : BeginsWithHistory (number_of_first lines behind_script) behind_script raw rest
+  pub no_second : input.second ≡ None
+  pub has_history : input.history ≡ Some raw
+  pub tape : EndsWithTape input.first rest input.tape
+
+-- two scripts of drawn words, a history, and a tape
+pub record IsMirrorInput (lines : List Line) (input : Input) : Type 0 where
+  pub other : Script
+  pub behind_script : List Line
+  pub behind_scripts : List Line
+  pub rest : List Line
+  pub raw : List RawLine
+  pub script : BeginsWithScript lines input.first behind_script
+  pub second : BeginsWithScript behind_script other behind_scripts
+  pub history : BeginsWithHistory (number_of_first lines behind_scripts) behind_scripts raw rest
+  pub first_drawn : input.first.keys ≡ None
+  pub second_drawn : other.keys ≡ None
+  pub has_second : input.second ≡ Some other
+  pub has_history : input.history ≡ Some raw
+  pub tape : EndsWithTape input.first rest input.tape
+
+-- the bytes are a text of the form that spells this input
+abbrev pub Spells : Form → List ℕ → Input → Type 0
+Spells Run bytes input = IsRunInput (lines_of bytes) input
+Spells View bytes input = IsViewInput (lines_of bytes) input
+Spells Mirror bytes input = IsMirrorInput (lines_of bytes) input

@@ -12,3 +12,4 @@ pub mod Answer
 pub mod Stands
 pub mod Printing
 pub mod PrintLaws
+pub mod TurnHead

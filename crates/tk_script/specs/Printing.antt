@@ -1,4 +1,5 @@
--- The one form in which a script and a tape are printed: the digits of bytes are in lower case.
+-- The one form in which a script, a history and a tape are printed: the digits of bytes are in
+-- lower case.
 use Rattle.std.specs.Prelude.{ℕ, zero, suc, List, [], ◌∷◌, ◌++◌, length, map, take, drop, codes, decimal, flat_map, Option, Some, None}
 use Rattle.std.specs.List.{AllByRecursion}
 use Rattle.hex.specs.Hex.{encode_lower, IsBytes}
@@ -6,7 +7,8 @@ use Rattle.tk_handle.specs.declared.handle.Handle.{Handle}
 use Rattle.tk_handle.specs.Handle.{handle_bytes}
 use Rattle.tk_script.specs.declared.script.Script.{Script}
 use Rattle.tk_script.specs.declared.keys.Keys.{Keys}
-use Rattle.tk_script.specs.Grammar.{Line, fields, shape_line, kind_line, role_line, say_line, IsHandle, IsSeed}
+use Rattle.tk_schedule.specs.declared.raw.RawKind.{RawKind}
+use Rattle.tk_script.specs.Grammar.{Line, fields, shape_line, kind_line, role_line, say_line, raw_line, IsHandle, IsSeed}
 
 -- lines, each ended by a line feed
 abbrev pub text_of : List Line → List ℕ
@@ -42,6 +44,15 @@ lines_of_script S =
 unfoldable pub printed : Script → List ℕ
 printed S = text_of (lines_of_script S)
 
+-- ---- the history section
+
+-- the lines of the turns, as a report has them, between the word and the end
+abbrev pub lines_of_turns : List RawKind → List Line
+lines_of_turns turns = codes "history" ∷ (map raw_line turns ++ codes "end" ∷ [])
+
+unfoldable pub printed_turns : List RawKind → List ℕ
+printed_turns turns = text_of (lines_of_turns turns)
+
 -- ---- the tape section
 
 -- pieces of a size, of which the last may be shorter, up to a number of them
@@ -67,6 +78,11 @@ lines_of_tape bytes = codes "tape" ∷ (lines_of_pieces bytes ++ codes "end" ∷
 
 unfoldable pub printed_tape : List ℕ → List ℕ
 printed_tape bytes = text_of (lines_of_tape bytes)
+
+-- a tape behind a script: a keyed one has none
+abbrev pub tape_behind : Option Keys → List ℕ → List ℕ
+tape_behind None bytes = printed_tape bytes
+tape_behind (Some keys) bytes = []
 
 -- ---- bytes
 

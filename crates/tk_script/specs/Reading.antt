@@ -2,6 +2,7 @@
 -- Within a line the causes are tried in the order of the definitions below.
 use Rattle.std.specs.Prelude.{◌≡◌, ℕ, zero, suc, ◌+◌, ◌-◌, ◌*◌, ◌/◌, nat_le, nat_lt, ◌==◌, ◌&&◌, ◌||◌, Bool, true, false, cond, List, [], ◌∷◌, ◌++◌, length, find, take, drop, replicate, codes, decimal, flat_map, Option, Some, None, Result, Ok, Err}
 use Rattle.std.specs.Int.{w64, from_be_bytes}
+use Rattle.std.specs.Option.{option_map}
 use Rattle.std.specs.List.{join_with_byte, slice_split}
 use Rattle.std.specs.Str.{bytes_eq}
 use Rattle.std.specs.Str.Parse.{digits_value}
@@ -22,6 +23,13 @@ use Rattle.tk_script.specs.declared.script.Script.{Script}
 use Rattle.tk_script.specs.declared.input.RawTape.{RawTape}
 use Rattle.tk_script.specs.declared.input.Input.{Input}
 use Rattle.tk_handle.specs.declared.handle.Handle.{Handle}
+use Rattle.tk_schedule.specs.declared.item.Item.{Item}
+use Rattle.tk_schedule.specs.declared.item.Item.TheVariants.{Client, Publish}
+use Rattle.tk_schedule.specs.declared.raw.RawLine.{RawLine}
+use Rattle.tk_schedule.specs.declared.raw.RawKind.{RawKind}
+use Rattle.tk_schedule.specs.declared.raw.RawKind.TheVariants.{Order, Reads, End}
+use Rattle.tk_script.specs.declared.form.Form.{Form}
+use Rattle.tk_script.specs.declared.form.Form.TheVariants.{Run, View, Mirror}
 use Rattle.tk_script.specs.Grammar.{Line, kept}
 
 -- what a line gives, or the cause for which it is refused
@@ -108,11 +116,11 @@ abbrev pub drawn_if : ℕ → Verdict Bool
 drawn_if size =
     cond (nat_le size 2097152) (Ok false) (Err (cause.Shape field.Tape size))
 
--- whether the script is keyed
-abbrev pub read_kind : Numbers → Line → Verdict Bool
-read_kind n line =
+-- whether the script is keyed, where it may be
+abbrev pub read_kind : Bool → Numbers → Line → Verdict Bool
+read_kind may n line =
     cond (bytes_eq line (codes "drawn")) (drawn_if (tape_in n))
-    (cond (bytes_eq line (codes "keyed")) (Ok true) (Err cause.Form))
+    (cond (may && bytes_eq line (codes "keyed")) (Ok true) (Err cause.Form))
 
 -- ---- the lines of the logs
 
@@ -213,6 +221,49 @@ piece_parts (w ∷ parts) =
 
 abbrev pub read_piece : Line → Verdict (List ℕ)
 read_piece line = piece_parts (parts_of line)
+
+-- ---- the lines of a history
+
+-- a client's number, or the mark
+abbrev pub item_spelled : List ℕ → Option Item
+item_spelled text =
+    cond (bytes_eq text (codes "mark")) (Some Publish) (option_map Client (number_spelled text))
+
+abbrev pub item_before : Option Item → Option (List Item) → Option (List Item)
+item_before None items = None
+item_before (Some x) None = None
+item_before (Some x) (Some items) = Some (x ∷ items)
+
+-- the items that these spell, each of them one
+abbrev pub items_spelled : List (List ℕ) → Option (List Item)
+items_spelled [] = Some []
+items_spelled (t ∷ ts) = item_before (item_spelled t) (items_spelled ts)
+
+abbrev pub order_said : Option ℕ → Option ℕ → Option (List Item) → Verdict RawKind
+order_said (Some phase) (Some tick) (Some items) = Ok (Order phase tick items)
+order_said phase tick items = Err cause.Form
+
+abbrev pub reads_said : Option ℕ → Option ℕ → Option (List ℕ) → Verdict RawKind
+reads_said (Some phase) (Some tick) (Some epochs) = Ok (Reads phase tick epochs)
+reads_said phase tick epochs = Err cause.Form
+
+abbrev pub turn_said : List ℕ → Option ℕ → Option ℕ → List (List ℕ) → Verdict RawKind
+turn_said word phase tick rest =
+    cond (bytes_eq word (codes "order")) (order_said phase tick (items_spelled rest))
+    (cond (bytes_eq word (codes "reads")) (reads_said phase tick (numbers_spelled rest))
+    (Err cause.Form))
+
+abbrev pub no_turn : Verdict RawKind
+no_turn = Err cause.Form
+
+-- an order or the epochs of a turn, by a phase, a tick, and one item or epoch or more
+abbrev pub turn_parts : List (List ℕ) → Verdict RawKind
+turn_parts (word ∷ phase ∷ tick ∷ t ∷ ts) =
+    turn_said word (number_spelled phase) (number_spelled tick) (t ∷ ts)
+turn_parts parts = Err cause.Form
+
+abbrev pub read_turn : Line → Verdict RawKind
+read_turn line = turn_parts (parts_of line)
 
 -- ---- the lines of the texts
 
@@ -336,11 +387,11 @@ abbrev pub read_words : List ℕ → Line → Verdict (Unit {0})
 read_words words line = cond (bytes_eq line words) (Ok tt) (Err cause.Form)
 
 -- the three lines at the front of a script: its numbers, and whether it is keyed
-unfoldable pub read_head : Place → Result (Numbers × Bool × Place) Refusal
-read_head p = do
+unfoldable pub read_head : Bool → Place → Result (Numbers × Bool × Place) Refusal
+read_head may p = do
   first ← next_line (read_words (codes "talek 1")) p
   shape ← next_line read_shape first.1
-  kind ← next_line (read_kind shape.0) shape.1
+  kind ← next_line (read_kind may shape.0) shape.1
   Ok (shape.0, kind.0, kind.1)
 
 -- the handles and the seeds of a keyed script
@@ -362,9 +413,10 @@ pub record ScriptLines : Type 0 where
   pub roles : List Role
   pub says : List Say
 
-unfoldable pub read_script : Place → Result (ScriptLines × Place) Refusal
-read_script p = do
-  head ← read_head p
+-- a script, which may be keyed or not
+unfoldable pub read_script : Bool → Place → Result (ScriptLines × Place) Refusal
+read_script may p = do
+  head ← read_head may p
   roles ← next_lines head.0.logs (read_role head.0) [] head.2
   keys ← read_keys head.0 head.1 roles.1
   says ← to_end (read_next_say head.0) [] keys.1.line keys.1.rest
@@ -372,6 +424,26 @@ read_script p = do
     record { numbers = head.0; keys = keys.0; roles = roles.0; says = says.0 },
     says.1,
   )
+
+-- the lines of a history, of which none looks at those before it
+abbrev pub read_next_turn : List RawKind → Line → Verdict RawKind
+read_next_turn kinds line = read_turn line
+
+-- what lines say, numbered from this number on, and the end behind them
+abbrev pub numbered : ℕ → List RawKind → List RawLine
+numbered n [] = record { line = n; kind = End } ∷ []
+numbered n (k ∷ ks) = record { line = n; kind = k } ∷ numbered (n + 1) ks
+
+abbrev pub numbered_behind : ℕ → List RawKind × Place → Result (List RawLine × Place) Refusal
+numbered_behind line x = Ok (numbered line x.0, x.1)
+
+abbrev pub read_turns : ℕ → List Line → Result (List RawLine × Place) Refusal
+read_turns line lines = to_end read_next_turn [] line lines >>= numbered_behind line
+
+unfoldable pub read_history : Place → Result (List RawLine × Place) Refusal
+read_history p = do
+  first ← next_line (read_words (codes "history")) p
+  read_turns first.1.line first.1.rest
 
 -- the pieces of a tape, of which none looks at those before it
 abbrev pub read_next_piece : List (List ℕ) → Line → Verdict (List ℕ)
@@ -410,14 +482,51 @@ read_end None want p = do
 -- what the lines of an input say
 pub record InputLines : Type 0 where
   pub first : ScriptLines
+  pub second : Option ScriptLines
+  pub history : Option (List RawLine)
   pub tape : Option RawTape
 
--- what the lines of an input say, or else the first that is refused, with its cause
-unfoldable pub read_input : List Line → Result InputLines Refusal
-read_input lines = do
-  script ← read_script (record { line = 1; rest = lines })
-  tape ← read_end script.0.keys (tape_in script.0.numbers) script.1
-  Ok (record { first = script.0; tape = tape })
+-- the tape behind a script's form
+abbrev pub read_tape_of : ScriptLines → Place → Result (Option RawTape) Refusal
+read_tape_of script p = read_end script.keys (tape_in script.numbers) p
+
+abbrev pub front : List Line → Place
+front lines = record { line = 1; rest = lines }
+
+-- a script, and its tape
+unfoldable pub read_run : List Line → Result InputLines Refusal
+read_run lines = do
+  script ← read_script true (front lines)
+  tape ← read_tape_of script.0 script.1
+  Ok (record { first = script.0; second = None; history = None; tape = tape })
+
+-- a script, a history, and the script's tape
+unfoldable pub read_view : List Line → Result InputLines Refusal
+read_view lines = do
+  script ← read_script true (front lines)
+  history ← read_history script.1
+  tape ← read_tape_of script.0 history.1
+  Ok (record { first = script.0; second = None; history = Some history.0; tape = tape })
+
+-- two scripts of drawn words, a history, and a tape
+unfoldable pub read_mirror : List Line → Result InputLines Refusal
+read_mirror lines = do
+  first ← read_script false (front lines)
+  second ← read_script false first.1
+  history ← read_history second.1
+  tape ← read_tape_of first.0 history.1
+  Ok (record {
+    first = first.0;
+    second = Some second.0;
+    history = Some history.0;
+    tape = tape;
+  })
+
+-- what the lines of an input of a form say, or else the first that is refused, with its cause
+abbrev pub read_input : Form → List Line → Result InputLines Refusal
+read_input Run lines = read_run lines
+read_input View lines = read_view lines
+read_input Mirror lines = read_mirror lines
 
 -- ---- values and what their lines say
 
@@ -426,4 +535,10 @@ script_lines S =
     record { numbers = named S.shape; keys = S.keys; roles = S.roles; says = S.says }
 
 abbrev pub input_lines : Input → InputLines
-input_lines input = record { first = script_lines input.first; tape = input.tape }
+input_lines input =
+    record {
+      first = script_lines input.first;
+      second = option_map script_lines input.second;
+      history = input.history;
+      tape = input.tape;
+    }

@@ -26,18 +26,21 @@ impl Model for Handles {
 impl Handles {
     ghost use Rattle.std.specs.Prelude.{◌≡◌};
 
+    /// The handles of the logs from 0 on.
     pub fn from_vec(items: Vec<Handle>) -> Handles
         ensures { result ≡ items.items }
     {
         Handles { items }
     }
 
+    /// The handle of each log, log 0 first.
     pub fn as_slice(&self) -> &[Handle]
         ensures { result.now ≡ self.now }
     {
         self.items.as_slice()
     }
 
+    /// The handles as a vector, log 0 first.
     pub fn into_vec(self) -> Vec<Handle>
         ensures { result.items ≡ self }
     {
@@ -62,18 +65,21 @@ impl Model for ClientSeeds {
 impl ClientSeeds {
     ghost use Rattle.std.specs.Prelude.{◌≡◌};
 
+    /// The seeds of the clients from 0 on.
     pub fn from_vec(items: Vec<[u8; 32]>) -> ClientSeeds
         ensures { result ≡ items.items }
     {
         ClientSeeds { items }
     }
 
+    /// The seed of each client, client 0 first.
     pub fn as_slice(&self) -> &[[u8; 32]]
         ensures { result.now ≡ self.now }
     {
         self.items.as_slice()
     }
 
+    /// The seeds as a vector, client 0 first.
     pub fn into_vec(self) -> Vec<[u8; 32]>
         ensures { result.items ≡ self }
     {

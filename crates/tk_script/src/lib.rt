@@ -1,4 +1,5 @@
-//! The text that describes a group, its logs and what is said: a script and, where its words are drawn, their tape.
+//! The text that describes a group, its logs and what is said: a script and, where its words are drawn, their tape; and
+//! what else stands in the forms of an input, a history and a second script.
 #![tactic(auto)]
 
 mod book;
@@ -6,6 +7,8 @@ mod cause;
 mod cause_text;
 mod error;
 mod fields;
+mod form;
+mod history_section;
 mod input;
 mod key_lines;
 mod key_text;
@@ -32,15 +35,18 @@ mod section;
 mod shape_line;
 mod tape;
 mod tape_text;
+mod turn_line;
 
 pub use book::BookError;
 pub use cause::Cause;
 pub use cause_text::push_cause;
 pub use error::ScriptError;
+pub use form::Form;
 pub use input::{Input, RawTape};
 pub use keys::{ClientSeeds, Handles, Keys};
 pub use laws::{numbers_sent_once, one_input};
 pub use line_text::{push_field, push_line, push_number, push_numbers, push_numbers_line};
+pub use lines::next_line;
 pub use numbers::plain_number;
 pub use parsing::parse;
 pub use print_laws::printed_reads;
@@ -50,3 +56,4 @@ pub use round_trip::{parse_printed, parse_printed_with};
 pub use say::{Say, Says};
 pub use script::Script;
 pub use tape_text::print_tape;
+pub use turn_line::turn_of;

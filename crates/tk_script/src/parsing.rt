@@ -1,32 +1,81 @@
-ghost use Rattle.std.specs.Prelude.{◌≡◌, IfOk};
+ghost use Rattle.std.specs.Prelude.{◌≡◌, true, false, IfOk};
 ghost use Rattle.tk_shape.specs.Lengths.{tape_len};
 ghost use Rattle.tk_script.specs.Answer.{Gives, Agrees};
 ghost use Rattle.tk_script.specs.Grammar.{lines_of, Spells};
-ghost use Rattle.tk_script.specs.Reading.{input_lines, read_end, read_input};
+ghost use Rattle.tk_script.specs.Reading.{front, input_lines, read_end, read_input, read_mirror, read_run, read_view};
 ghost use Rattle.tk_script.specs.Stands.{stands};
 
+use crate::history_section::history_of;
 use crate::place::Place;
 use crate::section::script_of;
 use crate::tape::tape_of;
-use crate::{Input, RawTape, Script, ScriptError};
+use crate::{Form, Input, RawTape, Script, ScriptError};
 use std::alloc::Global;
 
-/// The input that a text spells, or the first of its lines that is refused: that may also be one behind its last.
-pub fn parse(alloc: Global, text: &[u8]) -> Result<Input, ScriptError>
-    ensures found { IfOk result (λ input. Spells text.now input) }
-    ensures read { Agrees input_lines result (read_input (lines_of text.now)) }
-    ensures only { (input : Input) → Spells text.now input → Gives result (λ x. x ≡ input) }
+/// The input of a form that a text spells, or the first of its lines that is refused: that may also be one behind its
+/// last.
+pub fn parse(alloc: Global, text: &[u8], form: Form) -> Result<Input, ScriptError>
+    ensures found { IfOk result (λ input. Spells form text.now input) }
+    ensures read { Agrees input_lines result (read_input form (lines_of text.now)) }
+    ensures only { (input : Input) → Spells form text.now input → Gives result (λ x. x ≡ input) }
 {
-    input_of(alloc, text)
+    input_of(alloc, text, form)
 }
 
-/// The input that the lines of a text say.
-fn input_of(alloc: Global, text: &[u8]) -> Result<Input, ScriptError>
-    ensures { Agrees input_lines result (read_input (lines_of text.now)) }
+/// The input of a form that the lines of a text say.
+fn input_of(alloc: Global, text: &[u8], form: Form) -> Result<Input, ScriptError>
+    ensures { Agrees input_lines result (read_input form (lines_of text.now)) }
 {
-    let (first, rest) = script_of(alloc, Place::front(text))?;
+    match form {
+        Form::Run => run_of(alloc, text),
+        Form::View => view_of(alloc, text),
+        Form::Mirror => mirror_of(alloc, text),
+    }
+}
+
+/// A script, and the tape of a drawn one.
+fn run_of(alloc: Global, text: &[u8]) -> Result<Input, ScriptError>
+    ensures { Agrees input_lines result (read_run (lines_of text.now)) }
+{
+    let (first, rest) = script_of(alloc, true, Place::front(text))?;
     let tape = tape_behind(alloc, &first, rest)?;
-    Ok(Input { first, tape })
+    Ok(Input {
+        first,
+        second: None,
+        history: None,
+        tape,
+    })
+}
+
+/// A script, a history, and the tape of a drawn script.
+fn view_of(alloc: Global, text: &[u8]) -> Result<Input, ScriptError>
+    ensures { Agrees input_lines result (read_view (lines_of text.now)) }
+{
+    let (first, rest) = script_of(alloc, true, Place::front(text))?;
+    let (history, rest) = history_of(alloc, rest)?;
+    let tape = tape_behind(alloc, &first, rest)?;
+    Ok(Input {
+        first,
+        second: None,
+        history: Some(history),
+        tape,
+    })
+}
+
+/// Two scripts of drawn words, a history, and the tape of the first script's shape.
+fn mirror_of(alloc: Global, text: &[u8]) -> Result<Input, ScriptError>
+    ensures { Agrees input_lines result (read_mirror (lines_of text.now)) }
+{
+    let (first, rest) = script_of(alloc, false, Place::front(text))?;
+    let (second, rest) = script_of(alloc, false, rest)?;
+    let (history, rest) = history_of(alloc, rest)?;
+    let tape = tape_behind(alloc, &first, rest)?;
+    Ok(Input {
+        first,
+        second: Some(second),
+        history: Some(history),
+        tape,
+    })
 }
 
 /// The tape behind a script of drawn words, where it is all that stands from here on; behind a keyed script nothing

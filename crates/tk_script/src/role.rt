@@ -40,18 +40,21 @@ impl Model for Roles {
 impl Roles {
     ghost use Rattle.std.specs.Prelude.{◌≡◌};
 
+    /// The roles of the logs from 0 on.
     pub fn from_vec(items: Vec<Role>) -> Roles
         ensures { result ≡ items.items }
     {
         Roles { items }
     }
 
+    /// The role of each log, log 0 first.
     pub fn as_slice(&self) -> &[Role]
         ensures { result.now ≡ self.now }
     {
         self.items.as_slice()
     }
 
+    /// The roles as a vector, log 0 first.
     pub fn into_vec(self) -> Vec<Role>
         ensures { result.items ≡ self }
     {

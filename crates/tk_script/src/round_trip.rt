@@ -3,17 +3,17 @@ ghost use Rattle.tk_script.specs.Answer.{Gives};
 ghost use Rattle.tk_script.specs.Grammar.{kept_of};
 ghost use Rattle.tk_script.specs.declared.keys.Keys.{Keys};
 
-use crate::{Input, Script, ScriptError, parse, print, print_tape};
+use crate::{Form, Input, Script, ScriptError, parse, print, print_tape};
 use std::alloc::Global;
 
 /// What `parse` answers of a printed script of keys: the same script.
 pub fn parse_printed(alloc: Global, script: &Script) -> Result<Input, ScriptError>
     ensures same { (keys : Keys) → script.now.keys ≡ Some keys →
-        Gives result (λ input. input ≡ record { first = script.now; tape = None }) }
+        Gives result (λ input. input ≡ record { first = script.now; second = None; history = None; tape = None }) }
 {
     let mut text = Vec::new(alloc);
     print(script, &mut text)?;
-    parse(alloc, text.as_slice())
+    parse(alloc, text.as_slice(), Form::Run)
 }
 
 /// What `parse` answers of a printed script of drawn words with a printed tape behind it: the same script, and what is
@@ -21,10 +21,15 @@ pub fn parse_printed(alloc: Global, script: &Script) -> Result<Input, ScriptErro
 pub fn parse_printed_with(alloc: Global, script: &Script, tape: &[u8]) -> Result<Input, ScriptError>
     ensures same { script.now.keys ≡ None →
         Gives result (λ input. input ≡
-        record { first = script.now; tape = Some (kept_of script.now.shape tape.now) }) }
+        record {
+          first = script.now;
+          second = None;
+          history = None;
+          tape = Some (kept_of script.now.shape tape.now);
+        }) }
 {
     let mut text = Vec::new(alloc);
     print(script, &mut text)?;
     print_tape(tape, &mut text)?;
-    parse(alloc, text.as_slice())
+    parse(alloc, text.as_slice(), Form::Run)
 }

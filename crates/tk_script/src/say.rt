@@ -28,18 +28,21 @@ impl Model for Says {
 impl Says {
     ghost use Rattle.std.specs.Prelude.{◌≡◌};
 
+    /// What is said, in this order.
     pub fn from_vec(items: Vec<Say>) -> Says
         ensures { result ≡ items.items }
     {
         Says { items }
     }
 
+    /// What is said, in order.
     pub fn as_slice(&self) -> &[Say]
         ensures { result.now ≡ self.now }
     {
         self.items.as_slice()
     }
 
+    /// What is said as a vector, in order.
     pub fn into_vec(self) -> Vec<Say>
         ensures { result.items ≡ self }
     {

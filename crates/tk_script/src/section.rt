@@ -12,12 +12,16 @@ use crate::{Script, ScriptError};
 use std::alloc::Global;
 use tk_shape::Shape;
 
-/// The script section that begins here, and the place behind it.
-pub(crate) fn script_of(alloc: Global, start: Place<'_>) -> Result<(Script, Place<'_>), ScriptError>
+/// The script section that begins here, which may be keyed or not, and the place behind it.
+pub(crate) fn script_of(
+    alloc: Global,
+    may_be_keyed: bool,
+    start: Place<'_>,
+) -> Result<(Script, Place<'_>), ScriptError>
     ensures { Agrees (λ x. (script_lines x.0, stands x.1)) result
-        (read_script (stands start.entry)) }
+        (read_script may_be_keyed (stands start.entry)) }
 {
-    let (shape, keyed, rest) = head_of(alloc, start)?;
+    let (shape, keyed, rest) = head_of(alloc, may_be_keyed, start)?;
     let (roles, rest) = roles_of(alloc, &shape, rest)?;
     let (keys, rest) = keys_of(alloc, &shape, keyed, rest)?;
     let (says, rest) = says_of(alloc, &shape, rest)?;
@@ -31,11 +35,15 @@ pub(crate) fn script_of(alloc: Global, start: Place<'_>) -> Result<(Script, Plac
 }
 
 /// The shape of the three lines at the front of a script, whether it is keyed, and the place behind them.
-fn head_of(alloc: Global, start: Place<'_>) -> Result<(Shape, bool, Place<'_>), ScriptError>
-    ensures { Agrees (λ x. (named x.0, x.1, stands x.2)) result (read_head (stands start.entry)) }
+fn head_of(
+    alloc: Global,
+    may_be_keyed: bool,
+    start: Place<'_>,
+) -> Result<(Shape, bool, Place<'_>), ScriptError>
+    ensures { Agrees (λ x. (named x.0, x.1, stands x.2)) result (read_head may_be_keyed (stands start.entry)) }
 {
     let rest = start.behind(b"talek 1")?;
     let (shape, rest) = shape_of(alloc, rest)?;
-    let (keyed, rest) = kind_of(&shape, rest)?;
+    let (keyed, rest) = kind_of(&shape, may_be_keyed, rest)?;
     Ok((shape, keyed, rest))
 }

@@ -1,7 +1,7 @@
 use crate::script_tests::{Parts, join, parsed};
 use std::alloc::Global;
 use tk_script::{
-    BookError, Cause, Input, ScriptError, parse, parse_printed, parse_printed_with, print,
+    BookError, Cause, Form, Input, ScriptError, parse, parse_printed, parse_printed_with, print,
     print_tape, push_cause, push_field, push_line, push_number, push_numbers, push_numbers_line,
 };
 use tk_shape::Memory;
@@ -154,7 +154,7 @@ fn lines_printed(rt: HostRuntime) -> Result<(), Memory> {
 fn no_book(alloc: Global, parts: &[&[u8]]) -> Result<Option<BookError>, ScriptError> {
     let mut text = Vec::new(alloc);
     join(parts, &mut text)?;
-    let Input { first, tape } = parse(alloc, &text)?;
+    let Input { first, tape, .. } = parse(alloc, &text, Form::Run)?;
     Ok(first.book(alloc, tape).err())
 }
 

@@ -1,6 +1,7 @@
 use std::alloc::Global;
 use std::test::Fail;
-use tk_script::{Cause, Input, Keys, Script, ScriptError, parse, plain_number};
+use tk_schedule::{Item, RawKind, RawLine};
+use tk_script::{Cause, Form, Input, Keys, Script, ScriptError, parse, plain_number};
 use tk_shape::{Field, Memory};
 
 /// The front of a script of drawn words, and the rest of it.
@@ -29,11 +30,16 @@ pub(crate) fn join(parts: &[&[u8]], text: &mut Vec<u8>) -> Result<(), Memory> {
     Ok(())
 }
 
-/// The input that parts of a text spell.
-pub(crate) fn parsed(alloc: Global, parts: &[&[u8]]) -> Result<Input, ScriptError> {
+/// The input of a form that parts of a text spell.
+fn parsed_as(alloc: Global, parts: &[&[u8]], form: Form) -> Result<Input, ScriptError> {
     let mut text = Vec::new(alloc);
     join(parts, &mut text)?;
-    parse(alloc, &text)
+    parse(alloc, &text, form)
+}
+
+/// The input that parts of a text spell.
+pub(crate) fn parsed(alloc: Global, parts: &[&[u8]]) -> Result<Input, ScriptError> {
+    parsed_as(alloc, parts, Form::Run)
 }
 
 /// Whether a script has one log, which client 0 writes and client 1 follows, and on which one text
@@ -56,7 +62,7 @@ const DRAWN_INPUT: Parts = &[HEAD, SCRIPT, b"tape\nfill 11 252\nx aB0c\nfill fF 
 
 #[test]
 fn drawn_input(rt: HostRuntime) -> Result<(), Fail> {
-    let Input { first, tape } = parsed(rt.alloc(), DRAWN_INPUT)?;
+    let Input { first, tape, .. } = parsed(rt.alloc(), DRAWN_INPUT)?;
     assert!(rt; is_drawn(&first));
     let tape = tape.expect(&rt, "a tape");
     assert!(rt; tape.got == 256);
@@ -86,7 +92,7 @@ const KEYED_INPUT: Parts = &[
 
 #[test]
 fn keyed_input(rt: HostRuntime) -> Result<(), Fail> {
-    let Input { first, tape } = parsed(rt.alloc(), KEYED_INPUT)?;
+    let Input { first, tape, .. } = parsed(rt.alloc(), KEYED_INPUT)?;
     assert!(rt; tape.is_none());
     let keys = first.keys.expect(&rt, "keys");
     assert!(rt; are_one(&keys, 0xab));
@@ -251,6 +257,122 @@ const REFUSED: [(Parts, u64, Cause); 27] = [
 fn first_bad_line_named(rt: HostRuntime) {
     for &(parts, line, cause) in &REFUSED {
         let error = parsed(rt.alloc(), parts).err();
+        assert!(rt; error == Some(ScriptError::Line { line, cause }));
+    }
+}
+
+/// A history of two turns, which needn't be one that a run has.
+const HISTORY: &[u8] =
+    b"history\norder 1 1 0 1 mark\nreads 1 1 0 0\norder 7 4294967295 mark\nend\n";
+
+const TAPE: &[u8] = b"tape\nfill 11 256\nend\n";
+
+/// Whether lines are those of the history, from this number on.
+fn are_lines(lines: &[RawLine], number: u64) -> bool {
+    let [first, second, third, end] = lines else {
+        return false;
+    };
+    let numbered = first.line == number
+        && second.line == number + 1
+        && third.line == number + 2
+        && end.line == number + 3;
+    numbered && is_order(&first.kind) && is_end(&end.kind)
+}
+
+fn is_end(kind: &RawKind) -> bool {
+    match kind {
+        RawKind::End => true,
+        _ => false,
+    }
+}
+
+/// Whether it is the order of client 0, client 1 and the mark in the first turn.
+fn is_order(kind: &RawKind) -> bool {
+    match kind {
+        RawKind::Order { phase, tick, items } => {
+            *phase == 1
+                && *tick == 1
+                && items.as_slice()
+                    == [Item::Client(0), Item::Client(1), Item::Publish].as_slice()
+        }
+        _ => false,
+    }
+}
+
+#[test]
+fn view_input(rt: HostRuntime) -> Result<(), Fail> {
+    let read = parsed_as(rt.alloc(), &[HEAD, SCRIPT, HISTORY, TAPE], Form::View)?;
+    assert!(rt; is_drawn(&read.first));
+    assert!(rt; read.second.is_none());
+    let history = read.history.expect(&rt, "a history");
+    assert!(rt; are_lines(history.as_slice(), 8));
+    assert!(rt; read.tape.is_some());
+    Ok(())
+}
+
+#[test]
+fn mirror_input(rt: HostRuntime) -> Result<(), Fail> {
+    let parts = [HEAD, b"log 1\nend\n", HEAD, SCRIPT, HISTORY, TAPE];
+    let read = parsed_as(rt.alloc(), &parts, Form::Mirror)?;
+    let second = read.second.expect(&rt, "a script");
+    assert!(rt; read.first.says.as_slice().is_empty());
+    assert!(rt; is_drawn(&second));
+    let history = read.history.expect(&rt, "a history");
+    assert!(rt; are_lines(history.as_slice(), 13));
+    assert!(rt; read.tape.is_some());
+    Ok(())
+}
+
+/// The parts of a text of a form, the line that is refused, and why.
+const REFUSED_FORMS: [(Form, Parts, u64, Cause); 12] = [
+    (Form::Run, &[HEAD, SCRIPT, HISTORY, TAPE], 7, Cause::Form),
+    (Form::View, &[HEAD, SCRIPT, TAPE], 7, Cause::Form),
+    (Form::View, &[HEAD, SCRIPT, b"history\n"], 8, Cause::Early),
+    (
+        Form::View,
+        &[HEAD, SCRIPT, b"history\norder 1 1\nend\n"],
+        8,
+        Cause::Form,
+    ),
+    (
+        Form::View,
+        &[HEAD, SCRIPT, b"history\norder 1 1 01\nend\n"],
+        8,
+        Cause::Form,
+    ),
+    (
+        Form::View,
+        &[HEAD, SCRIPT, b"history\nreads 1 1 mark\nend\n"],
+        8,
+        Cause::Form,
+    ),
+    (
+        Form::View,
+        &[HEAD, SCRIPT, b"history\norder 1 4294967296 0\nend\n"],
+        8,
+        Cause::Form,
+    ),
+    (Form::View, &[HEAD, SCRIPT, HISTORY], 12, Cause::Early),
+    (Form::Mirror, &[KEYED], 3, Cause::Form),
+    (Form::Mirror, &[HEAD, SCRIPT, KEYED], 9, Cause::Form),
+    (
+        Form::Mirror,
+        &[HEAD, SCRIPT, HISTORY, TAPE],
+        7,
+        Cause::Form,
+    ),
+    (
+        Form::Mirror,
+        &[HEAD, SCRIPT, HEAD, SCRIPT, HISTORY, TAPE, b"\n"],
+        21,
+        Cause::After,
+    ),
+];
+
+#[test]
+fn first_bad_line_of_a_form_named(rt: HostRuntime) {
+    for &(form, parts, line, cause) in &REFUSED_FORMS {
+        let error = parsed_as(rt.alloc(), parts, form).err();
         assert!(rt; error == Some(ScriptError::Line { line, cause }));
     }
 }

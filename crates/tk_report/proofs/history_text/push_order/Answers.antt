@@ -2,7 +2,7 @@
 use Rattle.std.proofs.Common.{List, ◌++◌, ◌∷◌, [], ◌∙◌, ap, codes, decimal}
 use Rattle.tk_schedule.specs.declared.item.Item.{Item}
 use Rattle.tk_schedule.specs.Schedule.{phase_of, tick_of, order_at}
-use Rattle.tk_report.specs.Report.{item_field}
+use Rattle.tk_script.specs.Grammar.{item_word}
 use Rattle.tk_report.proofs.ReportLaws.{spaced, line_of_more}
 use Rattle.tk_report.proofs.history_text.push_order.Goals as goal
 
@@ -15,10 +15,10 @@ returns c =
     let head = c.push_head.new.out.items in
     let items =
     c.in_ok-push_items.ensures.ok
-    ∙ ap (λ (xs : List Item). head ++ spaced item_field xs) c.order.ensures.order
+    ∙ ap (λ (xs : List Item). head ++ spaced item_word xs) c.order.ensures.order
     in
     record {
       ok =
-          line_of_more item_field (codes "order") place order c.args.out.now.items
+          line_of_more item_word (codes "order") place order c.args.out.now.items
           c.in_ok-push_head.ensures.ok items c.in_ok-push.ensures.items;
     }

@@ -1,46 +1,19 @@
--- By its word a line says an order or epochs, or nothing.
-use Rattle.std.proofs.Common.{◌≡◌, ◌∙◌, sym, codes, Bool, true, false}
-use Rattle.std.proofs.lemmas.Slice.Eq.{bytes_eq-Decides}
-use Rattle.tk_report.proofs.OptionLaws.{ok-then}
-use Rattle.tk_report.proofs.PartLaws.{head-order, head-reads, head-other}
+-- What was read of the line is what it says.
+use Rattle.std.proofs.Common.{◌≡◌, ◌∙◌, subst}
+use Rattle.tk_script.specs.declared.cause.Cause.TheVariants as cause
+use Rattle.tk_script.specs.Reading.{IsTaken, read_turn}
+use Rattle.tk_report.proofs.KindLaws.{told-kind, told-none}
 use Rattle.tk_report.proofs.line_kind.kind_of.Goals as goal
 
-pub returns-then-eq : goal.returns-then-eq
-returns-then-eq c =
+pub returns-in-Some : goal.returns-in-Some
+returns-in-Some c =
     let line = c.args.line.now in
-    let head = c.in-Some.head in
-    let word : head.word.now ≡ codes "order" =
-    (bytes_eq-Decides head.word.now c.as_slice.result.now).0 (sym c.if-eq.ensures)
-    ∙ c.as_slice.ensures
-    in
-    ok-then c.order_in.result _ _ (λ k is. is ∙ head-order line head.word.now head.rest.now
-    head.phase head.tick c.in-Some.ensures.found word) c.order_in.ensures
+    told-kind line c.in-Some.kind
+    (subst (λ o. IsTaken o (read_turn line)) c.in-Some.is c.in_ok-kind.ensures)
 
-pub returns-then-eq-2 : goal.returns-then-eq-2
-returns-then-eq-2 c =
+pub returns-in-None : goal.returns-in-None
+returns-in-None c =
     let line = c.args.line.now in
-    let head = c.in-Some.head in
-    let word : head.word.now ≡ codes "reads" =
-    (bytes_eq-Decides head.word.now c.as_slice-2.result.now).0 (sym c.if-eq-2.ensures)
-    ∙ c.as_slice-2.ensures
-    in
-    ok-then c.reads_in.result _ _ (λ k is. is ∙ head-reads line head.word.now head.rest.now
-    head.phase head.tick c.in-Some.ensures.found word) c.reads_in.ensures
-
-differ : (b : Bool) → b ≡ true → b ≡ false → ⊥
-differ b p q = cc (p, q)
-
-pub returns : goal.returns
-returns c =
-    let line = c.args.line.now in
-    let head = c.in-Some.head in
-    c.no_line-2.ensures
-    ∙ head-other line head.word.now head.rest.now head.phase head.tick c.in-Some.ensures.found
-    (λ e. differ c.eq.result
-    (c.eq.ensures
-    ∙ (bytes_eq-Decides head.word.now c.as_slice.result.now).1 (e ∙ sym c.as_slice.ensures))
-    c.if-eq.false)
-    (λ e. differ c.eq-2.result
-    (c.eq-2.ensures
-    ∙ (bytes_eq-Decides head.word.now c.as_slice-2.result.now).1 (e ∙ sym c.as_slice-2.ensures))
-    c.if-eq-2.false)
+    c.no_line.ensures
+    ∙ told-none line cause.Form
+    (subst (λ o. IsTaken o (read_turn line)) c.in-None.is c.in_ok-kind.ensures)

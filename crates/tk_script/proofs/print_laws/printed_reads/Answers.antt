@@ -1,4 +1,5 @@
 -- The lines of what is printed are read one by one.
+use Rattle.tk_script.proofs.PrintedForms.{prints_views, prints_mirrors}
 use Rattle.tk_script.proofs.PrintedLaws.{prints_scripts, prints_tapes, prints_keyed, prints_drawn}
 use Rattle.tk_script.proofs.print_laws.printed_reads.Goals as goal
 
@@ -8,4 +9,6 @@ returns c = record {
   tape = prints_tapes;
   keyed = prints_keyed;
   drawn = prints_drawn;
+  views = prints_views;
+  mirrors = prints_mirrors;
 }

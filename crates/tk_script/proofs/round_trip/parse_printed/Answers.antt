@@ -1,5 +1,6 @@
 -- The printed text spells the script, and one input is all that it spells.
 use Rattle.std.proofs.Common.{◌≡◌, None, subst, sym, rules}
+use Rattle.tk_script.specs.declared.form.Form.TheVariants.{Run}
 use Rattle.tk_script.specs.declared.input.Input.{Input}
 use Rattle.tk_script.specs.Grammar.{Spells}
 use Rattle.tk_script.specs.Printing.{printed}
@@ -10,8 +11,8 @@ pub returns : goal.returns
 returns c = record {
   same = λ keys keyed.
       let S = c.args.script.now in
-      let input : Input = record { first = S; tape = None } in
+      let input : Input = record { first = S; second = None; history = None; tape = None } in
       let text : c.as_slice.result.now ≡ printed S = search rules in
       let spells = prints_keyed S keys keyed c.in_ok-print.ensures.has in
-      c.parse.ensures.only input (subst (λ t. Spells t input) (sym text) spells);
+      c.parse.ensures.only input (subst (λ t. Spells Run t input) (sym text) spells);
 }

@@ -1,0 +1,322 @@
+-- An input that is read line by line is the one that the text spells, form by form.
+use Rattle.std.proofs.Common.{◌≡◌, ◌∙◌, ℕ, List, Bool, true, false, IsTrue, Option, Some, None, Result, Ok, Err, refl, ap, sym, subst}
+use Rattle.std.specs.Prelude.{is_some, IfOk}
+use Rattle.std.specs.Option.{option_map}
+use Rattle.tk_schedule.specs.declared.raw.RawLine.{RawLine}
+use Rattle.tk_script.specs.declared.error.ScriptError.{ScriptError}
+use Rattle.tk_script.specs.declared.error.ScriptError.TheVariants.{Memory, Line as Refused}
+use Rattle.tk_script.specs.declared.form.Form.{Form}
+use Rattle.tk_script.specs.declared.form.Form.TheVariants.{Run, View, Mirror}
+use Rattle.tk_script.specs.declared.input.Input.{Input}
+use Rattle.tk_script.specs.declared.input.RawTape.{RawTape}
+use Rattle.tk_script.specs.declared.keys.Keys.{Keys}
+use Rattle.tk_script.specs.declared.script.Script.{Script}
+use Rattle.tk_script.specs.Answer.{IsMemory, IsRefusal, Gives, Agrees}
+use Rattle.tk_script.specs.Grammar.{Line, lines_of, BeginsWithHistory, EndsWithTape, IsRunInput, IsViewInput, IsMirrorInput, Spells}
+use Rattle.tk_script.specs.Laws.{SpellsOne, ReadsWhatIsSpelled, GivesInputs}
+use Rattle.tk_script.specs.Reading.{Place, ScriptLines, InputLines, front, read_script, read_history, read_tape_of, read_run, read_view, read_mirror, read_input, script_lines, input_lines}
+use Rattle.tk_script.proofs.CauseLaws.{IsDue}
+use Rattle.tk_script.proofs.EndLaws.{end_from, end_whole_of}
+use Rattle.tk_script.proofs.FormLaws.{behind_run_script, run_ends, run_parts, run_is, behind_view_script, behind_view_history, view_ends, view_parts, view_is}
+use Rattle.tk_script.proofs.FormLaws.{behind_first, behind_second, behind_mirror_history, mirror_ends, mirror_parts, mirror_is}
+use Rattle.tk_script.proofs.HistoryLaws.{history_from, history_whole}
+use Rattle.tk_script.proofs.OptionLaws.{ok_same}
+use Rattle.tk_script.proofs.RowLaws.{then_from}
+use Rattle.tk_script.proofs.ScriptLaws.{same_script, same_input}
+use Rattle.tk_script.proofs.ScriptSteps.{script_steps}
+use Rattle.tk_script.proofs.ShapeLaws.{same_named}
+use Rattle.tk_script.proofs.SpelledLaws.{script_read, script_whole}
+use Rattle.tk_script.proofs.StepLaws.{then_steps, number_behind}
+use Rattle.tk_script.proofs.WordLaws.{at}
+
+-- an input of these lines, of which this holds
+pub record InputOf (P : Input → Type 0) (t : InputLines) : Type 0 where
+  pub input : Input
+  pub spelled : P input
+  pub is : t ≡ input_lines input
+
+abbrev lines_with : Option ScriptLines → Option (List RawLine) → Option RawTape → ScriptLines →
+    InputLines
+lines_with second history tape first =
+    record { first = first; second = second; history = history; tape = tape }
+
+-- ---- the tape behind the sections
+
+tape_read : (S : Script) (script : ScriptLines) (p : Place) (tape : Option RawTape) →
+    script ≡ script_lines S → read_tape_of script p ≡ Ok tape → EndsWithTape S p.rest tape
+tape_read S script p tape is e =
+    end_from S.shape S.keys p tape (ap (λ s. read_tape_of s p) (sym is) ∙ e)
+
+tape_whole : (S : Script) (line : ℕ) (lines : List Line) (tape : Option RawTape) →
+    EndsWithTape S lines tape → read_tape_of (script_lines S) (at line lines) ≡ Ok tape
+tape_whole S line lines tape h = end_whole_of S.shape S.keys line lines tape h
+
+-- ---- scripts that may be keyed, and not
+
+may_be_keyed : (keyed : Bool) → IsDue true keyed
+may_be_keyed keyed k = refl
+
+drawn_due : (keys : Option Keys) → keys ≡ None → IsDue false (is_some keys)
+drawn_due keys drawn keyed = subst (λ k. IsTrue (is_some k)) drawn keyed
+
+due_drawn : (keys : Option Keys) → IsDue false (is_some keys) → keys ≡ None
+due_drawn None due = refl
+due_drawn (Some keys) due = absurd (cc (due refl))
+
+-- ---- a script, and its tape
+
+run_whole : (lines : List Line) (input : Input) → IsRunInput lines input →
+    read_run lines ≡ Ok (input_lines input)
+run_whole lines input s =
+    let S = input.first in
+    let script = script_whole true 1 lines S s.rest s.script (may_be_keyed (is_some S.keys)) in
+    run_is lines (script_lines S) (at script.0 s.rest) script.1 input.tape
+    (tape_whole S script.0 s.rest input.tape s.tape)
+    ∙ ap (λ (o : Option Script). Ok (record {
+      first = script_lines S;
+      second = option_map script_lines o;
+      history = None;
+      tape = input.tape;
+    })) (sym s.no_second)
+    ∙ ap (λ (o : Option (List RawLine)). Ok (record {
+      first = script_lines S;
+      second = option_map script_lines input.second;
+      history = o;
+      tape = input.tape;
+    })) (sym s.no_history)
+
+run_read : (lines : List Line) (t : InputLines) → read_run lines ≡ Ok t →
+    InputOf (IsRunInput lines) t
+run_read lines t e =
+    let first = then_from (read_script true (front lines)) behind_run_script t
+    (sym (run_parts lines) ∙ e) in
+    let tape = then_from (read_tape_of first.0.0 first.0.1) (run_ends first.0.0) t first.2 in
+    let script = script_read true (front lines) first.0 first.1 in
+    let lines_of_input = lines_with None None tape.0 in
+    record {
+      input = record { first = script.script; second = None; history = None; tape = tape.0 };
+      spelled = record {
+        rest = first.0.1.rest;
+        script = script.begins;
+        no_second = refl;
+        no_history = refl;
+        tape = tape_read script.script first.0.0 first.0.1 tape.0 script.is tape.1;
+      };
+      is = sym (ok_same (lines_of_input first.0.0) t tape.2) ∙ ap lines_of_input script.is;
+    }
+
+-- ---- a script, a history, and the script's tape
+
+view_whole : (lines : List Line) (input : Input) → IsViewInput lines input →
+    read_view lines ≡ Ok (input_lines input)
+view_whole lines input s =
+    let S = input.first in
+    let script = script_whole true 1 lines S s.behind_script s.script
+    (may_be_keyed (is_some S.keys)) in
+    let behind = at script.0 s.behind_script in
+    let number = number_behind lines behind
+    (script_steps true (front lines) (script_lines S, behind) script.1) in
+    let history = history_whole script.0 s.behind_script s.raw s.rest
+    (subst (λ n. BeginsWithHistory n s.behind_script s.raw s.rest) (sym number) s.history) in
+    view_is lines (script_lines S) behind script.1 s.raw (at history.0 s.rest) history.1 input.tape
+    (tape_whole S history.0 s.rest input.tape s.tape)
+    ∙ ap (λ (o : Option Script). Ok (record {
+      first = script_lines S;
+      second = option_map script_lines o;
+      history = Some s.raw;
+      tape = input.tape;
+    })) (sym s.no_second)
+    ∙ ap (λ (o : Option (List RawLine)). Ok (record {
+      first = script_lines S;
+      second = option_map script_lines input.second;
+      history = o;
+      tape = input.tape;
+    })) (sym s.has_history)
+
+view_read : (lines : List Line) (t : InputLines) → read_view lines ≡ Ok t →
+    InputOf (IsViewInput lines) t
+view_read lines t e =
+    let first = then_from (read_script true (front lines)) behind_view_script t
+    (sym (view_parts lines) ∙ e) in
+    let behind = first.0.1 in
+    let history = then_from (read_history behind) (behind_view_history first.0.0) t first.2 in
+    let raw = history.0.0 in
+    let tape = then_from (read_tape_of first.0.0 history.0.1) (view_ends first.0.0 raw) t
+    history.2 in
+    let script = script_read true (front lines) first.0 first.1 in
+    let number = number_behind lines behind (script_steps true (front lines) first.0 first.1) in
+    let lines_of_input = lines_with None (Some raw) tape.0 in
+    record {
+      input = record { first = script.script; second = None; history = Some raw; tape = tape.0 };
+      spelled = record {
+        behind_script = behind.rest;
+        rest = history.0.1.rest;
+        raw = raw;
+        script = script.begins;
+        history = subst (λ n. BeginsWithHistory n behind.rest raw history.0.1.rest) number
+            (history_from behind history.0 history.1);
+        no_second = refl;
+        has_history = refl;
+        tape = tape_read script.script first.0.0 history.0.1 tape.0 script.is tape.1;
+      };
+      is = sym (ok_same (lines_of_input first.0.0) t tape.2) ∙ ap lines_of_input script.is;
+    }
+
+-- ---- two scripts of drawn words, a history, and a tape
+
+mirror_whole : (lines : List Line) (input : Input) → IsMirrorInput lines input →
+    read_mirror lines ≡ Ok (input_lines input)
+mirror_whole lines input s =
+    let S = input.first in
+    let T = s.other in
+    let first = script_whole false 1 lines S s.behind_script s.script
+    (drawn_due S.keys s.first_drawn) in
+    let behind = at first.0 s.behind_script in
+    let second = script_whole false first.0 s.behind_script T s.behind_scripts s.second
+    (drawn_due T.keys s.second_drawn) in
+    let behind_both = at second.0 s.behind_scripts in
+    let number = number_behind lines behind_both
+    (then_steps (front lines) behind behind_both
+    (script_steps false (front lines) (script_lines S, behind) first.1)
+    (script_steps false behind (script_lines T, behind_both) second.1)) in
+    let history = history_whole second.0 s.behind_scripts s.raw s.rest
+    (subst (λ n. BeginsWithHistory n s.behind_scripts s.raw s.rest) (sym number) s.history) in
+    mirror_is lines (script_lines S) behind first.1 (script_lines T) behind_both second.1 s.raw
+    (at history.0 s.rest) history.1 input.tape
+    (tape_whole S history.0 s.rest input.tape s.tape)
+    ∙ ap (λ (o : Option Script). Ok (record {
+      first = script_lines S;
+      second = option_map script_lines o;
+      history = Some s.raw;
+      tape = input.tape;
+    })) (sym s.has_second)
+    ∙ ap (λ (o : Option (List RawLine)). Ok (record {
+      first = script_lines S;
+      second = option_map script_lines input.second;
+      history = o;
+      tape = input.tape;
+    })) (sym s.has_history)
+
+mirror_read : (lines : List Line) (t : InputLines) → read_mirror lines ≡ Ok t →
+    InputOf (IsMirrorInput lines) t
+mirror_read lines t e =
+    let first = then_from (read_script false (front lines)) behind_first t
+    (sym (mirror_parts lines) ∙ e) in
+    let behind = first.0.1 in
+    let second = then_from (read_script false behind) (behind_second first.0.0) t first.2 in
+    let behind_both = second.0.1 in
+    let history = then_from (read_history behind_both)
+    (behind_mirror_history first.0.0 second.0.0) t second.2 in
+    let raw = history.0.0 in
+    let tape = then_from (read_tape_of first.0.0 history.0.1)
+    (mirror_ends first.0.0 second.0.0 raw) t history.2 in
+    let one = script_read false (front lines) first.0 first.1 in
+    let other = script_read false behind second.0 second.1 in
+    let number = number_behind lines behind_both
+    (then_steps (front lines) behind behind_both
+    (script_steps false (front lines) first.0 first.1)
+    (script_steps false behind second.0 second.1)) in
+    record {
+      input = record {
+        first = one.script;
+        second = Some other.script;
+        history = Some raw;
+        tape = tape.0;
+      };
+      spelled = record {
+        other = other.script;
+        behind_script = behind.rest;
+        behind_scripts = behind_both.rest;
+        rest = history.0.1.rest;
+        raw = raw;
+        script = one.begins;
+        second = other.begins;
+        history = subst (λ n. BeginsWithHistory n behind_both.rest raw history.0.1.rest) number
+            (history_from behind_both history.0 history.1);
+        first_drawn = due_drawn one.script.keys one.due;
+        second_drawn = due_drawn other.script.keys other.due;
+        has_second = refl;
+        has_history = refl;
+        tape = tape_read one.script first.0.0 history.0.1 tape.0 one.is tape.1;
+      };
+      is = sym (ok_same (lines_with (Some second.0.0) (Some raw) tape.0 first.0.0) t tape.2)
+          ∙ ap (lines_with (Some second.0.0) (Some raw) tape.0) one.is
+          ∙ ap (λ b. lines_with (Some b) (Some raw) tape.0 (script_lines one.script)) other.is;
+    }
+
+-- ---- an input of a form
+
+spelled_is_read : (form : Form) (bytes : List ℕ) (input : Input) → Spells form bytes input →
+    read_input form (lines_of bytes) ≡ Ok (input_lines input)
+spelled_is_read Run bytes input s = run_whole (lines_of bytes) input s
+spelled_is_read View bytes input s = view_whole (lines_of bytes) input s
+spelled_is_read Mirror bytes input s = mirror_whole (lines_of bytes) input s
+
+input_read : (form : Form) (bytes : List ℕ) (t : InputLines) →
+    read_input form (lines_of bytes) ≡ Ok t → InputOf (Spells form bytes) t
+input_read Run bytes t e = run_read (lines_of bytes) t e
+input_read View bytes t e = view_read (lines_of bytes) t e
+input_read Mirror bytes t e = mirror_read (lines_of bytes) t e
+
+pub gives_inputs : GivesInputs
+gives_inputs form bytes t e =
+    let read = input_read form bytes t e in
+    (read.input, read.spelled, read.is)
+
+one_script : (S T : Script) → script_lines S ≡ script_lines T → S ≡ T
+one_script S T e =
+    same_script S T (same_named S.shape T.shape (ap (λ (z : ScriptLines). z.numbers) e))
+    (ap (λ (z : ScriptLines). z.keys) e) (ap (λ (z : ScriptLines). z.roles) e)
+    (ap (λ (z : ScriptLines). z.says) e)
+
+one_second : (a b : Option Script) → option_map script_lines a ≡ option_map script_lines b →
+    a ≡ b
+one_second None None e = refl
+one_second None (Some T) e = absurd (cc e)
+one_second (Some S) None e = absurd (cc e)
+one_second (Some S) (Some T) e = ap Some (one_script S T (cc e))
+
+-- an input is what its lines say
+one_of_lines : (x y : Input) → input_lines x ≡ input_lines y → x ≡ y
+one_of_lines x y e =
+    same_input x y (one_script x.first y.first (ap (λ (z : InputLines). z.first) e))
+    (one_second x.second y.second (ap (λ (z : InputLines). z.second) e))
+    (ap (λ (z : InputLines). z.history) e) (ap (λ (z : InputLines). z.tape) e)
+
+read_is_spelled : (form : Form) (bytes : List ℕ) (input : Input) →
+    read_input form (lines_of bytes) ≡ Ok (input_lines input) → Spells form bytes input
+read_is_spelled form bytes input e =
+    let read = input_read form bytes (input_lines input) e in
+    subst (Spells form bytes) (sym (one_of_lines input read.input read.is)) read.spelled
+
+pub reads_what_is_spelled : ReadsWhatIsSpelled
+reads_what_is_spelled form bytes input =
+    (spelled_is_read form bytes input, read_is_spelled form bytes input)
+
+pub one_spelled : SpellsOne
+one_spelled form bytes x y p q =
+    one_of_lines x y (ok_same (input_lines x) (input_lines y)
+    (sym (spelled_is_read form bytes x p) ∙ spelled_is_read form bytes y q))
+
+-- ---- an answer that agrees with what is read
+
+pub agrees_found : (form : Form) (bytes : List ℕ) (r : Result Input ScriptError) →
+    Agrees input_lines r (read_input form (lines_of bytes)) →
+    IfOk r (λ input. Spells form bytes input)
+agrees_found form bytes (Ok input) h = read_is_spelled form bytes input h
+agrees_found form bytes (Err e) h = tt
+
+only_memory : (e : ScriptError) (form : Form) (bytes : List ℕ) (t : InputLines) →
+    IsRefusal e (read_input form (lines_of bytes)) →
+    read_input form (lines_of bytes) ≡ Ok t → IsMemory e
+only_memory (Refused line c) form bytes t h e = absurd (cc (h, e))
+only_memory Memory form bytes t h e = tt
+
+pub agrees_only : (form : Form) (bytes : List ℕ) (r : Result Input ScriptError) (input : Input) →
+    Agrees input_lines r (read_input form (lines_of bytes)) → Spells form bytes input →
+    Gives r (λ x. x ≡ input)
+agrees_only form bytes (Ok x) input h s =
+    one_of_lines x input (ok_same (input_lines x) (input_lines input)
+    (sym h ∙ spelled_is_read form bytes input s))
+agrees_only form bytes (Err e) input h s =
+    only_memory e form bytes (input_lines input) h (spelled_is_read form bytes input s)

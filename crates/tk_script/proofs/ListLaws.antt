@@ -1,0 +1,5 @@
+-- Lists that are the same part by part.
+use Rattle.std.proofs.Common.{◌≡◌, List, ◌∷◌}
+
+pub cons_both : {A : Type 0} (x y : A) (xs ys : List A) → x ≡ y → xs ≡ ys → x ∷ xs ≡ y ∷ ys
+cons_both x y xs ys p q = cc (p, q)
