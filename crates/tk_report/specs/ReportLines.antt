@@ -1,5 +1,5 @@
 -- What the lines of a report say of its history, and the first of them that isn't the one due.
-use Rattle.std.specs.Prelude.{ℕ, ◌+◌, Bool, ◌||◌, cond, List, [], ◌∷◌, codes, Option, Some, None, Ok, Err}
+use Rattle.std.specs.Prelude.{ℕ, ◌+◌, Bool, ◌||◌, cond, List, [], ◌∷◌, codes, Option, Some, Ok, Err}
 use Rattle.std.specs.Str.{bytes_eq}
 use Rattle.tk_shape.specs.declared.shape.Shape.{Shape}
 use Rattle.tk_schedule.specs.declared.raw.RawLine.{RawLine}

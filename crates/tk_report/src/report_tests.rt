@@ -1,7 +1,7 @@
 use crate::{parse_history, report};
 use std::test::Fail;
 use tk_schedule::HistoryError;
-use tk_script::parse;
+use tk_script::{Form, parse};
 use tk_words::{DrawnDraws, Tape};
 
 /// A script of two clients with one text, over two phases of one tick, and a tape of which no dummy
@@ -64,7 +64,7 @@ end
 fn reports_of_mixed_epochs(rt: HostRuntime) -> Result<(), Fail> {
     let alloc = rt.alloc();
     for wanted in REPORTS {
-        let input = parse(alloc, SCRIPT).ok().ok_or("a script")?;
+        let input = parse(alloc, SCRIPT, Form::Run).ok().ok_or("a script")?;
         let shape = input.first.shape;
         let bytes = input.tape.ok_or("a tape")?.bytes.into_vec();
         let tape = Tape::from_bytes(&shape, bytes).ok().ok_or("its length")?;

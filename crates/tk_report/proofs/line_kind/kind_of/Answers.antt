@@ -1,5 +1,5 @@
 -- What was read of the line is what it says.
-use Rattle.std.proofs.Common.{◌≡◌, ◌∙◌, subst}
+use Rattle.std.proofs.Common.{◌∙◌, subst}
 use Rattle.tk_script.specs.declared.cause.Cause.TheVariants as cause
 use Rattle.tk_script.specs.Reading.{IsTaken, read_turn}
 use Rattle.tk_report.proofs.KindLaws.{told-kind, told-none}
