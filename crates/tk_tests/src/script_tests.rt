@@ -267,15 +267,12 @@ const HISTORY: &[u8] =
 
 const TAPE: &[u8] = b"tape\nfill 11 256\nend\n";
 
-/// Whether lines are those of the history, from this number on.
-fn are_lines(lines: &[RawLine], number: u64) -> bool {
+/// Whether lines are those of the history, and have these numbers.
+fn are_lines(lines: &[RawLine], numbers: [u64; 4]) -> bool {
     let [first, second, third, end] = lines else {
         return false;
     };
-    let numbered = first.line == number
-        && second.line == number + 1
-        && third.line == number + 2
-        && end.line == number + 3;
+    let numbered = [first.line, second.line, third.line, end.line] == numbers;
     numbered && is_order(&first.kind) && is_end(&end.kind)
 }
 
@@ -292,8 +289,7 @@ fn is_order(kind: &RawKind) -> bool {
         RawKind::Order { phase, tick, items } => {
             *phase == 1
                 && *tick == 1
-                && items.as_slice()
-                    == [Item::Client(0), Item::Client(1), Item::Publish].as_slice()
+                && items.as_slice() == [Item::Client(0), Item::Client(1), Item::Publish].as_slice()
         }
         _ => false,
     }
@@ -305,7 +301,7 @@ fn view_input(rt: HostRuntime) -> Result<(), Fail> {
     assert!(rt; is_drawn(&read.first));
     assert!(rt; read.second.is_none());
     let history = read.history.expect(&rt, "a history");
-    assert!(rt; are_lines(history.as_slice(), 8));
+    assert!(rt; are_lines(history.as_slice(), [8, 9, 10, 11]));
     assert!(rt; read.tape.is_some());
     Ok(())
 }
@@ -318,7 +314,7 @@ fn mirror_input(rt: HostRuntime) -> Result<(), Fail> {
     assert!(rt; read.first.says.as_slice().is_empty());
     assert!(rt; is_drawn(&second));
     let history = read.history.expect(&rt, "a history");
-    assert!(rt; are_lines(history.as_slice(), 13));
+    assert!(rt; are_lines(history.as_slice(), [13, 14, 15, 16]));
     assert!(rt; read.tape.is_some());
     Ok(())
 }
@@ -355,12 +351,7 @@ const REFUSED_FORMS: [(Form, Parts, u64, Cause); 12] = [
     (Form::View, &[HEAD, SCRIPT, HISTORY], 12, Cause::Early),
     (Form::Mirror, &[KEYED], 3, Cause::Form),
     (Form::Mirror, &[HEAD, SCRIPT, KEYED], 9, Cause::Form),
-    (
-        Form::Mirror,
-        &[HEAD, SCRIPT, HISTORY, TAPE],
-        7,
-        Cause::Form,
-    ),
+    (Form::Mirror, &[HEAD, SCRIPT, HISTORY, TAPE], 7, Cause::Form),
     (
         Form::Mirror,
         &[HEAD, SCRIPT, HEAD, SCRIPT, HISTORY, TAPE, b"\n"],
