@@ -12,6 +12,12 @@ mod pass;
 mod publisher;
 mod servers;
 mod set;
+#[cfg(test)]
+mod set_tests;
+#[cfg(test)]
+mod testing;
+#[cfg(test)]
+mod thread_tests;
 
 pub use close::Closed;
 pub use cluster::Cluster;
