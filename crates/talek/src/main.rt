@@ -47,13 +47,13 @@ fn main(rt: HostRuntime) -> ExitCode {
             let mut sink = StdSink::new(rt.stdout());
             talek(
                 &rt,
-                rt.alloc(),
                 words.as_slice(),
                 &mut source,
                 &mut sink,
                 &mut NoTaps,
                 &OpenGate,
             )
+            .status
         }
         Err(status) => status,
     };

@@ -1,67 +1,157 @@
--- How a run ends without a report.
-use Rattle.std.proofs.Common.{◌≡◌, ◌≢◌, ◌⊎◌, refl, sym, subst, inl, inr, ℕ, List, Option, Some}
-use Rattle.tk_shape.specs.Lengths.{tape_len}
+-- How a request ends.
+use Rattle.std.proofs.Common.{◌≡◌, ◌≢◌, ◌⊎◌, ◌∙◌, ◌↔◌, refl, sym, ap, subst, inl, inr, ℕ, List, take}
+use Rattle.std.proofs.Common.{Option, Some, rules}
+use Rattle.std.specs.Prelude.{None}
+use Rattle.tk_io.specs.Content.{TakesUpTo, gained}
+use Rattle.tk_io.specs.Tapped.{TapsKeep}
+use Rattle.tk_schedule.specs.declared.history.History.{History}
 use Rattle.tk_script.specs.declared.input.Input.{Input}
-use Rattle.tk_script.specs.declared.input.RawTape.{RawTape}
-use Rattle.tk_script.specs.Book.{IsOtherTape}
-use Rattle.tk_script.specs.declared.book.BookError.{BookError}
-use Rattle.tk_script.specs.declared.book.BookError.TheVariants as book_error
-use Rattle.tk_script.specs.Answer.{IsMemory, IsRefusal}
-use Rattle.tk_script.specs.declared.error.ScriptError.{ScriptError}
-use Rattle.tk_script.specs.declared.error.ScriptError.TheVariants as script_error
-use Rattle.tk_script.specs.Reading.{read_input}
-use Rattle.tk_script.specs.Grammar.{lines_of, Spells}
-use Rattle.tk_script.specs.declared.form.Form.TheVariants.{Run}
+use Rattle.tk_report.specs.declared.outcome.Outcome.{Outcome}
+use Rattle.tk_cluster.specs.Closings.{Ended as Closed}
 use Rattle.tk_run.specs.declared.run_error.RunError.{RunError}
 use Rattle.tk_run.specs.declared.run_error.RunError.TheVariants as run_error
+use Rattle.tk_cli.specs.declared.request.Request.{Request}
+use Rattle.tk_cli.specs.declared.request.Request.TheVariants as request
 use Rattle.tk_cli.specs.declared.status.Status.{Status}
 use Rattle.tk_cli.specs.declared.status.Status.TheVariants as status
-use Rattle.tk_cli.specs.Endings.{EndsWith, book_status, script_status, run_status}
-use Rattle.tk_cli.specs.Serial.{RunsInto}
+use Rattle.tk_cli.specs.declared.ended.Ended.{Ended}
+use Rattle.tk_cli.specs.Errors.{run_status}
+use Rattle.tk_cli.specs.Handles.{Puts, handle_text}
+use Rattle.tk_cli.specs.Requests.{Words, Asks, AsksNothing}
+use Rattle.tk_cli.proofs.RequestLaws.{asks-one}
+use Rattle.tk_cli.specs.Inputs.{IsDue, Stops}
+use Rattle.tk_cli.specs.Outside.{Outside, IsUnwritten, IsUntapped}
+use Rattle.tk_cli.specs.Endings.{output_of, TapsGainAll, TapsGainSome, IsMade, HandsNothing, HandsAs, HandsBack}
+use Rattle.tk_cli.specs.Endings.{StopsInTaps, FailsInTaps, IsQuiet, EndsWith, Ends}
 
-abbrev Taps : Type 0
-Taps = ℕ → Option (List ℕ)
+-- an input wasn't had
+pub stopped : (s : Status) (r : Request) (e : Ended) (old new : Outside) →
+    Stops r s old.left new.left old.source_faults new.source_faults → IsQuiet e old new →
+    EndsWith s r e old new
+stopped status.Done r e old new stops quiet = absurd stops
+stopped status.Memory r e old new stops quiet =
+    (quiet.handed, quiet.unwritten, inr quiet.untapped.tap)
+stopped status.Usage r e old new stops quiet = absurd stops
+stopped (status.Script line c) r e old new stops quiet = (stops, quiet)
+stopped status.Read r e old new stops quiet = (stops, quiet)
+stopped status.Write r e old new stops quiet = absurd stops
+stopped status.TooLong r e old new stops quiet = (stops, quiet)
+stopped (status.Later line) r e old new stops quiet = absurd stops
+stopped s r e old new stops quiet = (stops, quiet)
 
--- bytes that are no input
-pub script_refused : (e : ScriptError) (bytes : List ℕ) (tap : Taps) →
-    IsRefusal e (read_input Run (lines_of bytes)) →
-    ((input : Input) → Spells Run bytes input → IsMemory e) →
-    EndsWith (script_status e) bytes tap tap
-script_refused (script_error.Line line c) bytes tap said none =
-    (record { first = said; none = none }, λ j. refl)
-script_refused script_error.Memory bytes tap said none = inr (λ j. refl)
+-- a run stopped, of which the taps may have fronts
+pub run_stopped : (error : RunError) (r : Request) (e : Ended) (old new : Outside) →
+    HandsNothing e → IsUnwritten old new → StopsInTaps r old new →
+    (error ≡ run_error.Taps → FailsInTaps r old new) →
+    EndsWith (run_status error) r e old new
+run_stopped run_error.Taps r e old new nothing unwritten stops fails =
+    (nothing, inr (fails refl))
+run_stopped run_error.Memory r e old new nothing unwritten stops fails =
+    (nothing, unwritten, inl stops)
 
--- the taps have fronts of what each server sees
-pub ended_early : (e : RunError) (bytes : List ℕ) (tap tap' : Taps) → RunsInto bytes tap tap' →
-    EndsWith (run_status e) bytes tap tap'
-ended_early run_error.Taps bytes tap tap' fronts = fronts
-ended_early run_error.Memory bytes tap tap' fronts = inl fronts
+-- what was done was told to the sink, or a front of it, or nothing
+module _ (r : Request) (e : Ended) (old new : Outside) (input : Input) (H : History)
+    (text : List ℕ) (o : Outcome) (closed : Option Closed)
+    (due : IsDue r old.left new.left input H)
+    (all : TapsGainAll r input H old new) (some : TapsGainSome r input H old new)
+    (is : text ≡ output_of r input H)
+    (back : e.outcome ≡ Some o → e.closed ≡ closed → HandsBack r input H e) where
+  pub told : (s : Status) →
+      Puts s text old.held new.held old.sink_faults new.sink_faults → HandsAs s e o closed →
+      EndsWith s r e old new
+  told status.Done puts hands = record {
+    input = input;
+    history = H;
+    due = due;
+    written = puts ∙ ap (λ t. gained old.held t) is;
+    taps = all;
+    handed = back hands.0 hands.1;
+  }
+  told status.Write puts hands = (
+    hands,
+    inl record {
+      input = input;
+      history = H;
+      due = due;
+      front = puts.front;
+      written = puts.written ∙ ap (λ t. gained old.held (take puts.front t)) is;
+      rose = puts.rose;
+      taps = all;
+    },
+  )
+  told status.Memory puts hands = (
+    hands,
+    record { held = puts.same; faults = puts.none },
+    inl record { input = input; history = H; due = due; taps = some },
+  )
+  told _ puts hands = absurd puts
 
-pub ended_by : (s : Status) (bytes : List ℕ) (tap tap' : Taps) →
-    (s ≡ status.Write) ⊎ (s ≡ status.Memory) → RunsInto bytes tap tap' →
-    EndsWith s bytes tap tap'
-ended_by s bytes tap tap' (inl wrote) fronts =
-    subst (λ (x : Status). EndsWith x bytes tap tap') (sym wrote) fronts
-ended_by s bytes tap tap' (inr memory) fronts =
-    subst (λ (x : Status). EndsWith x bytes tap tap') (sym memory) (inl fronts)
+-- ---- a text that is made without a run
 
--- a tape of another length
-pub tape_refused : (e : BookError) (bytes : List ℕ) (input : Input) (tap : Taps) →
-    Spells Run bytes input →
-    ((want got : ℕ) → e ≡ book_error.Tape want got →
-    IsOtherTape input.first.shape input.tape want got) →
-    EndsWith (book_status e) bytes tap tap
-tape_refused (book_error.Tape want got) bytes input tap spelled other =
-    let is = other want got refl in (
-      record {
-        input = input;
-        tape = is.read;
-        spelled = spelled;
-        drawn = is.there;
-        wanted = is.wanted;
-        gotten = is.gotten;
-        other = is.other;
-      },
-      λ j. refl,
-    )
-tape_refused book_error.Memory bytes input tap spelled other = inr (λ j. refl)
+-- it is one that leaves the taps alone and hands nothing back
+pub record IsPlain (r : Request) (old new : Outside) : Type 0 where
+  pub taps : (input : Input) (H : History) → TapsGainAll r input H old new
+  pub back : (input : Input) (H : History) (e : Ended) → HandsNothing e → HandsBack r input H e
+
+module _ (r : Request) (e : Ended) (old new : Outside) (text : List ℕ)
+    (plain : IsPlain r old new) (made : IsMade r old.left new.left text)
+    (nothing : HandsNothing e) (untapped : IsUntapped old new) where
+  is-due : IsDue r old.left new.left made.input made.answer.history
+  is-due = record {
+    read = made.read;
+    accepted = made.answer.accepted;
+    history = made.answer.due;
+  }
+
+  pub made-ends : (s : Status) →
+      Puts s text old.held new.held old.sink_faults new.sink_faults → EndsWith s r e old new
+  made-ends status.Done puts = record {
+    input = made.input;
+    history = made.answer.history;
+    due = is-due;
+    written = puts ∙ ap (λ t. gained old.held t) made.answer.made;
+    taps = plain.taps made.input made.answer.history;
+    handed = plain.back made.input made.answer.history e nothing;
+  }
+  made-ends status.Write puts = (
+    nothing,
+    inl record {
+      input = made.input;
+      history = made.answer.history;
+      due = is-due;
+      front = puts.front;
+      written = puts.written ∙ ap (λ t. gained old.held (take puts.front t)) made.answer.made;
+      rose = puts.rose;
+      taps = plain.taps made.input made.answer.history;
+    },
+  )
+  made-ends status.Memory puts = (
+    nothing,
+    record { held = puts.same; faults = puts.none },
+    inr untapped.tap,
+  )
+  made-ends _ puts = absurd puts
+
+-- ---- by the words
+
+-- it is usage exactly where the words ask for nothing
+usage-none : (q : Request) (e : Ended) (old new : Outside) → Ends q e old new →
+    e.status ≡ status.Usage → q ≡ request.Nothing
+usage-none (request.Handle id root) e old new ends is =
+    absurd (subst (λ s. Puts s (handle_text id root) old.held new.held old.sink_faults
+    new.sink_faults) is ends.how.1)
+usage-none request.Nothing e old new ends is = refl
+usage-none request.Run e old new ends is = absurd (cc (is, ends.how.status))
+usage-none q e old new ends is = absurd (subst (λ s. EndsWith s q e old new) is ends.how).0
+
+module _ (words : Words) (q : Request) (e : Ended) (old new : Outside) (asked : Asks words q)
+    (ends : Ends q e old new) where
+  pub usage-is : (e.status ≡ status.Usage) ↔ AsksNothing words
+  usage-is = (
+    λ is. subst (Asks words) (usage-none q e old new ends is) asked,
+    λ nothing. (subst (λ r. Ends r e old new)
+        (asks-one words q request.Nothing asked nothing) ends).how.status,
+  )
+
+  pub ends-as : (r : Request) → Asks words r → Ends r e old new
+  ends-as r asks = subst (λ x. Ends x e old new) (asks-one words q r asked asks) ends

@@ -1,4 +1,6 @@
-pub mod SerialLaws
-pub mod ReportOf
 pub mod ErrorLaws
+pub mod InputLaws
+pub mod RequestLaws
 pub mod EndingLaws
+pub mod WordLaws
+pub mod CompleteLaws

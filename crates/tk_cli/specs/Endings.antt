@@ -1,62 +1,186 @@
--- How a run of bytes ends without a report.
-use Rattle.std.specs.Prelude.{◌≡◌, ◌⊎◌, ℕ, List, Option, Err}
-use Rattle.tk_io.specs.declared.reading.ReadError.{ReadError}
-use Rattle.tk_io.specs.declared.reading.ReadError.TheVariants as read_error
-use Rattle.tk_script.specs.declared.cause.Cause.{Cause}
-use Rattle.tk_script.specs.declared.book.BookError.{BookError}
-use Rattle.tk_script.specs.declared.book.BookError.TheVariants as book_error
-use Rattle.tk_script.specs.declared.error.ScriptError.{ScriptError}
-use Rattle.tk_script.specs.declared.error.ScriptError.TheVariants as script_error
+-- How the top call ends.
+use Rattle.std.specs.Prelude.{◌≡◌, ◌⊎◌, ℕ, ◌≤◌, List, [], ◌∷◌, ◌++◌, take, Option, None, Some}
+use Rattle.tk_io.specs.Content.{Rose, gained, TakesUpTo}
+use Rattle.tk_io.specs.Tapped.{TapsGain, TapsGainFronts, TapsKeep, TapsKeepBut}
+use Rattle.tk_schedule.specs.declared.history.History.{History}
 use Rattle.tk_script.specs.declared.input.Input.{Input}
-use Rattle.tk_script.specs.Grammar.{lines_of, Spells}
-use Rattle.tk_script.specs.Reading.{read_input}
-use Rattle.tk_script.specs.declared.form.Form.TheVariants.{Run}
-use Rattle.tk_run.specs.declared.run_error.RunError.{RunError}
-use Rattle.tk_run.specs.declared.run_error.RunError.TheVariants as run_error
+use Rattle.tk_script.specs.declared.script.Script.{Script}
+use Rattle.tk_script.specs.Book.{book_of}
+use Rattle.tk_script.specs.Printing.{printed_tape}
+use Rattle.tk_words.specs.Words.{words_of}
+use Rattle.tk_report.specs.Report.{report}
+use Rattle.tk_report.specs.Exchange.{exchange, view, bytes_of}
+use Rattle.tk_privacy.specs.Privacy.{mirror}
+use Rattle.tk_report.specs.declared.outcome.Outcome.{Outcome}
+use Rattle.tk_report.specs.Outcomes.{IsLeftBy}
+use Rattle.tk_cluster.specs.Closings.{Ended as Closed}
+use Rattle.tk_cli.specs.declared.top.TheConstants.{INPUT_LIMIT}
+use Rattle.tk_cli.specs.declared.request.Request.{Request}
+use Rattle.tk_cli.specs.declared.request.Request.TheVariants as request
 use Rattle.tk_cli.specs.declared.status.Status.{Status}
 use Rattle.tk_cli.specs.declared.status.Status.TheVariants as status
-use Rattle.tk_cli.specs.Serial.{RunsInto, HasOtherTape, TakesAll}
-use Rattle.tk_io.specs.Tapped.{TapsKeep}
+use Rattle.tk_cli.specs.declared.ended.Ended.{Ended}
+use Rattle.tk_cli.specs.Handles.{Puts, handle_text, hex_lines}
+use Rattle.tk_cli.specs.Inputs.{Reads, IsDue, IsHistoryFor, Stops, form_of, kept_in, refusal_of}
+use Rattle.tk_cli.specs.Outside.{Outside, IsUnread, IsUnwritten, IsUntapped, NoCountFalls}
 
-abbrev pub read_status : ReadError → Status
-read_status read_error.Memory = status.Memory
-read_status read_error.Fault = status.Read
-read_status read_error.TooLong = status.TooLong
+-- ---- what a request gives
 
-abbrev pub script_status : ScriptError → Status
-script_status (script_error.Line line c) = status.Script line c
-script_status script_error.Memory = status.Memory
+-- the report of an input's run, and what server j sees of it
+abbrev pub report_in : Input → History → List ℕ
+report_in input H = report input.first (book_of input) H
 
-abbrev pub book_status : BookError → Status
-book_status (book_error.Tape want got) = status.Tape want got
-book_status book_error.Memory = status.Memory
+abbrev pub seen_in : Input → History → ℕ → List ℕ
+seen_in input H j = bytes_of (exchange input.first (book_of input) H j)
 
-abbrev pub run_status : RunError → Status
-run_status run_error.Taps = status.Write
-run_status run_error.Memory = status.Memory
+-- the frames that a server sees of it, one a line
+abbrev pub view_in : ℕ → Input → History → List ℕ
+view_in server input H = hex_lines (view input.first (book_of input) H server)
 
--- this line of the bytes is the first that is refused, for this cause; and they spell no input
-pub record Refuses (bytes : List ℕ) (line : ℕ) (c : Cause) : Type 0 where
-  pub first : read_input Run (lines_of bytes) ≡ Err (line, c)
-  pub none : (input : Input) → Spells Run bytes input → ⊥
+-- the tape over which the second script shows the same to all servers but one
+abbrev pub mirror_of : ℕ → Script → Option Script → History → List ℕ → List ℕ
+mirror_of hidden A None H tape = []
+mirror_of hidden A (Some B) H tape = printed_tape (mirror A B H hidden tape)
 
--- a run of the bytes may end with this status
-abbrev pub EndsWith : Status → List ℕ → (ℕ → Option (List ℕ)) → (ℕ → Option (List ℕ)) → Type 0
-EndsWith status.Memory bytes tap tap' = RunsInto bytes tap tap' ⊎ TapsKeep tap tap'
-EndsWith (status.Script line c) bytes tap tap' = Refuses bytes line c × TapsKeep tap tap'
-EndsWith status.Write bytes tap tap' = RunsInto bytes tap tap'
-EndsWith (status.Tape want got) bytes tap tap' =
-    HasOtherTape bytes want got × TapsKeep tap tap'
-EndsWith _ bytes tap tap' = ⊥
+-- what the sink gains
+abbrev pub output_of : Request → Input → History → List ℕ
+output_of request.Serial input H = report_in input H
+output_of (request.View server) input H = view_in server input H
+output_of (request.Mirror hidden) input H =
+    mirror_of hidden input.first input.second H (kept_in input.tape)
+output_of _ input H = []
 
--- all was taken, and this line of it is the first that is refused, for this cause
-pub record RefusesLine (left left' : Option (List ℕ)) (line : ℕ) (c : Cause) : Type 0 where
-  pub bytes : List ℕ
-  pub all : TakesAll bytes left left'
-  pub refused : Refuses bytes line c
+-- nothing refuses the input, and this text is what a request gives of it
+pub record IsAnswer (r : Request) (input : Input) (text : List ℕ) : Type 0 where
+  pub history : History
+  pub accepted : refusal_of r input ≡ None
+  pub due : IsHistoryFor r input history
+  pub made : text ≡ output_of r input history
 
--- all was taken, and it spells a drawn input with a tape of another length
-pub record RefusesTape (left left' : Option (List ℕ)) (want got : ℕ) : Type 0 where
-  pub bytes : List ℕ
-  pub all : TakesAll bytes left left'
-  pub other : HasOtherTape bytes want got
+-- all was taken, and the text is the answer to the input that it spells
+pub record IsMade (r : Request) (left left' : Option (List ℕ)) (text : List ℕ) : Type 0 where
+  pub input : Input
+  pub read : Reads (form_of r) left left' input
+  pub answer : IsAnswer r input text
+
+-- what the taps gain: what each server sees, and no other tap anything
+pub record TapsSee (input : Input) (H : History) (old new : Outside) : Type 0 where
+  pub gained : TapsGain input.first.shape.servers (seen_in input H) old.tap new.tap
+  pub others : TapsKeepBut input.first.shape.servers old.tap new.tap
+
+-- or fronts of it
+pub record TapsSeeFronts (input : Input) (H : History) (old new : Outside) : Type 0 where
+  pub gained : TapsGainFronts input.first.shape.servers (seen_in input H) old.tap new.tap
+  pub others : TapsKeepBut input.first.shape.servers old.tap new.tap
+
+abbrev pub TapsGainAll : Request → Input → History → Outside → Outside → Type 0
+TapsGainAll request.Serial input H old new = TapsSee input H old new
+TapsGainAll _ input H old new = Unit {0}
+
+abbrev pub TapsGainSome : Request → Input → History → Outside → Outside → Type 0
+TapsGainSome request.Serial input H old new = TapsSeeFronts input H old new
+TapsGainSome _ input H old new = ⊥
+
+-- nothing is handed back
+pub record HandsNothing (e : Ended) : Type 0 where
+  pub outcome : e.outcome ≡ None
+  pub closed : e.closed ≡ None
+
+-- this is handed back where all is done, and nothing else
+abbrev pub HandsAs : Status → Ended → Outcome → Option Closed → Type 0
+HandsAs status.Done e o c = (e.outcome ≡ Some o) × (e.closed ≡ c)
+HandsAs _ e o c = HandsNothing e
+
+-- what the serial run of an input left
+pub record HandsSerial (input : Input) (H : History) (e : Ended) : Type 0 where
+  pub outcome : Outcome
+  pub handed : e.outcome ≡ Some outcome
+  pub left : IsLeftBy input.first (words_of input.first.shape (book_of input)) H outcome
+  pub closed : e.closed ≡ None
+
+abbrev pub HandsBack : Request → Input → History → Ended → Type 0
+HandsBack request.Serial input H e = HandsSerial input H e
+HandsBack _ input H e = HandsNothing e
+
+-- ---- how a request ends that reads an input
+
+pub record Does (r : Request) (e : Ended) (old new : Outside) : Type 0 where
+  pub input : Input
+  pub history : History
+  pub due : IsDue r old.left new.left input history
+  pub written : new.held ≡ gained old.held (output_of r input history)
+  pub taps : TapsGainAll r input history old new
+  pub handed : HandsBack r input history e
+
+-- the sink failed
+pub record FailsInSink (r : Request) (old new : Outside) : Type 0 where
+  pub input : Input
+  pub history : History
+  pub due : IsDue r old.left new.left input history
+  pub front : ℕ
+  pub written : new.held ≡ gained old.held (take front (output_of r input history))
+  pub rose : Rose old.sink_faults new.sink_faults
+  pub taps : TapsGainAll r input history old new
+
+-- the taps gained fronts of what they would gain
+pub record StopsInTaps (r : Request) (old new : Outside) : Type 0 where
+  pub input : Input
+  pub history : History
+  pub due : IsDue r old.left new.left input history
+  pub taps : TapsGainSome r input history old new
+
+-- a tap failed
+pub record FailsInTaps (r : Request) (old new : Outside) : Type 0 where
+  pub stopped : StopsInTaps r old new
+  pub unwritten : IsUnwritten old new
+  pub rose : Rose old.tap_faults new.tap_faults
+
+-- nothing is handed back, and neither the sink nor a tap was touched
+pub record IsQuiet (e : Ended) (old new : Outside) : Type 0 where
+  pub handed : HandsNothing e
+  pub unwritten : IsUnwritten old new
+  pub untapped : IsUntapped old new
+
+abbrev pub EndsWith : Status → Request → Ended → Outside → Outside → Type 0
+EndsWith status.Done r e old new = Does r e old new
+EndsWith status.Memory r e old new =
+    HandsNothing e × IsUnwritten old new × (StopsInTaps r old new ⊎ TapsKeep old.tap new.tap)
+EndsWith status.Write r e old new =
+    HandsNothing e × (FailsInSink r old new ⊎ FailsInTaps r old new)
+EndsWith s r e old new =
+    Stops r s old.left new.left old.source_faults new.source_faults × IsQuiet e old new
+
+-- ---- how each request ends
+
+-- the source is left alone
+abbrev pub LeavesSource : Request → Type 0
+LeavesSource (request.Handle id root) = Unit {0}
+LeavesSource request.Nothing = Unit {0}
+LeavesSource request.Run = Unit {0}
+LeavesSource _ = ⊥
+
+-- the taps are left alone
+abbrev pub LeavesTaps : Request → Type 0
+LeavesTaps request.Serial = ⊥
+LeavesTaps _ = Unit {0}
+
+-- it ends with this status, with which nothing else comes
+pub record IsOnly (s : Status) (e : Ended) (old new : Outside) : Type 0 where
+  pub status : e.status ≡ s
+  pub quiet : IsQuiet e old new
+
+abbrev pub HowEnds : Request → Ended → Outside → Outside → Type 0
+HowEnds (request.Handle id root) e old new = HandsNothing e
+    × Puts e.status (handle_text id root) old.held new.held old.sink_faults new.sink_faults
+HowEnds request.Nothing e old new = IsOnly status.Usage e old new
+HowEnds request.Run e old new = IsOnly (status.Later 0) e old new
+HowEnds r e old new = EndsWith e.status r e old new
+
+-- How a request ends. It is too long exactly where more than the limit was taken.
+pub record Ends (r : Request) (e : Ended) (old new : Outside) : Type 0 where
+  pub taken : (taken : List ℕ)
+      × TakesUpTo INPUT_LIMIT old.left new.left (e.status ≡ status.TooLong) taken
+  pub counts : NoCountFalls old new
+  pub unread : LeavesSource r → IsUnread old new
+  pub untapped : LeavesTaps r → IsUntapped old new
+  pub how : HowEnds r e old new

@@ -1,7 +1,9 @@
 pub mod StatusLines
 pub mod Requests
-pub mod Untouched
+pub mod Outside
 pub mod Handles
-pub mod PassingOver
-pub mod Serial
+pub mod Errors
+pub mod Inputs
 pub mod Endings
+pub mod PassingOver
+pub mod Completeness

@@ -4,11 +4,12 @@ ghost use Rattle.std.specs.Prelude.{◌≡◌};
 use crate::status::Status;
 use tk_io::ReadError;
 use tk_run::RunError;
+use tk_schedule::HistoryError;
 use tk_script::{BookError, ScriptError};
 use tk_shape::Memory;
 
 impl From<ReadError> for Status {
-    ghost use Rattle.tk_cli.specs.Endings.{read_status};
+    ghost use Rattle.tk_cli.specs.Errors.{read_status};
 
     ghost from_gives = { λ e s. s ≡ read_status e };
 
@@ -22,7 +23,7 @@ impl From<ReadError> for Status {
 }
 
 impl From<ScriptError> for Status {
-    ghost use Rattle.tk_cli.specs.Endings.{script_status};
+    ghost use Rattle.tk_cli.specs.Errors.{script_status};
 
     ghost from_gives = { λ e s. s ≡ script_status e };
 
@@ -35,7 +36,7 @@ impl From<ScriptError> for Status {
 }
 
 impl From<BookError> for Status {
-    ghost use Rattle.tk_cli.specs.Endings.{book_status};
+    ghost use Rattle.tk_cli.specs.Errors.{book_status};
 
     ghost from_gives = { λ e s. s ≡ book_status e };
 
@@ -47,8 +48,21 @@ impl From<BookError> for Status {
     }
 }
 
+impl From<HistoryError> for Status {
+    ghost use Rattle.tk_cli.specs.Errors.{history_status};
+
+    ghost from_gives = { λ e s. s ≡ history_status e };
+
+    fn from(error: HistoryError) -> Status {
+        match error {
+            HistoryError::Line(at) => Status::History { at },
+            HistoryError::Memory => Status::Memory,
+        }
+    }
+}
+
 impl From<RunError> for Status {
-    ghost use Rattle.tk_cli.specs.Endings.{run_status};
+    ghost use Rattle.tk_cli.specs.Errors.{run_status};
 
     ghost from_gives = { λ e s. s ≡ run_status e };
 

@@ -1,14 +1,21 @@
 //! The top call: what the words ask for, done from a source to a sink, and the status that it ends with.
 #![tactic(auto)]
 
+mod ended;
 mod ending;
 mod handle_word;
+mod input;
 mod laws;
+mod mirror_word;
 mod request;
+mod serial_word;
 mod status;
+mod telling;
 mod top;
+mod view_word;
 
-pub use laws::honest_serial_runs;
+pub use ended::Ended;
+pub use laws::{completeness, honest_serial_runs};
 pub use status::{Status, status_line};
 pub use top::{INPUT_LIMIT, talek};
 
@@ -26,5 +33,7 @@ mod status_tests;
 mod tap_tests;
 #[cfg(test)]
 mod testing;
+#[cfg(test)]
+mod view_tests;
 #[cfg(test)]
 mod word_tests;

@@ -1,5 +1,5 @@
-ghost use Rattle.std.specs.Prelude.{◌≡◌, ◌≢◌, ◌⊎◌, ◌^◌, ◌↔◌, ℕ, List, [], ◌∷◌, codes, IsTrue, Some, IfSome};
-ghost use Rattle.tk_cli.specs.Requests.{AsksSerial, AsksHandle, AsksLater, AsksNothing, AsksSomeHandle, IsDecimalBelow, SpellsRoot};
+ghost use Rattle.std.specs.Prelude.{◌≡◌, ◌↔◌, ℕ, List, [], ◌∷◌, Some, IfSome};
+ghost use Rattle.tk_cli.specs.Requests.{Asks, AsksHandle, IsSmall, SpellsRoot};
 
 use hex::FromHex;
 use tk_script::plain_number;
@@ -10,68 +10,61 @@ use tk_shape::Bytes;
 pub(crate) enum Request {
     /// The report of a serial run.
     Serial,
+    /// The report of a run with threads.
+    Run,
+    /// What a server sees.
+    View { server: u32 },
+    /// The tape over which another script shows the same to all servers but one.
+    Mirror { hidden: u32 },
     /// The handle of a log, from a root.
     Handle { id: u64, root: [u8; 32] },
-    /// A form that isn't built yet.
-    Later,
     /// None of the forms.
     Nothing,
 }
 
 pub(crate) fn request_of(words: &[Bytes]) -> Request
-    ensures serial { (result ≡ Request.Serial) ↔ AsksSerial words.now }
-    ensures handle { (id : ℕ) (root : List ℕ) →
-        (result ≡ Request.Handle id root) ↔ AsksHandle words.now id root }
-    ensures later { (result ≡ Request.Later) ↔ AsksLater words.now }
-    ensures nothing { (result ≡ Request.Nothing) ↔ AsksNothing words.now }
+    ensures { Asks words.now result }
 {
     match words {
         [word] => asked_alone(word.as_slice()),
-        [word, number] => later_if(asks_numbered(word.as_slice(), number.as_slice())),
+        [word, number] => asked_numbered(word.as_slice(), number.as_slice()),
         [word, id, root] => asked_handle(word.as_slice(), id.as_slice(), root.as_slice()),
         _ => Request::Nothing,
     }
 }
 
-fn later_if(asked: bool) -> Request
-    ensures not_serial { result ≢ Request.Serial }
-    ensures not_handle { (id : ℕ) (root : List ℕ) → result ≢ Request.Handle id root }
-    ensures later { (result ≡ Request.Later) ↔ IsTrue asked }
-{
-    if asked {
-        Request::Later
-    } else {
-        Request::Nothing
-    }
-}
-
 /// What one word asks for.
 fn asked_alone(word: &[u8]) -> Request
-    ensures not_handle { (id : ℕ) (root : List ℕ) → result ≢ Request.Handle id root }
-    ensures serial { (result ≡ Request.Serial) ↔ (word.now ≡ codes "serial") }
-    ensures later { (result ≡ Request.Later) ↔ (word.now ≡ codes "run") }
+    ensures { Asks (word.now ∷ []) result }
 {
     if word == b"serial".as_slice() {
         return Request::Serial;
     }
-    later_if(word == b"run".as_slice())
+    if word == b"run".as_slice() {
+        return Request::Run;
+    }
+    Request::Nothing
 }
 
-/// Whether a word and a number ask for a server's view or a mirrored tape.
-fn asks_numbered(word: &[u8], number: &[u8]) -> bool
-    ensures { IsTrue result ↔ (((word.now ≡ codes "view") ⊎ (word.now ≡ codes "mirror")) × IsDecimalBelow (2 ^ 32) number.now) }
+/// What a word and a number ask for.
+fn asked_numbered(word: &[u8], number: &[u8]) -> Request
+    ensures { Asks (word.now ∷ number.now ∷ []) result }
 {
-    (word == b"view".as_slice() || word == b"mirror".as_slice()) && is_small(number)
+    let Some(number) = small_number(number) else {
+        return Request::Nothing;
+    };
+    if word == b"view".as_slice() {
+        return Request::View { server: number };
+    }
+    if word == b"mirror".as_slice() {
+        return Request::Mirror { hidden: number };
+    }
+    Request::Nothing
 }
 
 /// What a word, an id and a root ask for.
 fn asked_handle(word: &[u8], id: &[u8], root: &[u8]) -> Request
-    ensures not_serial { result ≢ Request.Serial }
-    ensures not_later { result ≢ Request.Later }
-    ensures handle { (number : ℕ) (bytes : List ℕ) → (result ≡ Request.Handle number bytes)
-        ↔ AsksHandle (word.now ∷ id.now ∷ root.now ∷ []) number bytes }
-    ensures nothing { (result ≡ Request.Nothing)
-        ↔ ¬ AsksSomeHandle (word.now ∷ id.now ∷ root.now ∷ []) }
+    ensures { Asks (word.now ∷ id.now ∷ root.now ∷ []) result }
 {
     let Some(named) = handle_of(word, id, root) else {
         return Request::Nothing;
@@ -96,13 +89,13 @@ fn handle_of(word: &[u8], id: &[u8], root: &[u8]) -> Option<(u64, [u8; 32])>
     Some((number, bytes))
 }
 
-/// Whether a text is the plain decimal of a number of 32 bits.
-fn is_small(text: &[u8]) -> bool
-    ensures { IsTrue result ↔ IsDecimalBelow (2 ^ 32) text.now }
+/// The number of 32 bits that a plain decimal is.
+fn small_number(text: &[u8]) -> Option<u32>
+    ensures { (n : ℕ) → (result ≡ Some n) ↔ IsSmall n text.now }
 {
     match plain_number(text) {
-        Some(number) => number <= 4294967295,
-        None => false,
+        Some(number) if number <= 4294967295 => Some(number as u32),
+        _ => None,
     }
 }
 

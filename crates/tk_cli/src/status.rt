@@ -1,12 +1,13 @@
 ghost use Rattle.std.specs.Prelude.{◌≡◌, ◌++◌, OnOk, OnErr};
-ghost use Rattle.tk_cli.specs.StatusLines.{code_of, status_text};
+ghost use Rattle.tk_cli.specs.StatusLines.{code_of, differing_text, hidden_text, shapes_text, status_text};
 
 use std::alloc::Global;
 use tk_script::{Cause, push_cause, push_field, push_number};
-use tk_shape::Memory;
+use tk_shape::{Field, Memory};
 
 /// How the top call ended. In order: the words are asked first, then what is read, then what is written. What is read is
-/// asked for its first line that is refused, and then for its tape.
+/// asked for its first line that is refused, for its tape, for the shapes of its scripts, for its history, and then for
+/// the server that the words name.
 #[derive(Clone, Copy, Debug, PartialEq, Eq)]
 pub enum Status {
     /// All was read to its end, done and written.
@@ -23,8 +24,14 @@ pub enum Status {
     Write,
     /// The input has more than 8,388,608 bytes.
     TooLong,
+    /// This line of the history isn't the one due.
+    History { at: u64 },
+    /// The two scripts' shapes differ, in this field first.
+    Shapes { field: Field, a: u32, b: u32 },
     /// The tape has another length than the shape wants.
     Tape { want: u64, got: u64 },
+    /// The words name a server that isn't one of the shape's, which are numbered from 1.
+    Hidden { got: u32, servers: u32 },
     /// The form that the words ask for isn't built yet. The line is always 0.
     Later { line: u64 },
 }
@@ -42,7 +49,10 @@ impl Status {
             Status::Read => 4,
             Status::Write => 5,
             Status::TooLong => 6,
+            Status::History { .. } => 7,
+            Status::Shapes { .. } => 8,
             Status::Tape { .. } => 9,
+            Status::Hidden { .. } => 10,
             Status::Later { .. } => 11,
         }
     }
@@ -76,15 +86,49 @@ fn push_text(alloc: Global, status: &Status, out: &mut Vec<u8>) -> Result<(), Me
         Status::Read => out.extend_from_slice(b"talek: read")?,
         Status::Write => out.extend_from_slice(b"talek: write")?,
         Status::TooLong => out.extend_from_slice(b"talek: input over 8388608 bytes")?,
+        Status::History { at } => {
+            out.extend_from_slice(b"talek: history line")?;
+            push_field(alloc, *at, out)?;
+        }
+        Status::Shapes { field, a, b } => push_shapes(alloc, *field, *a, *b, out)?,
         Status::Tape { want, got } => {
             out.extend_from_slice(b"talek: tape")?;
             push_field(alloc, *want, out)?;
             push_field(alloc, *got, out)?;
         }
+        Status::Hidden { got, servers } => push_hidden(alloc, *got, *servers, out)?,
         Status::Later { line } => {
             out.extend_from_slice(b"talek: later line ")?;
             push_number(alloc, *line, out)?;
         }
     }
     Ok(())
+}
+
+/// Appends what tells of two shapes, by a field and its two numbers.
+fn push_shapes(alloc: Global, field: Field, a: u32, b: u32, out: &mut Vec<u8>) -> Result<(), Memory>
+    ensures { OnOk result (out.new.items ≡ out.old.items ++ shapes_text field a b) }
+{
+    push_differing(field, out)?;
+    push_field(alloc, u64::from(a), out)?;
+    push_field(alloc, u64::from(b), out)
+}
+
+/// Appends what tells in which field two shapes differ.
+fn push_differing(field: Field, out: &mut Vec<u8>) -> Result<(), Memory>
+    ensures { OnOk result (out.new.items ≡ out.old.items ++ differing_text field) }
+{
+    out.extend_from_slice(b"talek: shapes ")?;
+    out.extend_from_slice(field.name())?;
+    Ok(())
+}
+
+/// Appends what tells of a server, and how many there are.
+fn push_hidden(alloc: Global, got: u32, servers: u32, out: &mut Vec<u8>) -> Result<(), Memory>
+    ensures { OnOk result (out.new.items ≡ out.old.items ++ hidden_text got servers) }
+{
+    out.extend_from_slice(b"talek: server")?;
+    push_field(alloc, u64::from(got), out)?;
+    out.extend_from_slice(b" of")?;
+    push_field(alloc, u64::from(servers), out)
 }

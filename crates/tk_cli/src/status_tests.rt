@@ -15,6 +15,12 @@ const REFUSED: [(Cause, &str); 8] = [
     (Cause::After, "talek: line 5: after"),
 ];
 
+const SHAPES: Status = Status::Shapes {
+    field: Field::Filter,
+    a: 64,
+    b: 128,
+};
+
 const WORK: Cause = Cause::Shape {
     field: Field::Work,
     value: 549755813889,
@@ -30,7 +36,14 @@ fn status_lines(rt: HostRuntime) -> Result<(), Fail> {
         (Status::Read, "talek: read", 4),
         (Status::Write, "talek: write", 5),
         (Status::TooLong, "talek: input over 8388608 bytes", 6),
+        (Status::History { at: 13 }, "talek: history line 13", 7),
+        (SHAPES, "talek: shapes filter 64 128", 8),
         (Status::Tape { want: 256, got: 0 }, "talek: tape 256 0", 9),
+        (
+            Status::Hidden { got: 4, servers: 3 },
+            "talek: server 4 of 3",
+            10,
+        ),
         (Status::Later { line: 12 }, "talek: later line 12", 11),
     ] {
         let mut out = Vec::new(alloc);

@@ -64,7 +64,7 @@ pub(crate) fn run_tapped<R: AllocGlobal + Threads + Wait + Sync>(
     for word in words {
         bytes.push(Bytes::from_slice(alloc, word.as_bytes())?)?;
     }
-    Ok(talek(rt, alloc, bytes.as_slice(), source, sink, taps, &OpenGate))
+    Ok(talek(rt, bytes.as_slice(), source, sink, taps, &OpenGate).status)
 }
 
 /// Eight taps, which fail at chosen calls.

@@ -1,0 +1,266 @@
+-- How a request ends whose input is read.
+use Rattle.std.proofs.Common.{◌≡◌, ◌≢◌, ◌∙◌, ◌≤◌, refl, sym, ap, subst, ℕ, List, Option, Some, rules}
+use Rattle.std.proofs.Common.{Ok, Err, [], arith}
+use Rattle.std.specs.Prelude.{None, Result, IfOk, IfErr}
+use Rattle.tk_io.specs.Content.{TakesUpTo, Rose, before_taking}
+use Rattle.tk_io.specs.Tapped.{TapsGain, TapsGainFronts, TapsKeepBut}
+use Rattle.tk_io.proofs.Offers.{fronts-of_all}
+use Rattle.tk_schedule.specs.declared.history.History.{History}
+use Rattle.tk_schedule.specs.Schedule.{serial_history}
+use Rattle.tk_script.specs.declared.script.Script.{Script}
+use Rattle.tk_script.specs.declared.input.Input.{Input}
+use Rattle.tk_script.specs.Book.{book_of}
+use Rattle.tk_words.specs.declared.book.Book.{Book}
+use Rattle.tk_words.specs.Book.{words_in}
+use Rattle.tk_words.specs.Words.{WordBook, words_of}
+use Rattle.tk_report.specs.declared.outcome.Outcome.{Outcome}
+use Rattle.tk_report.specs.Exchange.{exchange, bytes_of}
+use Rattle.tk_report.specs.Outcomes.{IsLeftBy, OutcomesReport, outcome_text}
+use Rattle.tk_cluster.specs.Closings.{Ended as Closed}
+use Rattle.tk_run.specs.declared.run_error.RunError.{RunError}
+use Rattle.tk_run.specs.declared.run_error.RunError.TheVariants as run_error
+use Rattle.tk_cli.specs.declared.top.TheConstants.{INPUT_LIMIT}
+use Rattle.tk_cli.specs.declared.request.Request.{Request}
+use Rattle.tk_cli.specs.declared.request.Request.TheVariants as request
+use Rattle.tk_cli.specs.declared.status.Status.{Status}
+use Rattle.tk_cli.specs.declared.status.Status.TheVariants as status
+use Rattle.tk_cli.specs.declared.ended.Ended.{Ended}
+use Rattle.tk_cli.specs.Errors.{run_status}
+use Rattle.tk_cli.specs.Handles.{Puts, PutsNothing, handle_text}
+use Rattle.tk_cli.specs.Inputs.{IsDue, IsReady, Stops}
+use Rattle.tk_cli.specs.Outside.{Outside, outside, IsUnread, IsUnwritten, IsUntapped, NoCountFalls}
+use Rattle.tk_cli.specs.Endings.{LeavesSource, LeavesTaps, HandsNothing, HandsAs, HandsSerial}
+use Rattle.tk_cli.specs.Endings.{IsMade, StopsInTaps, FailsInTaps, IsQuiet, EndsWith}
+use Rattle.tk_cli.specs.Endings.{HowEnds, Ends, TapsSee, TapsSeeFronts, report_in, seen_in}
+use Rattle.tk_cli.proofs.InputLaws.{not_over, over-as, err_same, ok_long}
+use Rattle.tk_cli.proofs.EndingLaws.{IsPlain, stopped, run_stopped, told, made-ends}
+
+-- a request that reads its input ends by its status
+pub record ReadsInput (r : Request) : Type 0 where
+  pub source : ¬ LeavesSource r
+  pub how : (e : Ended) (old new : Outside) → EndsWith e.status r e old new → HowEnds r e old new
+
+pub serial-reads : ReadsInput request.Serial
+serial-reads = record { source = λ no. no; how = λ e old new how. how }
+
+pub view-reads : (j : ℕ) → ReadsInput (request.View j)
+view-reads j = record { source = λ no. no; how = λ e old new how. how }
+
+pub mirror-reads : (h : ℕ) → ReadsInput (request.Mirror h)
+mirror-reads h = record { source = λ no. no; how = λ e old new how. how }
+
+-- ---- how much was taken
+
+abbrev Taken : Type 0 → Option (List ℕ) → Option (List ℕ) → Type 0
+Taken over left left' = (taken : List ℕ) × TakesUpTo INPUT_LIMIT left left' over taken
+
+abbrev IsOver : (X : Type 0) → Status → Type 0
+IsOver X s = let a : Result X Status = Err s in a ≡ Err status.TooLong
+
+abbrev IsOverOk : {X : Type 0} → X → Type 0
+IsOverOk {X} x = let a : Result X Status = Ok x in a ≡ Err status.TooLong
+
+pub err-taken : {X : Type 0} (e : Ended) (s : Status) (left left' : Option (List ℕ)) →
+    e.status ≡ s → Taken (IsOver X s) left left' → Taken (e.status ≡ status.TooLong) left left'
+err-taken {X} e s left left' is t = (
+  t.0,
+  over-as INPUT_LIMIT left left' t.0 t.1
+      (λ over. is ∙ err_same {X = X} s status.TooLong over) (λ long. ap Err (sym is ∙ long)),
+)
+
+pub ok-taken : {X : Type 0} (x : X) (e : Ended) (left left' : Option (List ℕ)) →
+    Taken (IsOverOk x) left left' → e.status ≢ status.TooLong →
+    Taken (e.status ≡ status.TooLong) left left'
+ok-taken x e left left' t short =
+    (t.0, not_over INPUT_LIMIT left left' t.0 t.1 (ok_long x) short)
+
+puts-short : (s : Status) (text : List ℕ) (held held' : Option (List ℕ)) (f f' : ℕ) →
+    Puts s text held held' f f' → s ≢ status.TooLong
+puts-short s text held held' f f' puts is =
+    absurd (subst (λ x. Puts x text held held' f f') is puts)
+
+run-short : (error : RunError) (s : Status) → s ≡ run_status error → s ≢ status.TooLong
+run-short run_error.Taps s is long = cc
+run-short run_error.Memory s is long = cc
+
+-- ---- the ends
+
+module _ (r : Request) (reads : ReadsInput r) (e : Ended) (old new : Outside)
+    (counts : NoCountFalls old new) where
+  -- an input wasn't had
+  pub early : {X : Type 0} (s : Status) → e.status ≡ s → HandsNothing e →
+      Taken (IsOver X s) old.left new.left → IsUnwritten old new → IsUntapped old new →
+      Stops r s old.left new.left old.source_faults new.source_faults → Ends r e old new
+  early {X} s is nothing taken unwritten untapped stops = record {
+    taken = err-taken {X = X} e s old.left new.left is taken;
+    counts = counts;
+    unread = λ leaves. absurd (reads.source leaves);
+    untapped = λ leaves. untapped;
+    how = reads.how e old new (subst (λ x. EndsWith x r e old new) (sym is)
+        (stopped s r e old new stops
+        (record { handed = nothing; unwritten = unwritten; untapped = untapped })));
+  }
+
+  -- a text was made of it
+  pub made : {X : Type 0} (x : X) (text : List ℕ) → IsPlain r old new →
+      IsMade r old.left new.left text → HandsNothing e → Taken (IsOverOk x) old.left new.left →
+      IsUntapped old new →
+      Puts e.status text old.held new.held old.sink_faults new.sink_faults → Ends r e old new
+  made x text plain is nothing taken untapped puts = record {
+    taken = ok-taken x e old.left new.left taken
+        (puts-short e.status text old.held new.held old.sink_faults new.sink_faults puts);
+    counts = counts;
+    unread = λ leaves. absurd (reads.source leaves);
+    untapped = λ leaves. untapped;
+    how = reads.how e old new
+        (made-ends r e old new text plain is nothing untapped e.status puts);
+  }
+
+  module _ {X : Type 0} (x : X) (taken : Taken (IsOverOk x) old.left new.left)
+      (taps : ¬ LeavesTaps r) where
+    -- a run was stopped
+    pub run-early : (error : RunError) → e.status ≡ run_status error → HandsNothing e →
+        IsUnwritten old new → StopsInTaps r old new →
+        (error ≡ run_error.Taps → Rose old.tap_faults new.tap_faults) → Ends r e old new
+    run-early error is nothing unwritten stops rose = record {
+      taken = ok-taken x e old.left new.left taken (run-short error e.status is);
+      counts = counts;
+      unread = λ leaves. absurd (reads.source leaves);
+      untapped = λ leaves. absurd (taps leaves);
+      how = reads.how e old new (subst (λ s. EndsWith s r e old new) (sym is)
+          (run_stopped error r e old new nothing unwritten stops
+          (λ failed. record { stopped = stops; unwritten = unwritten; rose = rose failed })));
+    }
+
+    -- it was told, or a front of it
+    pub run-told : (text : List ℕ) → EndsWith e.status r e old new →
+        Puts e.status text old.held new.held old.sink_faults new.sink_faults → Ends r e old new
+    run-told text how puts = record {
+      taken = ok-taken x e old.left new.left taken
+          (puts-short e.status text old.held new.held old.sink_faults new.sink_faults puts);
+      counts = counts;
+      unread = λ leaves. absurd (reads.source leaves);
+      untapped = λ leaves. absurd (taps leaves);
+      how = reads.how e old new how;
+    }
+
+-- ---- runs of an input
+
+module _ (left left' : Option (List ℕ)) (script : Script) (book : Book)
+    (ready : IsReady left left' script book) where
+  -- what holds of the script and the words holds of the input's
+  pub as-input : (P : Script → WordBook → Type 0) → P script (words_in book) →
+      P ready.input.first (book_of ready.input)
+  as-input P p = subst (λ b. P ready.input.first b) ready.words
+      (subst (λ S. P S (words_in book)) ready.of_input p)
+
+  pub serial-due : IsDue request.Serial left left' ready.input
+      (serial_history ready.input.first.shape)
+  serial-due = record { read = ready.read; accepted = ready.accepted; history = refl }
+
+-- ---- a text, where there is one
+
+pub plain-view : (j : ℕ) (old new : Outside) → IsPlain (request.View j) old new
+plain-view j old new = record { taps = λ input H. tt; back = λ input H e nothing. nothing }
+
+pub plain-mirror : (h : ℕ) (old new : Outside) → IsPlain (request.Mirror h) old new
+plain-mirror h old new = record { taps = λ input H. tt; back = λ input H e nothing. nothing }
+
+pub text-ends : {X : Type 0} (r : Request) → ReadsInput r → (items : X → List ℕ) (e : Ended)
+    (old new : Outside) → NoCountFalls old new → IsPlain r old new → HandsNothing e →
+    IsUntapped old new → (res : Result X Status) →
+    IfOk res (λ x. IsMade r old.left new.left (items x)) →
+    IfErr res (λ s. Stops r s old.left new.left old.source_faults new.source_faults) →
+    Taken (res ≡ Err status.TooLong) old.left new.left →
+    IfOk res (λ x. Puts e.status (items x) old.held new.held old.sink_faults new.sink_faults) →
+    IfErr res (λ s. e.status ≡ s) →
+    IfErr res (λ s. PutsNothing old.held new.held old.sink_faults new.sink_faults) →
+    Ends r e old new
+text-ends r reads items e old new counts plain nothing untapped (Ok x) is stops taken puts same
+    quiet =
+    made r reads e old new counts x (items x) plain is nothing taken untapped puts
+text-ends {X} r reads items e old new counts plain nothing untapped (Err s) is stops taken puts
+    same quiet =
+    early r reads e old new counts {X = X} s same nothing taken
+    (record { held = quiet.same; faults = quiet.none }) untapped stops
+
+-- ---- words that read nothing
+
+before-nothing : (left : Option (List ℕ)) → left ≡ before_taking [] left
+before-nothing None = refl
+before-nothing (Some rest) = refl
+
+none-taken : (over : Type 0) (left : Option (List ℕ)) → ¬ over → Taken over left left
+none-taken over left short = (
+  [],
+  record {
+    bytes = before-nothing left;
+    most = omega arith;
+    exactly = (λ is. absurd (short is), λ more. absurd (omega (arith, more)));
+  },
+)
+
+-- the line of a handle, or want of memory
+pub handle-ends : {X : Type 0} (id : ℕ) (root : List ℕ) (items : X → List ℕ) (e : Ended)
+    (left : Option (List ℕ)) (f : ℕ) (held held' : Option (List ℕ)) (sf sf' : ℕ)
+    (tap : ℕ → Option (List ℕ)) (tf : ℕ) → sf ≤ sf' → HandsNothing e → (res : Result X Status) →
+    IfOk res (λ x. items x ≡ handle_text id root) → IfErr res (λ s. s ≡ status.Memory) →
+    IfOk res (λ x. Puts e.status (items x) held held' sf sf') → IfErr res (λ s. e.status ≡ s) →
+    IfErr res (λ s. PutsNothing held held' sf sf') →
+    Ends (request.Handle id root) e (outside left f held sf tap tf)
+    (outside left f held' sf' tap tf)
+handle-ends {X} id root items e left f held held' sf sf' tap tf rises nothing res line memory puts
+    same quiet =
+    let how = handle-how res line memory puts same quiet in
+    record {
+      taken = none-taken (e.status ≡ status.TooLong) left
+          (puts-short e.status (handle_text id root) held held' sf sf' how);
+      counts = record { source = omega arith; sink = rises; taps = omega arith };
+      unread = λ leaves. record { left = refl; faults = refl };
+      untapped = λ leaves. record { tap = λ j. refl; faults = refl };
+      how = (nothing, how);
+    }
+  where
+    handle-how : (res : Result X Status) → IfOk res (λ x. items x ≡ handle_text id root) →
+        IfErr res (λ s. s ≡ status.Memory) →
+        IfOk res (λ x. Puts e.status (items x) held held' sf sf') →
+        IfErr res (λ s. e.status ≡ s) → IfErr res (λ s. PutsNothing held held' sf sf') →
+        Puts e.status (handle_text id root) held held' sf sf'
+    handle-how (Ok x) line memory puts same quiet =
+        subst (λ t. Puts e.status t held held' sf sf') line puts
+    handle-how (Err s) line memory puts same quiet =
+        subst (λ x. Puts x (handle_text id root) held held' sf sf') (sym (same ∙ memory)) quiet
+
+pub usage-ends : (e : Ended) (o : Outside) → e.status ≡ status.Usage → HandsNothing e →
+    Ends request.Nothing e o o
+usage-ends e o is nothing = record {
+  taken = none-taken (e.status ≡ status.TooLong) o.left (λ long. cc);
+  counts = record { source = omega arith; sink = omega arith; taps = omega arith };
+  unread = λ leaves. record { left = refl; faults = refl };
+  untapped = λ leaves. record { tap = λ j. refl; faults = refl };
+  how = record {
+    status = is;
+    quiet = record {
+      handed = nothing;
+      unwritten = record { held = refl; faults = refl };
+      untapped = record { tap = λ j. refl; faults = refl };
+    };
+  };
+}
+
+pub later-ends : (e : Ended) (o : Outside) → e.status ≡ status.Later 0 → HandsNothing e →
+    Ends request.Run e o o
+later-ends e o is nothing = record {
+  taken = none-taken (e.status ≡ status.TooLong) o.left (λ long. cc);
+  counts = record { source = omega arith; sink = omega arith; taps = omega arith };
+  unread = λ leaves. record { left = refl; faults = refl };
+  untapped = λ leaves. record { tap = λ j. refl; faults = refl };
+  how = record {
+    status = is;
+    quiet = record {
+      handed = nothing;
+      unwritten = record { held = refl; faults = refl };
+      untapped = record { tap = λ j. refl; faults = refl };
+    };
+  };
+}

@@ -1,0 +1,120 @@
+-- What each word ends with is what the words ask for.
+use Rattle.std.proofs.Common.{refl, arith}
+use Rattle.tk_cli.specs.declared.request.Request.TheVariants as request
+use Rattle.tk_cli.specs.Endings.{Ends}
+use Rattle.tk_cli.specs.Outside.{outside}
+use Rattle.tk_cli.proofs.EndingLaws.{usage-is, ends-as}
+use Rattle.tk_cli.proofs.WordLaws.{text-ends, view-reads, mirror-reads, plain-view, plain-mirror}
+use Rattle.tk_cli.proofs.WordLaws.{handle-ends, later-ends, usage-ends}
+use Rattle.tk_cli.proofs.top.talek.Goals as goal
+
+pub returns-in-Serial : goal.returns-in-Serial
+returns-in-Serial g c =
+    let words = c.args.words.now in
+    let ends = c.run_serial.ensures in
+    record {
+      usage = usage-is words request.Serial c.run_serial.result _ _ c.in-Serial.ensures ends;
+      ends = ends-as words request.Serial c.run_serial.result _ _ c.in-Serial.ensures ends;
+    }
+
+pub returns-in-Run : goal.returns-in-Run
+returns-in-Run g c =
+    let words = c.args.words.now in
+    let e = c.without.result in
+    let ends = later-ends e (outside (g.S.Source.left c.args.source.now)
+    (g.S.Source.faults c.args.source.now) (g.K.Sink.held c.args.sink.now)
+    (g.K.Sink.faults c.args.sink.now) (g.T.Taps.tap c.args.taps.now)
+    (g.T.Taps.faults c.args.taps.now)) c.without.ensures.status c.without.ensures.nothing in
+    record {
+      usage = usage-is words request.Run e _ _ c.in-Run.ensures ends;
+      ends = ends-as words request.Run e _ _ c.in-Run.ensures ends;
+    }
+
+pub returns-in-View : goal.returns-in-View
+returns-in-View g c =
+    let words = c.args.words.now in
+    let q = request.View c.in-View.server in
+    let e = c.answer.result in
+    let old = outside (g.S.Source.left c.args.source.now) (g.S.Source.faults c.args.source.now)
+    (g.K.Sink.held c.args.sink.now) (g.K.Sink.faults c.args.sink.now)
+    (g.T.Taps.tap c.args.taps.now) (g.T.Taps.faults c.args.taps.now) in
+    let new = outside (g.S.Source.left c.view_text.new.source)
+    (g.S.Source.faults c.view_text.new.source) (g.K.Sink.held c.answer.new.sink)
+    (g.K.Sink.faults c.answer.new.sink) (g.T.Taps.tap c.args.taps.now)
+    (g.T.Taps.faults c.args.taps.now) in
+    let ends : Ends q e old new =
+    text-ends q (view-reads c.in-View.server) (λ text. text.items) e old new
+    (record {
+      source = c.view_text.ensures.counts;
+      sink = c.answer.ensures.counts;
+      taps = omega arith;
+    })
+    (plain-view c.in-View.server old new) c.answer.ensures.nothing
+    (record { tap = λ j. refl; faults = refl }) c.view_text.result c.view_text.ensures.made
+    c.view_text.ensures.stopped c.view_text.ensures.taken c.answer.ensures.puts
+    c.answer.ensures.status c.answer.ensures.quiet in
+    record {
+      usage = usage-is words q e old new c.in-View.ensures ends;
+      ends = ends-as words q e old new c.in-View.ensures ends;
+    }
+
+pub returns-in-Mirror : goal.returns-in-Mirror
+returns-in-Mirror g c =
+    let words = c.args.words.now in
+    let q = request.Mirror c.in-Mirror.hidden in
+    let e = c.answer-in-Mirror.result in
+    let told = c.answer-in-Mirror.ensures in
+    let old = outside (g.S.Source.left c.args.source.now) (g.S.Source.faults c.args.source.now)
+    (g.K.Sink.held c.args.sink.now) (g.K.Sink.faults c.args.sink.now)
+    (g.T.Taps.tap c.args.taps.now) (g.T.Taps.faults c.args.taps.now) in
+    let new = outside (g.S.Source.left c.mirror_text.new.source)
+    (g.S.Source.faults c.mirror_text.new.source) (g.K.Sink.held c.answer-in-Mirror.new.sink)
+    (g.K.Sink.faults c.answer-in-Mirror.new.sink) (g.T.Taps.tap c.args.taps.now)
+    (g.T.Taps.faults c.args.taps.now) in
+    let ends : Ends q e old new =
+    text-ends q (mirror-reads c.in-Mirror.hidden) (λ text. text.items) e old new
+    (record {
+      source = c.mirror_text.ensures.counts;
+      sink = told.counts;
+      taps = omega arith;
+    })
+    (plain-mirror c.in-Mirror.hidden old new) told.nothing
+    (record { tap = λ j. refl; faults = refl }) c.mirror_text.result
+    c.mirror_text.ensures.made c.mirror_text.ensures.stopped c.mirror_text.ensures.taken
+    told.puts told.status told.quiet in
+    record {
+      usage = usage-is words q e old new c.in-Mirror.ensures ends;
+      ends = ends-as words q e old new c.in-Mirror.ensures ends;
+    }
+
+pub returns-in-Handle : goal.returns-in-Handle
+returns-in-Handle g c =
+    let words = c.args.words.now in
+    let q = request.Handle c.in-Handle.id c.in-Handle.root in
+    let e = c.answer-in-Handle.result in
+    let told = c.answer-in-Handle.ensures in
+    let ends = handle-ends c.in-Handle.id c.in-Handle.root (λ line. line.items) e
+    (g.S.Source.left c.args.source.now) (g.S.Source.faults c.args.source.now)
+    (g.K.Sink.held c.args.sink.now) (g.K.Sink.held c.answer-in-Handle.new.sink)
+    (g.K.Sink.faults c.args.sink.now) (g.K.Sink.faults c.answer-in-Handle.new.sink)
+    (g.T.Taps.tap c.args.taps.now) (g.T.Taps.faults c.args.taps.now) told.counts told.nothing
+    c.handle_line.result c.handle_line.ensures.line c.handle_line.ensures.memory told.puts
+    told.status told.quiet in
+    record {
+      usage = usage-is words q e _ _ c.in-Handle.ensures ends;
+      ends = ends-as words q e _ _ c.in-Handle.ensures ends;
+    }
+
+pub returns-in-Nothing : goal.returns-in-Nothing
+returns-in-Nothing g c =
+    let words = c.args.words.now in
+    let e = c.without-in-Nothing.result in
+    let ends = usage-ends e (outside (g.S.Source.left c.args.source.now)
+    (g.S.Source.faults c.args.source.now) (g.K.Sink.held c.args.sink.now)
+    (g.K.Sink.faults c.args.sink.now) (g.T.Taps.tap c.args.taps.now)
+    (g.T.Taps.faults c.args.taps.now)) c.without-in-Nothing.ensures.status
+    c.without-in-Nothing.ensures.nothing in
+    record {
+      usage = usage-is words request.Nothing e _ _ c.in-Nothing.ensures ends;
+      ends = ends-as words request.Nothing e _ _ c.in-Nothing.ensures ends;
+    }

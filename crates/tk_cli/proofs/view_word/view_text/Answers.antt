@@ -1,0 +1,32 @@
+-- What is answered to the input that was read.
+
+use Rattle.tk_cli.specs.declared.top.TheConstants.{INPUT_LIMIT}
+use Rattle.tk_cli.specs.declared.request.Request.TheVariants.{View}
+use Rattle.tk_cli.proofs.InputLaws.{made-by, stopped-by, taken-by}
+use Rattle.tk_cli.proofs.view_word.view_text.Goals as goal
+
+pub viewed-requires : goal.viewed-requires
+viewed-requires g c =
+    let read = c.in_ok-input.ensures.read in record { bytes = read.bytes; spelled = read.spelled }
+
+pub returns-clause-made : goal.returns-clause-made
+returns-clause-made g c =
+    made-by (View c.args.server) (g.S.Source.left c.args.source.now)
+    (g.S.Source.left c.input_from.new.source) (g.S.Source.faults c.args.source.now)
+    (g.S.Source.faults c.input_from.new.source) c.in_ok-input.input c.in_ok-input.ensures.read
+    (λ text. text.items) c.viewed.result c.viewed.ensures.answer
+
+pub returns-clause-stopped : goal.returns-clause-stopped
+returns-clause-stopped g c =
+    stopped-by (View c.args.server) (g.S.Source.left c.args.source.now)
+    (g.S.Source.left c.input_from.new.source) (g.S.Source.faults c.args.source.now)
+    (g.S.Source.faults c.input_from.new.source) c.in_ok-input.input c.in_ok-input.ensures.read
+    (λ text. text.items) c.viewed.result c.viewed.ensures.refused
+
+pub returns-clause-taken : goal.returns-clause-taken
+returns-clause-taken g c =
+    taken-by (View c.args.server) (g.S.Source.left c.args.source.now)
+    (g.S.Source.left c.input_from.new.source) (g.S.Source.faults c.args.source.now)
+    (g.S.Source.faults c.input_from.new.source) c.in_ok-input.input c.in_ok-input.ensures.read
+    (λ text. text.items) INPUT_LIMIT c.in_ok-input.input c.viewed.result c.viewed.ensures.refused
+    c.in_ok-input.ensures.taken

@@ -1,0 +1,182 @@
+-- What a request reads, what refuses it, and for which history it is done.
+use Rattle.std.specs.Prelude.{◌≡◌, ℕ, ◌==◌, nat_lt, ◌||◌, cond, List, [], Option, Some, None, Err}
+use Rattle.tk_io.specs.Content.{Rose, before_taking, emptied}
+use Rattle.tk_shape.specs.declared.shape.Shape.{Shape}
+use Rattle.tk_shape.specs.declared.differs.Differs.{Differs}
+use Rattle.tk_shape.specs.Lengths.{tape_len}
+use Rattle.tk_shape.specs.Differences.{first_difference}
+use Rattle.tk_schedule.specs.declared.history.History.{History}
+use Rattle.tk_schedule.specs.declared.raw.RawLine.{RawLine}
+use Rattle.tk_schedule.specs.Due.{bad_line}
+use Rattle.tk_schedule.specs.Schedule.{serial_history}
+use Rattle.tk_schedule.specs.Told.{Tells}
+use Rattle.tk_script.specs.declared.cause.Cause.{Cause}
+use Rattle.tk_script.specs.declared.form.Form.{Form}
+use Rattle.tk_script.specs.declared.form.Form.TheVariants as form
+use Rattle.tk_script.specs.declared.input.RawTape.{RawTape}
+use Rattle.tk_script.specs.declared.input.Input.{Input}
+use Rattle.tk_script.specs.declared.script.Script.{Script}
+use Rattle.tk_script.specs.Book.{book_of}
+use Rattle.tk_script.specs.Grammar.{lines_of, Spells}
+use Rattle.tk_script.specs.Reading.{read_input}
+use Rattle.tk_words.specs.declared.book.Book.{Book}
+use Rattle.tk_words.specs.Book.{shape_of, words_in}
+use Rattle.tk_cli.specs.declared.request.Request.{Request}
+use Rattle.tk_cli.specs.declared.request.Request.TheVariants as request
+use Rattle.tk_cli.specs.declared.status.Status.{Status}
+use Rattle.tk_cli.specs.declared.status.Status.TheVariants as status
+
+-- ---- the bytes
+
+-- the form of a request's input
+abbrev pub form_of : Request → Form
+form_of (request.View server) = form.View
+form_of (request.Mirror hidden) = form.Mirror
+form_of _ = form.Run
+
+-- these bytes were taken, and they were all that was left
+pub record TakesAll (bytes : List ℕ) (left left' : Option (List ℕ)) : Type 0 where
+  pub taken : left ≡ before_taking bytes left'
+  pub emptied : left' ≡ emptied left
+
+-- all was taken, and it spells this input
+pub record Reads (f : Form) (left left' : Option (List ℕ)) (input : Input) : Type 0 where
+  pub bytes : List ℕ
+  pub all : TakesAll bytes left left'
+  pub spelled : Spells f bytes input
+
+-- all was taken, this line of it is the first that is refused, for this cause, and it spells no
+-- input
+pub record RefusesLine (f : Form) (left left' : Option (List ℕ)) (line : ℕ) (c : Cause) : Type 0
+  where
+    pub bytes : List ℕ
+    pub all : TakesAll bytes left left'
+    pub first : read_input f (lines_of bytes) ≡ Err (line, c)
+    pub none : (input : Input) → Spells f bytes input → ⊥
+
+-- the bytes of its tape that are kept
+abbrev pub kept_in : Option RawTape → List ℕ
+kept_in None = []
+kept_in (Some tape) = tape.bytes
+
+-- ---- what refuses an input, each asked where nothing before it does
+
+-- the tape has another length than the shape wants
+abbrev pub tape_refusal : Shape → Option RawTape → Option Status → Option Status
+tape_refusal shape None behind = behind
+tape_refusal shape (Some tape) behind =
+    cond (tape.got == tape_len shape) behind (Some (status.Tape (tape_len shape) tape.got))
+
+-- the scripts' shapes differ
+abbrev pub difference : Shape → Option Script → Option Differs
+difference shape None = None
+difference shape (Some other) = first_difference shape other.shape
+
+abbrev pub shapes_refusal : Option Differs → Option Status → Option Status
+shapes_refusal None behind = behind
+shapes_refusal (Some d) behind = Some (status.Shapes d.field d.a d.b)
+
+-- a line of the history isn't the one due
+abbrev pub bad_history_line : Shape → Option (List RawLine) → Option ℕ
+bad_history_line shape None = None
+bad_history_line shape (Some raw) = bad_line shape raw
+
+abbrev pub history_refusal : Option ℕ → Option Status → Option Status
+history_refusal None behind = behind
+history_refusal (Some at) behind = Some (status.History at)
+
+-- it isn't a server, of those that are numbered from 1
+abbrev pub server_refusal : ℕ → ℕ → Option Status
+server_refusal got servers =
+    cond (got == 0 || nat_lt servers got) (Some (status.Hidden got servers)) None
+
+-- the first that refuses an input of a request
+abbrev pub refusal_of : Request → Input → Option Status
+refusal_of (request.View server) input =
+    let shape = input.first.shape in
+    tape_refusal shape input.tape
+    (history_refusal (bad_history_line shape input.history)
+    (server_refusal server shape.servers))
+refusal_of (request.Mirror hidden) input =
+    let shape = input.first.shape in
+    tape_refusal shape input.tape
+    (shapes_refusal (difference shape input.second)
+    (history_refusal (bad_history_line shape input.history)
+    (server_refusal hidden shape.servers)))
+refusal_of _ input = tape_refusal input.first.shape input.tape None
+
+-- all was taken, and what it spells is refused with this status
+pub record IsRefused (r : Request) (s : Status) (left left' : Option (List ℕ)) : Type 0 where
+  pub input : Input
+  pub read : Reads (form_of r) left left' input
+  pub refused : refusal_of r input ≡ Some s
+
+-- How a request ends of which the input isn't had: for want of memory; as the source failed, or had
+-- too much; or refused.
+abbrev pub Stops :
+    Request → Status → (left left' : Option (List ℕ)) → (faults faults' : ℕ) → Type 0
+Stops r status.Done left left' faults faults' = ⊥
+Stops r status.Memory left left' faults faults' = Unit {0}
+Stops r status.Usage left left' faults faults' = ⊥
+Stops r (status.Script line c) left left' faults faults' =
+    RefusesLine (form_of r) left left' line c
+Stops r status.Read left left' faults faults' = Rose faults faults'
+Stops r status.Write left left' faults faults' = ⊥
+Stops r status.TooLong left left' faults faults' = Unit {0}
+Stops r (status.Later line) left left' faults faults' = ⊥
+Stops r s left left' faults faults' = IsRefused r s left left'
+
+-- some bytes spell this input
+pub record IsSpelled (f : Form) (input : Input) : Type 0 where
+  pub bytes : List ℕ
+  pub spelled : Spells f bytes input
+
+-- how a request ends that an input refuses, or for which memory is wanting
+abbrev pub Refuses : Request → Input → Status → Type 0
+Refuses r input status.Done = ⊥
+Refuses r input status.Memory = Unit {0}
+Refuses r input status.Usage = ⊥
+Refuses r input (status.Script line c) = ⊥
+Refuses r input status.Read = ⊥
+Refuses r input status.Write = ⊥
+Refuses r input status.TooLong = ⊥
+Refuses r input (status.Later line) = ⊥
+Refuses r input s = refusal_of r input ≡ Some s
+
+-- a run, serial or with threads
+abbrev pub IsOfRuns : Request → Type 0
+IsOfRuns request.Serial = Unit {0}
+IsOfRuns request.Run = Unit {0}
+IsOfRuns _ = ⊥
+
+-- All was taken, and it spells an input that a run doesn't refuse: this is its script, and these
+-- are its words.
+pub record IsReady (left left' : Option (List ℕ)) (script : Script) (book : Book) : Type 0 where
+  pub input : Input
+  pub read : Reads form.Run left left' input
+  pub accepted : tape_refusal input.first.shape input.tape None ≡ None
+  pub of_input : script ≡ input.first
+  pub shape : shape_of book ≡ script.shape
+  pub words : words_in book ≡ book_of input
+
+-- ---- the history
+
+-- the history that an input has
+abbrev pub TellsIn : Shape → Option (List RawLine) → History → Type 0
+TellsIn shape None H = ⊥
+TellsIn shape (Some raw) H = Tells shape raw H
+
+-- a request is done for this history of the input
+abbrev pub IsHistoryFor : Request → Input → History → Type 0
+IsHistoryFor request.Serial input H = H ≡ serial_history input.first.shape
+IsHistoryFor (request.View server) input H = TellsIn input.first.shape input.history H
+IsHistoryFor (request.Mirror hidden) input H = TellsIn input.first.shape input.history H
+IsHistoryFor _ input H = ⊥
+
+-- All was taken, and it spells this input, which nothing refuses; and this is a history for which
+-- the request is done.
+pub record IsDue (r : Request) (left left' : Option (List ℕ)) (input : Input) (H : History)
+    : Type 0 where
+  pub read : Reads (form_of r) left left' input
+  pub accepted : refusal_of r input ≡ None
+  pub history : IsHistoryFor r input H

@@ -1,0 +1,77 @@
+//! The word `serial`: the report of an input's serial run.
+ghost use Rattle.std.specs.Prelude.{◌≡◌, ◌≤◌, IfOk, IfErr, OnOk, OnErr};
+ghost use Rattle.tk_io.specs.Content.{Rose};
+ghost use Rattle.tk_io.specs.Tapped.{TapsGain, TapsGainFronts, TapsKeepBut};
+ghost use Rattle.tk_schedule.specs.Schedule.{serial_history};
+ghost use Rattle.tk_words.specs.Words.{words_of};
+ghost use Rattle.tk_words.specs.Book.{shape_of, words_in};
+ghost use Rattle.tk_report.specs.Exchange.{exchange, bytes_of};
+ghost use Rattle.tk_report.specs.Outcomes.{IsLeftBy};
+ghost use Rattle.tk_cli.specs.Endings.{Ends};
+ghost use Rattle.tk_cli.specs.Outside.{outside};
+
+use crate::ended::Ended;
+use crate::input::ready;
+use crate::request::Request;
+use crate::status::Status;
+use crate::telling::tell;
+use std::alloc::Global;
+use tk_io::{Sink, Source, Taps};
+use tk_report::{Outcome, ends};
+use tk_run::{RunError, serial};
+use tk_script::Script;
+use tk_words::Book;
+
+/// The word `serial`.
+pub(crate) fn run_serial<S: Source, K: Sink, T: Taps>(
+    alloc: Global,
+    source: &mut S,
+    sink: &mut K,
+    taps: &mut T,
+) -> Ended
+    ensures { Ends Request.Serial result
+        (outside (S.left source.old) (S.faults source.old) (K.held sink.old) (K.faults sink.old)
+        (T.tap taps.old) (T.faults taps.old))
+        (outside (S.left source.new) (S.faults source.new) (K.held sink.new) (K.faults sink.new)
+        (T.tap taps.new) (T.faults taps.new)) }
+{
+    let (script, book) = match ready(alloc, source) {
+        Ok(input) => input,
+        Err(status) => return Ended::without(status),
+    };
+    let outcome = match serial_by(alloc, &script, &book, taps) {
+        Ok(outcome) => outcome,
+        Err(error) => return Ended::without(Status::from(error)),
+    };
+    ends();
+    tell(alloc, outcome, None, sink)
+}
+
+/// What the serial run of a script by the words of a book leaves.
+fn serial_by<T: Taps>(
+    alloc: Global,
+    script: &Script,
+    book: &Book,
+    taps: &mut T,
+) -> Result<Outcome, RunError>
+    requires one_shape { shape_of book.now ≡ script.now.shape }
+    ensures left { let words = words_of script.now.shape (words_in book.now) in
+        IfOk result (IsLeftBy script.now words (serial_history script.now.shape)) }
+    ensures ok { let history = serial_history script.now.shape in
+        OnOk result (TapsGain script.now.shape.servers
+        (λ j. bytes_of (exchange script.now (words_in book.now) history j))
+        (T.tap taps.old) (T.tap taps.new)) }
+    ensures err { let history = serial_history script.now.shape in
+        OnErr result (TapsGainFronts script.now.shape.servers
+        (λ j. bytes_of (exchange script.now (words_in book.now) history j))
+        (T.tap taps.old) (T.tap taps.new)) }
+    ensures others { TapsKeepBut script.now.shape.servers (T.tap taps.old) (T.tap taps.new) }
+    ensures rose { IfErr result (λ e. e ≡ RunError.Taps
+        → Rose (T.faults taps.old) (T.faults taps.new)) }
+    ensures counts { T.faults taps.old ≤ T.faults taps.new }
+{
+    match book {
+        Book::Keyed(draws) => serial(alloc, script, draws, taps),
+        Book::Drawn(draws) => serial(alloc, script, draws, taps),
+    }
+}

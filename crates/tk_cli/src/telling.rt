@@ -1,0 +1,67 @@
+//! What is written to the sink.
+ghost use Rattle.std.specs.Prelude.{◌≡◌, ◌≤◌, IfOk, IfErr};
+ghost use Rattle.tk_report.specs.Outcomes.{outcome_text};
+ghost use Rattle.tk_cli.specs.Handles.{Puts, PutsNothing};
+ghost use Rattle.tk_cli.specs.Endings.{HandsAs, HandsNothing};
+
+use crate::ended::Ended;
+use crate::status::Status;
+use std::alloc::Global;
+use tk_cluster::Closed;
+use tk_io::{Sink, put_all};
+use tk_report::{Outcome, print_outcome};
+
+/// Writes a text to a sink at once.
+pub(crate) fn put<K: Sink>(text: &[u8], sink: &mut K) -> Status
+    ensures puts { Puts result text.now (K.held sink.old) (K.held sink.new)
+        (K.faults sink.old) (K.faults sink.new) }
+    ensures counts { K.faults sink.old ≤ K.faults sink.new }
+{
+    match put_all(sink, text) {
+        Ok(()) => Status::Done,
+        Err(_) => Status::Write,
+    }
+}
+
+/// Writes a text to a sink at once, where there is one.
+pub(crate) fn answer<K: Sink>(text: Result<Vec<u8>, Status>, sink: &mut K) -> Ended
+    ensures nothing { HandsNothing result }
+    ensures puts { IfOk text (λ t. Puts result.status t.items (K.held sink.old) (K.held sink.new)
+        (K.faults sink.old) (K.faults sink.new)) }
+    ensures status { IfErr text (λ s. result.status ≡ s) }
+    ensures quiet { IfErr text (λ s. PutsNothing (K.held sink.old) (K.held sink.new)
+        (K.faults sink.old) (K.faults sink.new)) }
+    ensures counts { K.faults sink.old ≤ K.faults sink.new }
+{
+    match text {
+        Ok(text) => Ended::without(put(text.as_slice(), sink)),
+        Err(status) => Ended::without(status),
+    }
+}
+
+/// Writes the report of what a run left to a sink, and hands back what it left where that is done.
+pub(crate) fn tell<K: Sink>(
+    alloc: Global,
+    outcome: Outcome,
+    closed: Option<Closed>,
+    sink: &mut K,
+) -> Ended
+    ensures puts { Puts result.status (outcome_text outcome) (K.held sink.old) (K.held sink.new)
+        (K.faults sink.old) (K.faults sink.new) }
+    ensures handed { HandsAs result.status result outcome closed }
+    ensures counts { K.faults sink.old ≤ K.faults sink.new }
+{
+    let mut report = Vec::new(alloc);
+    if print_outcome(alloc, &outcome, &mut report).is_err() {
+        return Ended::without(Status::Memory);
+    }
+    let status = put(report.as_slice(), sink);
+    if status != Status::Done {
+        return Ended::without(status);
+    }
+    Ended {
+        status,
+        outcome: Some(outcome),
+        closed,
+    }
+}
