@@ -1,8 +1,7 @@
 -- Words ask for one thing.
-use Rattle.std.proofs.Common.{◌≡◌, ◌∙◌, ◌⊎◌, ◌<◌, ◌^◌, refl, ap, sym, inl, inr, ℕ, List, [], ◌∷◌}
-use Rattle.std.proofs.Common.{Ok, length, codes, decimal, arith, rules}
+use Rattle.std.proofs.Common.{◌≡◌, ◌∙◌, refl, ap, sym, inl, inr, ℕ, List, [], ◌∷◌}
+use Rattle.std.proofs.Common.{length, codes, arith, rules}
 use Rattle.std.proofs.lemmas.Fmt.{decimal_injective}
-use Rattle.hex.specs.Hex.{decode_of}
 use Rattle.tk_cli.specs.declared.request.Request.{Request}
 use Rattle.tk_cli.specs.declared.request.Request.TheVariants.{Serial, Run, View, Mirror, Handle, Nothing}
 use Rattle.tk_cli.specs.Requests.{Words, Asks, AsksNothing, IsSmall, SpellsRoot}

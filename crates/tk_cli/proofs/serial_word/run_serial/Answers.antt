@@ -1,5 +1,5 @@
 -- How a serial run ends.
-use Rattle.std.proofs.Common.{◌≡◌, ◌∙◌, ap, refl, sym, ℕ, List, arith, inl, inr}
+use Rattle.std.proofs.Common.{◌∙◌, refl, ℕ, arith}
 use Rattle.tk_schedule.specs.Schedule.{serial_history}
 use Rattle.tk_script.specs.declared.script.Script.{Script}
 use Rattle.tk_words.specs.Words.{WordBook, words_of}
