@@ -2,3 +2,9 @@ pub mod Rows
 pub mod Clients
 pub mod Servers
 pub mod Turns
+pub mod Ticks
+pub mod Ran
+pub mod Acting
+pub mod Courses
+pub mod Reading
+pub mod Threads

@@ -2,19 +2,33 @@
 //! what the server sees and answers, and ends with what its clients have got.
 #![tactic(auto)]
 
+mod acting;
+mod arranging;
 mod asking;
+mod course;
+mod desks;
 mod frames;
+mod group;
 mod reading;
 mod run;
 mod run_error;
 mod serially;
 mod server;
 mod servers;
+mod sights;
+mod slip;
+mod talking;
 mod tapping;
+mod telling;
 #[cfg(test)]
 mod tests;
+#[cfg(test)]
+mod thread_tests;
+mod threaded;
+mod ticks;
 mod turns;
 mod writing;
 
 pub use run_error::RunError;
 pub use serially::serial;
+pub use threaded::threads;

@@ -1,0 +1,154 @@
+-- A turn of those who acted in it, told of the slips that lie on their desks.
+use Rattle.std.proofs.Common.{◌≡◌, ℕ, suc, ◌+◌, ◌<◌, List, [], ◌∷◌, length, map}
+use Rattle.std.proofs.Common.{Option, Some, refl, ap, sym, ◌∙◌, subst, arith, append-nil}
+use Rattle.std.specs.Prelude.{slice_index_or}
+use Rattle.tk_shape.specs.declared.shape.Shape.{Shape}
+use Rattle.tk_frames.specs.declared.write_frame.WriteFrame.{WriteFrame}
+use Rattle.tk_frames.specs.Ranges.{IsWrite}
+use Rattle.tk_frames.specs.Spelling.{write_frame}
+use Rattle.tk_frames.specs.Laws.{IsOneSpelling}
+use Rattle.tk_schedule.specs.declared.history.TurnOrder.{TurnOrder}
+use Rattle.tk_schedule.specs.Schedule.{phases_over}
+use Rattle.tk_cluster.specs.Refusals.{SpellsWrite}
+use Rattle.tk_cluster.specs.Passes.{Passing, Wrote, Pins, Reads}
+use Rattle.tk_cluster.specs.Tellings.{Telling}
+use Rattle.tk_run.specs.declared.slip.Slip.{Slip}
+use Rattle.tk_run.specs.declared.acting.Desk.{Desk}
+use Rattle.tk_run.specs.Ticks.{Done}
+use Rattle.tk_run.specs.Ran.{ActsOn, EachBy, Turned, PassesAt, set_on}
+use Rattle.tk_run.specs.Acting.{WroteAndPinned, Acted, AreFrames, frames_on, slips_on}
+
+-- ---- lists and options that are the same
+
+same_first : {A : Type 0} (x y : A) (xs ys : List A) → x ∷ xs ≡ y ∷ ys → x ≡ y
+same_first x y xs ys h = cc h
+
+same_rest : {A : Type 0} (x y : A) (xs ys : List A) → x ∷ xs ≡ y ∷ ys → xs ≡ ys
+same_rest x y xs ys h = cc h
+
+not_longer : {A : Type 0} (x : A) (xs : List A) → x ∷ xs ≡ [] → ⊥
+not_longer x xs h = absurd (cc h)
+
+not_shorter : {A : Type 0} (x : A) (xs : List A) → [] ≡ x ∷ xs → ⊥
+not_shorter x xs h = absurd (cc h)
+
+same_some : {A : Type 0} (o : Option A) (x y : A) → o ≡ Some x → o ≡ Some y → x ≡ y
+same_some o x y h k = cc (h, k)
+
+-- ---- what the clients did
+
+module _ (shape : Shape) (write : ℕ → WriteFrame)
+    (one : IsOneSpelling (IsWrite shape) write_frame) (most : ℕ) where
+  -- bytes spell one write at most
+  same_write : (bytes : List ℕ) (v w : WriteFrame) → SpellsWrite shape bytes v →
+      SpellsWrite shape bytes w → v ≡ w
+  same_write bytes v w a b =
+      (one v w [] a.in_range b.in_range
+      (sym b.spelled ∙ (a.spelled ∙ sym (append-nil (write_frame v))))).0
+
+  acts_one : (a : Passing) (d e : Desk) (b : Passing) (s : Slip) →
+      WroteAndPinned shape most a d e b → SpellsWrite shape d.frame.items (write a.client) →
+      e.slip ≡ Some s → ActsOn write most a s b
+  acts_one a d e b s h spells lies =
+      let same : h.slip ≡ s = same_some e.slip h.slip s h.lies lies in
+      let frame : h.wrote.write ≡ write a.client =
+      same_write d.frame.items h.wrote.write (write a.client) h.wrote.spells spells
+      in
+      record {
+        mid = h.mid;
+        wrote = subst (λ w. Wrote a w h.mid) frame h.wrote.wrote;
+        position = ap (λ (x : Slip). x.position) (sym same) ∙ h.position;
+        pins = subst (λ (x : Slip). Reads (λ r t. Pins r most (set_on x) t) h.mid b) same h.pins;
+      }
+
+  -- the frames of the clients from client off on
+  abbrev Spelled : ℕ → List Desk → Type 0
+  Spelled off ds =
+      (k : ℕ) (d : List ℕ) → k < length ds →
+      SpellsWrite shape (slice_index_or (frames_on ds) k d) (write (off + k))
+
+  spelled_first : (off : ℕ) (d : Desk) (ds : List Desk) (c : ℕ) → c ≡ off → Spelled off (d ∷ ds) →
+      SpellsWrite shape d.frame.items (write c)
+  spelled_first off d ds c is h =
+      let here : off + 0 ≡ c = omega (arith, is) in
+      subst (λ n. SpellsWrite shape d.frame.items (write n)) here (h 0 [] (omega arith))
+
+  spelled_rest : (off : ℕ) (d : Desk) (ds : List Desk) → Spelled off (d ∷ ds) →
+      Spelled (off + 1) ds
+  spelled_rest off d ds h k x low =
+      let next : off + suc k ≡ off + 1 + k = omega arith in
+      subst (λ n. SpellsWrite shape (slice_index_or (frames_on ds) k x) (write n)) next
+      (h (suc k) x (omega (arith, low)))
+
+  all_acts : (K : List TurnOrder) (p : Telling) (off : ℕ) (xs : List Passing) (ds es : List Desk)
+      (ys : List Passing) (slips : List Slip) → Done (WroteAndPinned shape most) xs ds es ys →
+      PassesAt shape K p off xs → Spelled off ds → slips_on es ≡ map Some slips →
+      EachBy (ActsOn write most) xs slips ys
+  all_acts K p off [] [] [] [] [] h at spells lie = tt
+  all_acts K p off [] [] [] [] (s ∷ slips) h at spells lie =
+      absurd (not_shorter (Some s) (map Some slips) lie)
+  all_acts K p off (a ∷ xs) (d ∷ ds) (e ∷ es) (b ∷ ys) [] h at spells lie =
+      absurd (not_longer e.slip (slips_on es) lie)
+  all_acts K p off (a ∷ xs) (d ∷ ds) (e ∷ es) (b ∷ ys) (s ∷ slips) h at spells lie =
+      let here = same_first e.slip (Some s) (slips_on es) (map Some slips) lie in
+      let rest = same_rest e.slip (Some s) (slips_on es) (map Some slips) lie in (
+        acts_one a d e b s h.0 (spelled_first off d ds a.client (at.0).client spells) here,
+        all_acts K p (off + 1) xs ds es ys slips h.1 at.1 (spelled_rest off d ds spells) rest,
+      )
+  all_acts K p off [] (d ∷ ds) es ys slips h at spells lie = absurd h
+  all_acts K p off [] [] (e ∷ es) ys slips h at spells lie = absurd h
+  all_acts K p off [] [] [] (y ∷ ys) slips h at spells lie = absurd h
+  all_acts K p off (a ∷ xs) [] es ys slips h at spells lie = absurd h
+  all_acts K p off (a ∷ xs) (d ∷ ds) [] ys slips h at spells lie = absurd h
+  all_acts K p off (a ∷ xs) (d ∷ ds) (e ∷ es) [] slips h at spells lie = absurd h
+
+  -- the frames stay on the desks
+  all_frames : (xs : List Passing) (ds es : List Desk) (ys : List Passing) →
+      Done (WroteAndPinned shape most) xs ds es ys → frames_on es ≡ frames_on ds
+  all_frames [] [] [] [] h = refl
+  all_frames (a ∷ xs) (d ∷ ds) (e ∷ es) (b ∷ ys) h =
+      λ i. (h.0).frame i ∷ all_frames xs ds es ys h.1 i
+  all_frames [] (d ∷ ds) es ys h = absurd h
+  all_frames [] [] (e ∷ es) ys h = absurd h
+  all_frames [] [] [] (y ∷ ys) h = absurd h
+  all_frames (a ∷ xs) [] es ys h = absurd h
+  all_frames (a ∷ xs) (d ∷ ds) [] ys h = absurd h
+  all_frames (a ∷ xs) (d ∷ ds) (e ∷ es) [] h = absurd h
+
+pub frames_stay : (shape : Shape) (write : ℕ → WriteFrame)
+    (one : IsOneSpelling (IsWrite shape) write_frame) (g : ℕ) (xs : List Passing) (p : Telling)
+    (ds es : List Desk) (zs : List Passing) (q : Telling) → Acted shape g xs p ds es zs q →
+    frames_on es ≡ frames_on ds
+frames_stay shape write one g xs p ds es zs q h =
+    all_frames shape write one (phases_over shape (g + 1)) xs ds es h.acted h.acts
+
+frames_counted : (ds : List Desk) → length (frames_on ds) ≡ length ds
+frames_counted [] = refl
+frames_counted (d ∷ ds) = ap suc (frames_counted ds)
+
+-- where the desks had the frames of what the clients write, it is a turn of these writes
+pub acted_turned : (shape : Shape) (write : ℕ → WriteFrame)
+    (one : IsOneSpelling (IsWrite shape) write_frame) (K : List TurnOrder) (g : ℕ)
+    (xs : List Passing) (p : Telling) (ds es : List Desk) (zs : List Passing) (q : Telling)
+    (slips : List Slip) → Acted shape g xs p ds es zs q → PassesAt shape K p 0 xs →
+    AreFrames shape write (frames_on ds) → slips_on es ≡ map Some slips →
+    Turned shape write g xs p slips zs q
+acted_turned shape write one K g xs p ds es zs q slips h at frames lie =
+    let most = phases_over shape (g + 1) in
+    let spells : (k : ℕ) (d : List ℕ) → k < length ds →
+    SpellsWrite shape (slice_index_or (frames_on ds) k d) (write (0 + k)) =
+    λ k d low.
+    let same : k ≡ 0 + k = omega arith in
+    subst (λ n. SpellsWrite shape (slice_index_or (frames_on ds) k d) (write n)) same
+    (frames.each k d (omega (arith, low, frames_counted ds)))
+    in
+    record {
+      acted = h.acted;
+      told = h.told;
+      learned = h.learned;
+      acts = all_acts shape write one most K p 0 xs ds es h.acted slips h.acts at spells lie;
+      tells = h.tells;
+      learns = h.learns;
+      met = h.met;
+      shows = h.shows;
+    }

@@ -1,0 +1,80 @@
+-- A run of threads before a turn.
+use Rattle.std.proofs.Common.{◌≡◌, ℕ, ◌*◌, ◌/◌, ◌<◌, ◌≤◌, List, [], length}
+use Rattle.std.proofs.Common.{refl, sym, ◌∙◌, arith, inl, inr}
+use Rattle.std.proofs.lemmas.Bool.{cases_lt}
+use Rattle.std.proofs.Math.Nat.{mul-le-mul_right}
+use Rattle.std.proofs.lemmas.Nat.{div-add-mod'}
+use Rattle.tk_shape.specs.declared.shape.Shape.{Shape}
+use Rattle.tk_shape.specs.Lengths.{turn_count}
+use Rattle.tk_schedule.specs.declared.history.TurnOrder.{TurnOrder}
+use Rattle.tk_schedule.specs.declared.history.History.{History}
+use Rattle.tk_schedule.specs.Schedule.{phases_over}
+use Rattle.tk_script.specs.declared.script.Script.{Script}
+use Rattle.tk_words.specs.Words.{WordBook, words_of}
+use Rattle.tk_report.specs.Entries.{write_at}
+use Rattle.tk_report.specs.Clients.{AreClients, client_knowing, known_first, known_before}
+use Rattle.tk_report.proofs.Offers.{said-none, clients-first, clients-know}
+use Rattle.tk_cluster.specs.Passes.{Passing}
+use Rattle.tk_cluster.specs.Tellings.{Telling}
+use Rattle.tk_cluster.specs.Clusters.{Opened}
+use Rattle.tk_run.specs.declared.group.Group.{Group}
+use Rattle.tk_run.specs.Ran.{Ran}
+use Rattle.tk_run.specs.Courses.{GoesOn, IsCourse}
+use Rattle.tk_run.proofs.RanEnds.{ran_first}
+use Rattle.tk_run.proofs.GoesOnLaws.{filled}
+use Rattle.tk_run.proofs.SightLaws.{some_goes_on}
+
+-- all is opened as it is before the first turn
+pub course_first : (S : Script) (b : WordBook) (group : Group) (xs : List Passing)
+    (p : Telling) → Opened S.shape p xs → group.said ≡ 0 →
+    AreClients S.shape.clients (client_knowing S (known_first S) 0) group.clients.items →
+    IsCourse S b 0 [] group xs p
+course_first S b group xs p opened said clients =
+    record {
+      counted = refl;
+      said = said ∙ sym (said-none S);
+      ran = ran_first S.shape (write_at S (words_of S.shape b)) p xs opened;
+      clients = λ H goes. clients-first S (words_of S.shape b) H group.clients.items clients;
+    }
+
+module _ (S : Script) (b : WordBook) (g : ℕ) (K : List TurnOrder) (group : Group)
+    (xs : List Passing) (p : Telling) (course : IsCourse S b g K group xs p)
+    (low : g < turn_count S.shape) where
+  -- some legal history goes on from the turns so far
+  pub course_goes : GoesOn S.shape K (filled S.shape K)
+  course_goes =
+      some_goes_on S.shape (write_at S (words_of S.shape b)) K xs p course.ran
+      (omega (arith, low, course.counted))
+
+  pub course_counted : length group.clients.items ≡ S.shape.clients
+  course_counted = (course.clients (filled S.shape K) course_goes).counted
+
+  -- however it goes on, the clients know what they knew before it
+  pub course_knows : (H : History) → GoesOn S.shape K H →
+      AreClients S.shape.clients (client_knowing S (known_before S (words_of S.shape b) H g) g)
+      group.clients.items
+  course_knows H goes =
+      clients-know S (words_of S.shape b) H g group.clients.items (course.clients H goes)
+
+-- a phase isn't over before the last of its turns
+pub over_below : (shape : Shape) (g : ℕ) → g < turn_count shape → phases_over shape g < shape.phases
+over_below shape g low = less shape.ticks (g / shape.ticks) shape.phases g below low
+  where
+    below : g / shape.ticks * shape.ticks ≤ g
+    below = omega (arith, div-add-mod' g shape.ticks)
+
+    -- q whole phases of t turns fit into g, which lies within n phases
+    less : (t q n g : ℕ) → q * t ≤ g → g < n * t → q < n
+    less t q n g fits within = elim (cases_lt q n) [
+      | inl is ↦ is
+      | inr isnt ↦
+          let more : n * t ≤ q * t = mul-le-mul_right t isnt in
+          absurd (omega (arith, more, fits, within))
+    ]
+
+pub ran_room : (S : Script) (b : WordBook) (K : List TurnOrder) (xs : List Passing)
+    (p : Telling) → Ran S.shape (write_at S (words_of S.shape b)) K xs p →
+    length K < turn_count S.shape → length p.shown ≤ S.shape.phases
+ran_room S b K xs p ran low =
+    let below = over_below S.shape (length K) low in
+    omega (arith, ran.shown, below)

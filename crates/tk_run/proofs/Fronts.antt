@@ -1,0 +1,52 @@
+-- What taps have where giving ended early.
+use Rattle.std.proofs.Common.{◌≡◌, ◌≢◌, refl, ap, sym, ◌∙◌, subst, arith, inl, inr}
+use Rattle.std.proofs.Common.{ℕ, zero, suc, ◌+◌, ◌-◌, ◌<◌, ◌≤◌, ◌⊎◌, List, [], ◌∷◌, length}
+use Rattle.std.specs.Prelude.{Option, slice_index_or}
+use Rattle.std.proofs.lemmas.Bool.{cases_lt}
+use Rattle.tk_io.specs.Content.{gained}
+use Rattle.tk_io.specs.Tapped.{GainsFront, TapsGain, TapsGainFronts, TapsKeepBut}
+use Rattle.std.specs.Prelude.{Result, Ok, Err}
+use Rattle.std.specs.Result.{IsErr}
+use Rattle.tk_run.specs.Threads.{TapsAfter}
+use Rattle.tk_io.proofs.Offers.{gained-nothing, front-of_all}
+
+-- the first i taps gained all, the next one a front, and the others nothing
+pub fronts-here : (i n : ℕ) (bytes : ℕ → List ℕ) (old mid new : ℕ → Option (List ℕ)) →
+    TapsGain i bytes old mid → TapsKeepBut i old mid →
+    GainsFront (mid (i + 1)) (new (i + 1)) (bytes (i + 1)) →
+    ((j : ℕ) → j ≢ i + 1 → new j ≡ mid j) → TapsGainFronts n bytes old new
+fronts-here i n bytes old mid new gave keep front stay j low high =
+    elim (cases_lt j (i + 1)) [
+      | inl before ↦
+          front-of_all (old j) (new j) (bytes j)
+          (stay j (λ same. omega (arith, same, before)) ∙ gave j low (omega (arith, before)))
+      | inr at ↦ elim (cases_lt (i + 1) j) [
+        | inl past ↦ (
+          0,
+          stay j (λ same. omega (arith, same, past)) ∙ keep j (inr (omega (arith, past)))
+              ∙ sym (gained-nothing (old j)),
+        )
+        | inr upto ↦
+            let same : i + 1 ≡ j = omega (arith, at, upto) in
+            subst (λ (k : ℕ). GainsFront (old k) (new k) (bytes k)) same
+            (subst (λ (t : Option (List ℕ)). GainsFront t (new (i + 1)) (bytes (i + 1)))
+            (keep (i + 1) (inr (omega arith))) front)
+      ]
+    ]
+
+-- no tap behind the last one changed
+pub kept-here : (i n : ℕ) (old mid new : ℕ → Option (List ℕ)) → i < n →
+    TapsKeepBut i old mid → ((j : ℕ) → j ≢ i + 1 → new j ≡ mid j) → TapsKeepBut n old new
+kept-here i n old mid new within keep stay j (inl none) =
+    stay j (λ same. omega (arith, same, none)) ∙ keep j (inl none)
+kept-here i n old mid new within keep stay j (inr past) =
+    stay j (λ same. omega (arith, same, past, within))
+    ∙ keep j (inr (omega (arith, past, within)))
+
+-- an error with fronts
+pub failed : {X E : Type 0} (r : Result X E) (n : ℕ) (bytes : ℕ → List ℕ)
+    (old new : ℕ → Option (List ℕ)) → IsErr r → TapsGainFronts n bytes old new →
+    TapsKeepBut n old new → TapsAfter r n bytes old new
+failed (Ok x) n bytes old new is fronts keep = absurd (cc is)
+failed (Err d) n bytes old new is fronts keep =
+    record { ok = tt; err = fronts; others = keep }

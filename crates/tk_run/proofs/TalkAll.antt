@@ -1,0 +1,201 @@
+-- All clients with their reads, before and after.
+use Rattle.std.proofs.Common.{◌≡◌, refl, ap, ap₂, sym, ◌∙◌, subst, arith}
+use Rattle.std.proofs.Common.{ℕ, zero, suc, ◌+◌, ◌<◌, ◌≤◌, List, [], ◌∷◌, ◌++◌, length, map}
+use Rattle.std.proofs.Common.{length-append, true, false, Bool, not, All, take, None}
+use Rattle.std.proofs.lemmas.List.{map-append, length-map}
+use Rattle.std.specs.Prelude.{slice_index_or}
+use Rattle.std.specs.Arc.{arc_value}
+use Rattle.tk_shape.specs.declared.shape.Shape.{Shape}
+use Rattle.tk_shape.specs.Lengths.{turn_count}
+use Rattle.tk_schedule.specs.declared.history.History.{History}
+use Rattle.tk_schedule.specs.Schedule.{IsLegal, epoch_at}
+use Rattle.tk_script.specs.declared.script.Script.{Script}
+use Rattle.tk_words.specs.Words.{WordBook, words_of}
+use Rattle.tk_client.specs.Client.{ClientState}
+use Rattle.tk_cluster.specs.declared.set.EpochSet.{EpochSet}
+use Rattle.tk_run.specs.declared.slip.Slip.{Slip}
+use Rattle.tk_run.specs.declared.talking.Talk.{Talk}
+use Rattle.tk_run.specs.declared.talking.Reading.{Reading}
+use Rattle.tk_run.specs.Clients.{AreClients, client_wrote, client_before}
+use Rattle.tk_run.specs.Ran.{set_on}
+use Rattle.tk_run.specs.Courses.{MayAsk, MayTalk, Talks, MayRead, AreBlank, IsBlank}
+use Rattle.tk_run.specs.Courses.{AreTalks}
+use Rattle.tk_run.specs.Reading.{MayReadOn, HasReadOn, readers, talks_of}
+use Rattle.tk_run.specs.Ticks.{Done}
+use Rattle.tk_run.proofs.Cuts.{take_one_more}
+use Rattle.tk_run.proofs.ReadingLaws.{epoch-most}
+use Rattle.tk_run.proofs.AskingLaws.{wrote-shape, wrote-closed}
+use Rattle.tk_run.proofs.TalkLaws.{all_talked}
+
+-- ---- before
+
+-- a blank read has the set of its slip
+blank-at : (turn : ℕ) (ds : List Slip) (ts : List Talk) → AreBlank turn ds ts →
+    (k : ℕ) (d : Slip) (t : Talk) → k < length ts →
+    IsBlank turn (slice_index_or ds k d) (slice_index_or ts k t)
+blank-at turn [] [] are k d t low = absurd (omega (arith, low))
+blank-at turn (e ∷ ds) (u ∷ ts) are zero d t low = are.0
+blank-at turn (e ∷ ds) (u ∷ ts) are (suc k) d t low =
+    blank-at turn ds ts are.1 k d t (omega (arith, low))
+blank-at turn [] (u ∷ ts) are k d t low = absurd are
+blank-at turn (e ∷ ds) [] are k d t low = absurd are
+
+blank-length : (turn : ℕ) (ds : List Slip) (ts : List Talk) → AreBlank turn ds ts →
+    length ds ≡ length ts
+blank-length turn [] [] are = refl
+blank-length turn (e ∷ ds) (u ∷ ts) are = ap suc (blank-length turn ds ts are.1)
+blank-length turn [] (u ∷ ts) are = absurd are
+blank-length turn (e ∷ ds) [] are = absurd are
+
+map-at : {X Y : Type 0} (f : X → Y) (xs : List X) (k : ℕ) (d : X) → k < length xs →
+    slice_index_or (map f xs) k (f d) ≡ f (slice_index_or xs k d)
+map-at f [] k d low = absurd (omega (arith, low))
+map-at f (x ∷ xs) zero d low = refl
+map-at f (x ∷ xs) (suc k) d low = map-at f xs k d (omega (arith, low))
+
+pub all-may : (S : Script) (b : WordBook) (H : History) (g : ℕ) (clients : List ClientState)
+    (slips : List Slip) (rs : List Reading) → MayRead S b H g clients slips →
+    readers rs ≡ clients → AreBlank g slips (talks_of rs) → All (MayReadOn S.shape) rs
+all-may S b H g clients slips rs may same blank k d low =
+    let long : length (readers rs) ≡ length rs = length-map rs (λ (r : Reading). r.client) in
+    let counted : length rs ≡ S.shape.clients =
+    sym long ∙ ap length same ∙ may.wrote.counted
+    in
+    let low_c : k < S.shape.clients = omega (arith, low, counted) in
+    let r = slice_index_or rs k d in
+    let inside : k < length clients = omega (arith, low_c, may.wrote.counted) in
+    let client : r.client ≡ client_wrote S (words_of S.shape b) H g k =
+    sym (map-at (λ (x : Reading). x.client) rs k d low)
+    ∙ ap (λ (xs : List ClientState). slice_index_or xs k d.client) same
+    ∙ may.wrote.each k d.client inside
+    in
+    let slip : Slip = record { position = 0; set = d.talk.set } in
+    let few : k < length (talks_of rs) =
+    omega (arith, low, length-map rs (λ (x : Reading). x.talk))
+    in
+    let is = blank-at g slips (talks_of rs) blank k slip d.talk few in
+    let talk : slice_index_or (talks_of rs) k d.talk ≡ r.talk =
+    map-at (λ (x : Reading). x.talk) rs k d low
+    in
+    let is_here : IsBlank g (slice_index_or slips k slip) r.talk =
+    subst (IsBlank g (slice_index_or slips k slip)) talk is
+    in
+    let stands = may.sets.each k slip (omega (arith, low_c, may.sets.counted)) in
+    let set : arc_value r.talk.set ≡ set_on (slice_index_or slips k slip) = is_here.set in
+    record {
+      client = record {
+        same = wrote-shape S (words_of S.shape b) H g k r.client client;
+        closed = wrote-closed S (words_of S.shape b) H g k r.client client;
+      };
+      talk = record {
+        turn_in = subst (λ n. n < turn_count S.shape) (sym is_here.turn_is) may.turn_in;
+        set = ap (λ (s : EpochSet). s.shape) set ∙ stands.same;
+        epoch_in =
+            let number : (arc_value r.talk.set).number ≡ epoch_at H g k =
+            ap (λ (s : EpochSet). s.number) set ∙ stands.number
+            in
+            subst (λ n. n ≤ S.shape.phases) (sym number)
+            (epoch-most S H g k may.legal may.turn_in low_c);
+        none_asked = is_here.none_asked;
+      };
+    }
+
+-- ---- after
+
+-- each has read, place by place
+pub done-all : (b : WordBook) (old new : List Reading) → length new ≡ length old →
+    ((k : ℕ) (d : Reading) → k < length old →
+    HasReadOn b (slice_index_or old k d) (slice_index_or new k d)) →
+    Done (Talks b) (readers old) (talks_of old) (talks_of new) (readers new)
+done-all b [] [] same each = tt
+done-all b (x ∷ old) (y ∷ new) same each = (
+  each 0 x (omega arith),
+  done-all b old new (omega (arith, same)) (λ k d low. each (suc k) d (omega (arith, low))),
+)
+done-all b [] (y ∷ new) same each = absurd (omega (arith, same))
+done-all b (x ∷ old) [] same each = absurd (omega (arith, same))
+
+-- all have read, where none answers that it couldn't
+pub talked : (S : Script) (b : WordBook) (H : History) (g : ℕ) (clients : List ClientState)
+    (slips : List Slip) (before mid after last : List Reading) → MayRead S b H g clients slips →
+    readers before ≡ clients → AreBlank g slips (talks_of before) → mid ≡ before →
+    length after ≡ length mid →
+    ((k : ℕ) (d : Reading) → k < length mid → (slice_index_or after k d).done ≡ true →
+    HasReadOn b (slice_index_or mid k d) (slice_index_or after k d)) →
+    last ≡ after → All (λ (r : Reading). r.done ≡ true) last →
+    AreClients S.shape.clients (client_before S (words_of S.shape b) H (g + 1)) (readers last)
+    × AreTalks S b H g (talks_of last)
+talked S b H g clients slips before mid after last may readers_are blank mid_is counted each last_is
+    done =
+    let as_long : length mid ≡ length before = ap length mid_is in
+    let last_long : length last ≡ length after = ap length last_is in
+    let read : (k : ℕ) (d : Reading) → k < length before →
+    HasReadOn b (slice_index_or before k d) (slice_index_or after k d) =
+    λ k d low.
+    subst (λ (xs : List Reading).
+    HasReadOn b (slice_index_or xs k d) (slice_index_or after k d)) mid_is
+    (each k d (omega (arith, low, as_long))
+    (subst (λ (xs : List Reading). (slice_index_or xs k d).done ≡ true) last_is
+    (done k d (omega (arith, low, as_long, last_long, counted)))))
+    in
+    let all = done-all b before after (counted ∙ as_long) read in
+    let got =
+    all_talked S b H g clients (readers after) slips (talks_of before) (talks_of after) may
+    blank
+    (subst (λ (cs : List ClientState). Done (Talks b) cs (talks_of before) (talks_of after)
+    (readers after)) readers_are all)
+    in (
+      subst (AreClients S.shape.clients (client_before S (words_of S.shape b) H (g + 1)))
+          (ap readers (sym last_is)) got.0,
+      subst (AreTalks S b H g) (ap talks_of (sym last_is)) got.1,
+    )
+
+-- ---- one by one
+
+-- one more blank read
+pub blank-next : (turn : ℕ) (ds : List Slip) (d : Slip) (ts : List Talk) (t : Talk) →
+    AreBlank turn ds ts → IsBlank turn d t → AreBlank turn (ds ++ d ∷ []) (ts ++ t ∷ [])
+blank-next turn [] d [] t are is = (is, tt)
+blank-next turn (e ∷ ds) d (u ∷ ts) t are is = (are.0, blank-next turn ds d ts t are.1 is)
+blank-next turn [] d (u ∷ ts) t are is = absurd are
+blank-next turn (e ∷ ds) d [] t are is = absurd are
+
+pub all-next : {X : Type 0} (P : X → Type 0) (xs : List X) (x : X) → All P xs → P x →
+    All P (xs ++ x ∷ [])
+all-next P [] x all is zero d low = is
+all-next P [] x all is (suc k) d low = absurd (omega (arith, low))
+all-next P (y ∷ xs) x all is zero d low = all 0 y (omega arith)
+all-next P (y ∷ xs) x all is (suc k) d low =
+    all-next P xs x (λ j e inside. all (suc j) e (omega (arith, inside))) is k d
+    (omega (arith, low))
+
+-- what is known of the first readings
+pub record Paired (turn : ℕ) (slips : List Slip) (clients : List ClientState) (rs : List Reading)
+    : Type 0 where
+  pub counted : length rs ≡ length clients
+  pub clients_are : readers rs ≡ clients
+  pub talks : AreBlank turn (take (length clients) slips) (talks_of rs)
+
+pub paired-next : (turn : ℕ) (slips : List Slip) (clients : List ClientState)
+    (rs more : List Reading) (slip : Slip) (client : ClientState) (r : Reading) →
+    length clients < length slips → slip ≡ slice_index_or slips (length clients) slip →
+    Paired turn slips clients rs → more ≡ rs ++ r ∷ [] → r.client ≡ client →
+    IsBlank turn slip r.talk → Paired turn slips (clients ++ client ∷ []) more
+paired-next turn slips clients rs more slip client r low at h pushed of is =
+    let long : length (clients ++ client ∷ []) ≡ length clients + 1 =
+    length-append clients (client ∷ [])
+    in
+    record {
+      counted =
+          ap length pushed ∙ length-append rs (r ∷ []) ∙ omega (arith, h.counted, long);
+      clients_are =
+          ap readers pushed ∙ map-append (λ (x : Reading). x.client) rs (r ∷ [])
+          ∙ ap₂ (λ xs x. xs ++ x ∷ []) h.clients_are of;
+      talks =
+          subst (λ n. AreBlank turn (take n slips) (talks_of more)) (sym long)
+          (subst (λ ds. AreBlank turn ds (talks_of more))
+          (sym (take_one_more slips (length clients) slip low at))
+          (subst (AreBlank turn (take (length clients) slips ++ slip ∷ []))
+          (sym (ap talks_of pushed ∙ map-append (λ (x : Reading). x.talk) rs (r ∷ [])))
+          (blank-next turn (take (length clients) slips) slip (talks_of rs) r.talk h.talks is)));
+    }

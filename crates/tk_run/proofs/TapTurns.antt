@@ -1,0 +1,100 @@
+-- What taps gain, turn after turn of a run of threads.
+use Rattle.std.proofs.Common.{◌≡◌, ℕ, ◌+◌, ◌-◌, ◌<◌, ◌≤◌, List, [], length}
+use Rattle.std.proofs.Common.{ap, ◌∙◌, subst, arith, Option}
+use Rattle.std.specs.Prelude.{slice_index_or}
+use mathlib.Core.List.{IsPrefix}
+use Rattle.tk_shape.specs.declared.shape.Shape.{Shape}
+use Rattle.tk_shape.specs.Lengths.{turn_count}
+use Rattle.tk_schedule.specs.declared.history.TurnOrder.{TurnOrder}
+use Rattle.tk_schedule.specs.declared.history.History.{History}
+use Rattle.tk_script.specs.declared.script.Script.{Script}
+use Rattle.tk_words.specs.Words.{WordBook}
+use Rattle.tk_io.specs.Tapped.{GainsFront, TapsGain, TapsGainFronts, TapsKeepBut}
+use Rattle.tk_io.proofs.Offers.{taps-same}
+use Rattle.tk_order.proofs.Offers.{prefix_trans}
+use Rattle.tk_report.specs.Exchange.{exchange, bytes_of}
+use Rattle.tk_run.specs.Turns.{turn_seen, seen_before}
+use Rattle.tk_run.specs.Courses.{GoesOn, AreSights}
+use Rattle.tk_run.proofs.SeenLaws.{taps-first, taps-next, taps-all, fronts-next}
+
+abbrev Taps : Type 0
+Taps = ℕ → Option (List ℕ)
+
+-- what goes on from more turns goes on from fewer
+pub goes_on_before : (shape : Shape) (before after : List TurnOrder) (H : History) →
+    IsPrefix before after → GoesOn shape after H → GoesOn shape before H
+goes_on_before shape before after H p goes =
+    record { legal = goes.legal; begins = prefix_trans before after H p goes.begins }
+
+-- ---- a turn
+
+-- what lies at the place of a server
+abbrev pub sight_at : List (List ℕ) → ℕ → List ℕ
+sight_at sights j = slice_index_or sights (j - 1) []
+
+module _ (S : Script) (b : WordBook) (H : History) (g : ℕ) (sights : List (List ℕ))
+    (are : AreSights S b H g sights) where
+  sight_is : (j : ℕ) → 1 ≤ j → j ≤ S.shape.servers → sight_at sights j ≡ turn_seen S b H g j
+  sight_is j low high =
+      let number : j - 1 + 1 ≡ j = omega (arith, low) in
+      are.each (j - 1) [] (omega (arith, low, high, are.counted))
+      ∙ ap (turn_seen S b H g) number
+
+  -- taps that gain what was seen of a turn
+  pub sights_gain : (old new : Taps) → TapsGain (length sights) (sight_at sights) old new →
+      TapsGain S.shape.servers (turn_seen S b H g) old new
+  sights_gain old new gain =
+      taps-same S.shape.servers (sight_at sights) (turn_seen S b H g) old new sight_is
+      (subst (λ n. TapsGain n (sight_at sights) old new) are.counted gain)
+
+  -- and taps that gain fronts of it
+  pub sights_fronts : (old new : Taps) →
+      TapsGainFronts (length sights) (sight_at sights) old new →
+      TapsGainFronts S.shape.servers (turn_seen S b H g) old new
+  sights_fronts old new gain j low high =
+      subst (GainsFront (old j) (new j)) (sight_is j low high)
+      (gain j low (omega (arith, high, are.counted)))
+
+  pub sights_keep : (old new : Taps) → TapsKeepBut (length sights) old new →
+      TapsKeepBut S.shape.servers old new
+  sights_keep old new keep = subst (λ n. TapsKeepBut n old new) are.counted keep
+
+-- ---- the turns so far
+
+-- however the run goes on from these turns, the taps gained what is seen before turn g
+abbrev pub GainedBefore : Script → WordBook → ℕ → List TurnOrder → Taps → Taps → Type 0
+GainedBefore S b g turns old new =
+    (H : History) → GoesOn S.shape turns H →
+    TapsGain S.shape.servers (seen_before S b H g) old new
+
+module _ (S : Script) (b : WordBook) where
+  pub gained_first : (turns : List TurnOrder) (taps : Taps) → GainedBefore S b 0 turns taps taps
+  gained_first turns taps H goes = taps-first S b H taps
+
+  pub gained_next : (g : ℕ) (before after : List TurnOrder) (old now new : Taps) →
+      IsPrefix before after → GainedBefore S b g before old now →
+      ((H : History) → GoesOn S.shape after H →
+      TapsGain S.shape.servers (turn_seen S b H g) now new) →
+      GainedBefore S b (g + 1) after old new
+  gained_next g before after old now new p so_far turn H goes =
+      taps-next S b H g old now new
+      (so_far H (goes_on_before S.shape before after H p goes)) (turn H goes)
+
+  -- after all turns it is the whole exchange
+  pub gained_all : (g : ℕ) (turns : List TurnOrder) (old new : Taps) → g ≡ turn_count S.shape →
+      GainedBefore S b g turns old new → (H : History) → GoesOn S.shape turns H →
+      TapsGain S.shape.servers (λ (j : ℕ). bytes_of (exchange S b H j)) old new
+  gained_all g turns old new all so_far H goes =
+      taps-all S b H g old new all (so_far H goes)
+
+  -- where a turn stopped, a front of it
+  pub gained_fronts : (g : ℕ) (before : List TurnOrder) (old now new : Taps) →
+      g < turn_count S.shape → GainedBefore S b g before old now → (H : History) →
+      GoesOn S.shape before H → TapsGainFronts S.shape.servers (turn_seen S b H g) now new →
+      TapsGainFronts S.shape.servers (λ (j : ℕ). bytes_of (exchange S b H j)) old new
+  gained_fronts g before old now new low so_far H goes turn =
+      fronts-next S b H g old now new low (so_far H goes) turn
+
+pub keep_twice : (n : ℕ) (old now new : Taps) → TapsKeepBut n old now → TapsKeepBut n now new →
+    TapsKeepBut n old new
+keep_twice n old now new first second j other = second j other ∙ first j other

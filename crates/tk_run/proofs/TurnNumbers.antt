@@ -1,0 +1,150 @@
+-- Numbers of turns, and lists of turns with one more behind.
+use Rattle.std.proofs.Common.{◌≡◌, ℕ, zero, suc, ◌+◌, ◌*◌, ◌/◌, ◌%◌, ◌<◌, ◌⊎◌, inl, inr}
+use Rattle.std.proofs.Common.{Bool, cond, List, [], ◌∷◌, ◌++◌, length}
+use Rattle.std.proofs.Common.{refl, ap, sym, ◌∙◌, arith, add-one, suc-mul, ne_eqb, length-append}
+use Rattle.std.proofs.Common.{append-nil}
+use Rattle.std.specs.Prelude.{slice_index, slice_index_or, ◌==◌}
+use Rattle.std.proofs.lemmas.Nat.{div-add-mod', div-mul-add, mod-mul-add}
+use Rattle.std.proofs.Math.Nat.{mod-lt, zero-mul}
+use Rattle.tk_shape.specs.declared.shape.Shape.{Shape}
+use Rattle.tk_frames.specs.declared.write_frame.WriteFrame.{WriteFrame}
+use Rattle.tk_frames.specs.declared.entry.Placed.{Placed}
+use Rattle.tk_schedule.specs.declared.history.TurnOrder.{TurnOrder}
+use Rattle.tk_schedule.specs.Schedule.{blank_turn, IsTurn, phases_over, marks_due, order_at}
+use Rattle.tk_report.specs.Entries.{placed_after, entries_before}
+use Rattle.tk_report.specs.Agreement.{SameOrders}
+use Rattle.tk_report.proofs.Offers.{fronts-agree, entries-agree, length-placed_from}
+use Rattle.tk_run.specs.Ran.{epochs_in}
+
+-- ---- numbers
+
+abbrev one_if : Bool → ℕ
+one_if b = cond b 1 0
+
+one_more : (q n : ℕ) → (q + 1) * n ≡ q * n + n
+one_more q n = omega (arith, suc-mul q n, ap (λ k. k * n) (add-one q))
+
+below_or_last : (r n : ℕ) → r < n → (r + 1 < n) ⊎ (r + 1 ≡ n)
+below_or_last zero zero h = absurd (omega (arith, h))
+below_or_last zero (suc zero) h = inr refl
+below_or_last zero (suc (suc n)) h = inl (omega arith)
+below_or_last (suc r) zero h = absurd (omega (arith, h))
+below_or_last (suc r) (suc n) h =
+    elim (below_or_last r n (omega (arith, h)))
+    [ inl l ↦ inl (omega (arith, l)) | inr e ↦ inr (omega (arith, e)) ]
+
+-- a turn behind turn g, in a phase of t turns
+next_in_phase : (t g : ℕ) → 0 < t → (g + 1) / t ≡ g / t + cond ((g + 1) % t == 0) 1 0
+next_in_phase t g some =
+    let split : g / t * t + g % t ≡ g = div-add-mod' g t in
+    let low : g % t < t = mod-lt g some in
+    elim (below_or_last (g % t) t low) [
+      | inl in_phase ↦
+          let whole : g / t * t + (g % t + 1) ≡ g + 1 = omega (arith, split) in
+          let quotient : (g + 1) / t ≡ g / t =
+          ap (λ n. n / t) (sym whole) ∙ div-mul-add (g / t) t (g % t + 1) in_phase
+          in
+          let rest : (g + 1) % t ≡ g % t + 1 =
+          ap (λ n. n % t) (sym whole) ∙ mod-mul-add (g / t) t (g % t + 1) in_phase
+          in
+          quotient ∙ omega (
+            arith,
+            ap one_if (ap (λ n. n == 0) rest ∙ ne_eqb (g % t + 1) 0 (λ e. omega (arith, e))),
+          )
+      | inr last ↦
+          let whole : (g / t + 1) * t + 0 ≡ g + 1 = omega (arith, split, last, one_more (g / t) t) in
+          let quotient : (g + 1) / t ≡ g / t + 1 =
+          ap (λ n. n / t) (sym whole) ∙ div-mul-add (g / t + 1) t 0 some
+          in
+          let rest : (g + 1) % t ≡ 0 =
+          ap (λ n. n % t) (sym whole) ∙ mod-mul-add (g / t + 1) t 0 some
+          in
+          quotient ∙ omega (arith, ap one_if (ap (λ n. n == 0) rest))
+    ]
+
+pub over_next : (shape : Shape) (g : ℕ) →
+    phases_over shape (g + 1) ≡ phases_over shape g + marks_due shape g
+over_next shape g = next_in_phase shape.ticks g shape.in_range.ticks_low
+
+pub over_first : (shape : Shape) → phases_over shape 0 ≡ 0
+over_first shape =
+    let nothing : 0 * shape.ticks + 0 ≡ 0 = omega (arith, zero-mul shape.ticks) in
+    ap (λ n. n / shape.ticks) (sym nothing) ∙ div-mul-add 0 shape.ticks 0 shape.in_range.ticks_low
+
+-- ---- lists of turns
+
+pub index_mid : (xs : List ℕ) (y : ℕ) (ys : List ℕ) → slice_index (xs ++ y ∷ ys) (length xs) ≡ y
+index_mid [] y ys = refl
+index_mid (x ∷ xs) y ys = index_mid xs y ys
+
+pub turns_more : (P : ℕ → TurnOrder → Type 0) (K : List TurnOrder) (t : TurnOrder) →
+    ((k : ℕ) → k < length K → P k (slice_index_or K k blank_turn)) → P (length K) t → (k : ℕ) →
+    k < length K + 1 → P k (slice_index_or (K ++ t ∷ []) k blank_turn)
+turns_more P [] t f last zero low = last
+turns_more P [] t f last (suc k) low = absurd (omega (arith, low))
+turns_more P (x ∷ K) t f last zero low = f 0 (omega arith)
+turns_more P (x ∷ K) t f last (suc k) low =
+    turns_more (λ j. P (suc j)) K t (λ j l. f (suc j) (omega (arith, l))) last k
+    (omega (arith, low))
+
+pub turn_last : (K : List TurnOrder) (t : TurnOrder) (more : List TurnOrder) →
+    slice_index_or (K ++ t ∷ more) (length K) blank_turn ≡ t
+turn_last [] t more = refl
+turn_last (x ∷ K) t more = turn_last K t more
+
+pub epochs_more : (K : List TurnOrder) (t : TurnOrder) (c : ℕ) →
+    epochs_in (K ++ t ∷ []) c ≡ epochs_in K c ++ slice_index t.epochs c ∷ []
+epochs_more [] t c = refl
+epochs_more (x ∷ K) t c = ap (λ ys. slice_index x.epochs c ∷ ys) (epochs_more K t c)
+
+-- the orders of the turns so far, whatever follows
+pub orders_front : (K more : List TurnOrder) → SameOrders (K ++ more) K (length K)
+orders_front K more k low =
+    let same = fronts-agree K more [] (length K) (omega arith) in
+    same.0 k low ∙ ap (λ H. order_at H k) (append-nil K)
+
+-- ---- entries
+
+module _ (write : ℕ → ℕ → WriteFrame) where
+  -- those of the turns so far, whatever follows
+  pub entries_front : (K more : List TurnOrder) →
+      entries_before write (K ++ more) (length K) ≡ entries_before write K (length K)
+  entries_front K more = entries-agree write (K ++ more) K (length K) (orders_front K more)
+
+  -- those of one turn more
+  pub entries_more : (K : List TurnOrder) (t : TurnOrder) (E : List Placed) →
+      E ≡ entries_before write K (length K) →
+      entries_before write (K ++ t ∷ []) (suc (length K))
+      ≡ E ++ placed_after (write (length K)) E t.order
+  unfolding entries_before
+  entries_more K t E is =
+      let before : entries_before write (K ++ t ∷ []) (length K) ≡ E =
+      entries_front K (t ∷ []) ∙ sym is
+      in
+      let last : order_at (K ++ t ∷ []) (length K) ≡ t.order =
+      ap (λ (x : TurnOrder). x.order) (turn_last K t [])
+      in
+      λ i. before i ++ placed_after (write (length K)) (before i) (last i)
+
+  -- how many there are
+  pub entries_counted : (shape : Shape) (K : List TurnOrder) (g : ℕ) →
+      ((k : ℕ) → k < g → IsTurn shape k (slice_index_or K k blank_turn)) →
+      length (entries_before write K g) ≡ g * shape.clients + phases_over shape g
+  unfolding entries_before
+  entries_counted shape K zero turns = omega (arith, zero-mul shape.clients, over_first shape)
+  entries_counted shape K (suc g) turns =
+      let E = entries_before write K g in
+      let here : length (placed_after (write g) E (order_at K g)) ≡ length (order_at K g) =
+      length-placed_from (write g) _ _ (order_at K g)
+      in
+      let next : g + 1 ≡ suc g = omega arith in
+      omega (
+        arith,
+        length-append E (placed_after (write g) E (order_at K g)),
+        here,
+        (turns g (omega arith)).counted,
+        entries_counted shape K g (λ k low. turns k (omega (arith, low))),
+        over_next shape g,
+        ap (phases_over shape) next,
+        suc-mul g shape.clients,
+      )

@@ -1,0 +1,25 @@
+-- One reading more is done, and taken apart.
+use Rattle.std.proofs.Common.{◌≡◌, ◌+◌, ◌++◌, ◌∷◌, [], ap, sym, ◌∙◌, List, true, rules}
+use Rattle.std.proofs.lemmas.List.{map-append}
+use Rattle.tk_client.specs.Client.{ClientState}
+use Rattle.tk_run.specs.declared.talking.Talk.{Talk}
+use Rattle.tk_run.specs.declared.talking.Reading.{Reading}
+use Rattle.tk_run.proofs.TalkAll.{all-next}
+use Rattle.tk_run.proofs.talking.parted.Goals as goal
+
+pub parting-preserved : goal.parting-preserved
+parting-preserved c =
+    let so_far = c.parting.invariant in
+    let read = c.parting.yielded in
+    let reading = c.in-Some.reading in
+    record {
+      done = all-next (λ (r : Reading). r.done ≡ true) read reading so_far.done (search rules);
+      clients =
+          c.in_ok-push.ensures.items
+          ∙ ap (λ (xs : List ClientState). xs ++ reading.client ∷ []) so_far.clients
+          ∙ sym (map-append (λ (r : Reading). r.client) read (reading ∷ []));
+      talks =
+          c.in_ok-push-2.ensures.items
+          ∙ ap (λ (xs : List Talk). xs ++ reading.talk ∷ []) so_far.talks
+          ∙ sym (map-append (λ (r : Reading). r.talk) read (reading ∷ []));
+    }

@@ -1,0 +1,69 @@
+-- What clients and publisher do in a turn, all at once.
+use Rattle.std.specs.Prelude.{◌≡◌, ℕ, ◌+◌, ◌<◌, ◌≤◌, Bool, true, false, MatchBool}
+use Rattle.std.specs.Prelude.{Option, Some, None, List, length, map, slice_index_or}
+use Rattle.tk_shape.specs.declared.shape.Shape.{Shape}
+use Rattle.tk_shape.specs.Lengths.{turn_count}
+use Rattle.tk_frames.specs.declared.write_frame.WriteFrame.{WriteFrame}
+use Rattle.tk_schedule.specs.Schedule.{is_closing, phases_over}
+use Rattle.tk_board.specs.Boards.{Known}
+use Rattle.tk_cluster.specs.declared.set.EpochSet.{EpochSet}
+use Rattle.tk_cluster.specs.Refusals.{SpellsWrite}
+use Rattle.tk_cluster.specs.Sets.{Shows}
+use Rattle.tk_cluster.specs.Passes.{Passing, own, WroteBytes, Pins, Reads}
+use Rattle.tk_cluster.specs.Tellings.{Telling, told_of, Published}
+use Rattle.tk_cluster.specs.Clusters.{Met}
+use Rattle.tk_run.specs.declared.slip.Slip.{Slip}
+use Rattle.tk_run.specs.declared.acting.Desk.{Desk}
+use Rattle.tk_run.specs.Ran.{AllLearn, set_on}
+use Rattle.tk_run.specs.Ticks.{Done}
+
+-- a pass may write once more, and pin a set of at most this number
+pub record IsReady (shape : Shape) (most : ℕ) (a : Passing) : Type 0 where
+  pub room : length (own a) < turn_count shape
+  pub known : a.reads.known ≤ most
+
+-- Its client's pass ordered the write that the desk's frame spells, and then pinned a set of at
+-- most this number. What it has of it lies on the desk.
+pub record WroteAndPinned (shape : Shape) (most : ℕ) (a : Passing) (d e : Desk) (b : Passing)
+    : Type 0 where
+  pub frame : e.frame.items ≡ d.frame.items
+  pub slip : Slip
+  pub lies : e.slip ≡ Some slip
+  pub mid : Passing
+  pub wrote : WroteBytes shape d.frame.items a mid
+  pub position : slip.position ≡ length mid.seen
+  pub pins : Reads (λ r s. Pins r most (set_on slip) s) mid b
+
+-- what was told in a turn, where it closes a phase or not
+abbrev pub Heralds : Shape → Bool → Telling → Option (Known EpochSet) → Telling → Type 0
+Heralds shape closing p None q = (closing ≡ false) × (q ≡ p)
+Heralds shape closing p (Some t) q = (closing ≡ true) × Published shape p q × (t ≡ told_of q)
+
+-- Turn g: each client writes and pins, and the publisher publishes where the turn closes a phase.
+-- Then each pass learns of it, and then all meet.
+pub record Acted (shape : Shape) (g : ℕ) (xs : List Passing) (p : Telling) (ds es : List Desk)
+    (zs : List Passing) (q : Telling) : Type 0 where
+  pub acted : List Passing
+  pub told : Telling
+  pub learned : List Passing
+  pub acts : Done (WroteAndPinned shape (phases_over shape (g + 1))) xs ds es acted
+  pub tells : MatchBool (is_closing shape g) (Published shape p told) (told ≡ p)
+  pub learns : MatchBool (is_closing shape g) (AllLearn told acted learned) (learned ≡ acted)
+  pub met : Met shape learned told zs q
+  pub shows : Shows shape q.shown q.seen
+
+-- ---- desks
+
+-- frames that spell these writes, which are in range: one for each client, by number
+pub record AreFrames (shape : Shape) (write : ℕ → WriteFrame) (frames : List (List ℕ)) : Type 0
+  where
+    pub counted : length frames ≡ shape.clients
+    pub each : (c : ℕ) (d : List ℕ) → c < length frames →
+        SpellsWrite shape (slice_index_or frames c d) (write c)
+
+-- what lies on desks
+abbrev pub frames_on : List Desk → List (List ℕ)
+frames_on desks = map (λ (d : Desk). d.frame.items) desks
+
+abbrev pub slips_on : List Desk → List (Option Slip)
+slips_on desks = map (λ (d : Desk). d.slip) desks

@@ -1,0 +1,226 @@
+ghost use Rattle.std.specs.Prelude.{◌≡◌, ◌≤◌, ◌<◌, ◌+◌, length, IfOk, IfErr, OnOk};
+ghost use mathlib.Core.List.{IsPrefix};
+ghost use Rattle.tk_io.specs.Content.{Rose};
+ghost use Rattle.tk_shape.specs.Lengths.{turn_count};
+ghost use Rattle.tk_schedule.specs.declared.history.History.{History};
+ghost use Rattle.tk_run.specs.Courses.{IsCourse, HasWritten, GoesOn, AreSights};
+ghost use Rattle.tk_run.specs.Courses.{TapsAfterTurn, TapsAfterRun};
+ghost use Rattle.tk_run.specs.Acting.{Acted};
+ghost use Rattle.tk_run.specs.Ran.{Ran};
+ghost use Rattle.tk_words.specs.Words.{words_of};
+ghost use Rattle.tk_report.specs.Entries.{write_at};
+
+use crate::acting::{Cue, Desk, Herald, act};
+use crate::arranging::turn_from;
+use crate::desks::{cleared, desks_for};
+use crate::group::Group;
+use crate::run_error::RunError;
+use crate::sights::{entries_from, give_sights, sights_from};
+use crate::slip::Slip;
+use crate::talking::talk_all;
+use std::alloc::AllocGlobal;
+use std::sync::Wait;
+use std::thread::Threads;
+use tk_cluster::{Cluster, Pass};
+use tk_frames::one_spelling;
+use tk_io::{Gate, Taps};
+use tk_order::Naming;
+use tk_schedule::{TurnOrder, closes};
+use tk_script::Script;
+use tk_shape::{Bytes, Memory};
+use tk_words::Draws;
+
+/// What stays the same in a run of threads.
+#[derive(Drop)]
+pub(crate) struct Stage<'a, B: Naming, D: Draws, G: Gate> {
+    pub script: &'a Script,
+    pub draws: &'a D,
+    pub gate: &'a G,
+    pub cluster: &'a Cluster<B>,
+    pub ghost same: { B.shape ≡ script.now.shape },
+    pub ghost one_shape: { D.shape draws.now ≡ script.now.shape },
+}
+
+/// A run of threads between two turns: how the turns so far came about, and the clients, their
+/// passes and the publisher after them.
+pub(crate) struct Course<B: Naming> {
+    pub turns: Vec<TurnOrder>,
+    pub group: Group,
+    pub passes: Vec<Pass<B>>,
+    pub herald: Herald<B>,
+}
+
+/// All turns of a run, from the first.
+pub(crate) fn run_turns<
+    'a,
+    B: Naming + Send + Sync,
+    D: Draws,
+    G: Gate,
+    T: Taps,
+    R: Threads + Wait + Sync + AllocGlobal,
+>(rt: &R, stage: &Stage<'a, B, D, G>, course: &mut Course<B>, taps: &mut T) -> Result<(), RunError>
+    requires { IsCourse stage.now.script.now (D.book stage.now.draws.now) 0
+        course.old.turns.items course.old.group course.old.passes.items
+        course.old.herald.publisher }
+    ensures course { OnOk result
+        (IsCourse stage.now.script.now (D.book stage.now.draws.now)
+        (turn_count stage.now.script.now.shape)
+        course.new.turns.items course.new.group course.new.passes.items
+        course.new.herald.publisher) }
+    ensures taps { TapsAfterRun stage.now.script.now (D.book stage.now.draws.now) result
+        course.new.turns.items (T.tap taps.old) (T.tap taps.new) }
+    ensures rose { IfErr result (λ e. e ≡ RunError.Taps
+        → Rose (T.faults taps.old) (T.faults taps.new)) }
+    ensures counts { T.faults taps.old ≤ T.faults taps.new }
+{
+    'turns: for turn in 0..stage.script.shape.turns() {
+        run_turn(rt, stage, turn, course, taps)?;
+    }
+    Ok(())
+}
+
+/// A turn, at the end of which each server's tap gains what the server saw in it.
+fn run_turn<
+    'a,
+    B: Naming + Send + Sync,
+    D: Draws,
+    G: Gate,
+    T: Taps,
+    R: Threads + Wait + Sync + AllocGlobal,
+>(
+    rt: &R,
+    stage: &Stage<'a, B, D, G>,
+    turn: u32,
+    course: &mut Course<B>,
+    taps: &mut T,
+) -> Result<(), RunError>
+    requires turn_in { turn < turn_count stage.now.script.now.shape }
+    requires course { IsCourse stage.now.script.now (D.book stage.now.draws.now) turn
+        course.old.turns.items course.old.group course.old.passes.items
+        course.old.herald.publisher }
+    ensures behind { OnOk result (IsPrefix course.old.turns.items course.new.turns.items) }
+    ensures course { OnOk result
+        (IsCourse stage.now.script.now (D.book stage.now.draws.now) (turn + 1)
+        course.new.turns.items course.new.group course.new.passes.items
+        course.new.herald.publisher) }
+    ensures taps { TapsAfterTurn stage.now.script.now (D.book stage.now.draws.now) turn result
+        course.old.turns.items course.new.turns.items (T.tap taps.old) (T.tap taps.new) }
+    ensures rose { IfErr result (λ e. e ≡ RunError.Taps
+        → Rose (T.faults taps.old) (T.faults taps.new)) }
+    ensures counts { T.faults taps.old ≤ T.faults taps.new }
+{
+    let sights = play_turn(rt, stage, turn, course)?;
+    give_sights(sights.as_slice(), taps)?;
+    Ok(())
+}
+
+/// What each server saw of a turn: texts are said, all write and pin at once, and then all read at
+/// once.
+fn play_turn<
+    'a,
+    B: Naming + Send + Sync,
+    D: Draws,
+    G: Gate,
+    R: Threads + Wait + Sync + AllocGlobal,
+>(
+    rt: &R,
+    stage: &Stage<'a, B, D, G>,
+    turn: u32,
+    course: &mut Course<B>,
+) -> Result<Vec<Bytes>, Memory>
+    requires turn_in { turn < turn_count stage.now.script.now.shape }
+    requires course { IsCourse stage.now.script.now (D.book stage.now.draws.now) turn
+        course.old.turns.items course.old.group course.old.passes.items
+        course.old.herald.publisher }
+    ensures behind { OnOk result (IsPrefix course.old.turns.items course.new.turns.items) }
+    ensures course { OnOk result
+        (IsCourse stage.now.script.now (D.book stage.now.draws.now) (turn + 1)
+        course.new.turns.items course.new.group course.new.passes.items
+        course.new.herald.publisher) }
+    ensures sights { let S = stage.now.script.now in
+        IfOk result (λ v. (H : History) → GoesOn S.shape course.new.turns.items H
+        → AreSights S (D.book stage.now.draws.now) H turn v.items) }
+{
+    let (slips, entries) = write_turn(rt, stage, turn, course)?;
+    let talks = talk_all(rt, stage.draws, turn, &mut course.group.clients, slips)?;
+    let servers = stage.script.shape.servers;
+    sights_from(rt.alloc(), servers, entries.as_slice(), talks.as_slice())
+}
+
+/// What each client has from its part in a turn, and the frames of the turn's entries: texts are
+/// said, and then all write and pin at once.
+fn write_turn<
+    'a,
+    B: Naming + Send + Sync,
+    D: Draws,
+    G: Gate,
+    R: Threads + Wait + Sync + AllocGlobal,
+>(
+    rt: &R,
+    stage: &Stage<'a, B, D, G>,
+    turn: u32,
+    course: &mut Course<B>,
+) -> Result<(Vec<Slip>, Vec<u8>), Memory>
+    requires turn_in { turn < turn_count stage.now.script.now.shape }
+    requires course { IsCourse stage.now.script.now (D.book stage.now.draws.now) turn
+        course.old.turns.items course.old.group course.old.passes.items
+        course.old.herald.publisher }
+    ensures behind { OnOk result (IsPrefix course.old.turns.items course.new.turns.items) }
+    ensures written { IfOk result (λ r.
+        HasWritten stage.now.script.now (D.book stage.now.draws.now) turn
+        course.new.turns.items course.new.group course.new.passes.items
+        course.new.herald.publisher r.0.items r.1.items) }
+{
+    let alloc = rt.alloc();
+    let script = stage.script;
+    one_spelling();
+    course.group.say(alloc, script, turn)?;
+    let clients = course.group.clients.as_mut_slice();
+    let mut desks = desks_for(alloc, script, stage.draws, turn, clients)?;
+    act_in(rt, stage, turn, course, desks.as_mut_slice())?;
+    let (frames, slips) = cleared(alloc, desks)?;
+    let now = turn_from(alloc, &script.shape, turn, slips.as_slice())?;
+    let order = now.order.as_slice();
+    let entries = entries_from(alloc, &script.shape, turn, order, frames.as_slice())?;
+    course.turns.push(now)?;
+    Ok((slips, entries))
+}
+
+/// All write and pin in a turn at once, and then know of it.
+fn act_in<'a, B: Naming + Send + Sync, D: Draws, G: Gate, R: Threads + Wait + Sync + AllocGlobal>(
+    rt: &R,
+    stage: &Stage<'a, B, D, G>,
+    turn: u32,
+    course: &mut Course<B>,
+    desks: &mut [Desk],
+) -> Result<(), Memory>
+    requires turn_in { turn < turn_count stage.now.script.now.shape }
+    requires counted { length desks.old ≡ length course.old.passes.items }
+    requires ran { let S = stage.now.script.now in
+        let write = write_at S (words_of S.shape (D.book stage.now.draws.now)) in
+        Ran S.shape write course.old.turns.items course.old.passes.items
+        course.old.herald.publisher }
+    requires turns { length course.old.turns.items ≡ turn }
+    ensures turns { course.new.turns.items ≡ course.old.turns.items }
+    ensures group { course.new.group ≡ course.old.group }
+    ensures acted { OnOk result (Acted stage.now.script.now.shape turn course.old.passes.items
+        course.old.herald.publisher desks.old desks.new course.new.passes.items
+        course.new.herald.publisher) }
+{
+    let shape = &stage.script.shape;
+    let cue = Cue {
+        cluster: stage.cluster,
+        gate: stage.gate,
+        turn,
+        most: (turn + 1) / shape.ticks,
+        closing: closes(shape, turn),
+        herald: shape.clients,
+    };
+    act(
+        rt,
+        &cue,
+        course.passes.as_mut_slice(),
+        desks,
+        &mut course.herald,
+    )
+}

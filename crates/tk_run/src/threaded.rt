@@ -1,0 +1,124 @@
+ghost use Rattle.std.specs.Prelude.{◌≡◌, ◌≤◌, ◌+◌, IfErr};
+ghost use Rattle.tk_io.specs.Content.{Rose};
+ghost use Rattle.tk_run.specs.Threads.{CameAbout};
+
+use crate::acting::Herald;
+use crate::course::{Course, Stage, run_turns};
+use crate::group::Group;
+use crate::run_error::RunError;
+use crate::telling::history_of;
+use std::alloc::AllocGlobal;
+use std::marker::Brand;
+use std::sync::Wait;
+use std::thread::Threads;
+use tk_cluster::{Closed, Cluster};
+use tk_io::{Gate, Taps};
+use tk_order::{Blank, Naming};
+use tk_report::{Clients, Outcome, ends};
+use tk_script::Script;
+use tk_words::Draws;
+
+/// What a run of a script leaves in which the clients and the publisher act at once, and what its
+/// cluster had. However they interleave, each server's tap gains what the server sees of the
+/// history that comes about.
+pub fn threads<D: Draws, T: Taps, G: Gate, R: Threads + Wait + Sync + AllocGlobal>(
+    rt: &R,
+    script: &Script,
+    draws: &D,
+    taps: &mut T,
+    gate: &G,
+) -> Result<(Outcome, Closed), RunError>
+    requires one_shape { D.shape draws.now ≡ script.now.shape }
+    ensures run { CameAbout script.now (D.book draws.now) result
+        (T.tap taps.old) (T.tap taps.new) }
+    ensures rose { IfErr result (λ e. e ≡ RunError.Taps
+        → Rose (T.faults taps.old) (T.faults taps.new)) }
+    ensures counts { T.faults taps.old ≤ T.faults taps.new }
+{
+    let blank = Blank::new(rt.alloc(), &script.shape, script.shape.clients + 1)?;
+    let scene = Scene {
+        script,
+        draws,
+        gate,
+    };
+    run_over::<Brand, D, T, G, R>(rt, &scene, blank, taps)
+}
+
+/// What a run of threads goes by.
+#[derive(Drop)]
+struct Scene<'a, D: Draws, G: Gate> {
+    script: &'a Script,
+    draws: &'a D,
+    gate: &'a G,
+    ghost one_shape: { D.shape draws.now ≡ script.now.shape },
+}
+
+/// A run over the cluster of a blank.
+fn run_over<
+    'a,
+    B: Naming + Send + Sync,
+    D: Draws,
+    T: Taps,
+    G: Gate,
+    R: Threads + Wait + Sync + AllocGlobal,
+>(
+    rt: &R,
+    scene: &Scene<'a, D, G>,
+    blank: Blank,
+    taps: &mut T,
+) -> Result<(Outcome, Closed), RunError>
+    requires table { blank.table ≡ B.table }
+    requires shape { blank.shape ≡ B.shape }
+    requires same { scene.now.script.now.shape ≡ B.shape }
+    requires seats { blank.seats ≡ scene.now.script.now.shape.clients + 1 }
+    ensures run { CameAbout scene.now.script.now (D.book scene.now.draws.now) result
+        (T.tap taps.old) (T.tap taps.new) }
+    ensures rose { IfErr result (λ e. e ≡ RunError.Taps
+        → Rose (T.faults taps.old) (T.faults taps.new)) }
+    ensures counts { T.faults taps.old ≤ T.faults taps.new }
+{
+    let group = Group::open(rt.alloc(), scene.script)?;
+    let roles = scene.script.roles.clone()?;
+    let (cluster, publisher, passes) = Cluster::<B>::open(rt, blank)?;
+    let mut course = Course {
+        turns: Vec::new(rt.alloc()),
+        group,
+        passes,
+        herald: Herald {
+            publisher,
+            told: None,
+        },
+    };
+    let stage = Stage {
+        script: scene.script,
+        draws: scene.draws,
+        gate: scene.gate,
+        cluster: &cluster,
+    };
+    let ran = run_turns(rt, &stage, &mut course, taps);
+    let Course {
+        turns,
+        group,
+        passes,
+        herald,
+    } = course;
+    let Herald {
+        publisher,
+        told: _told,
+    } = herald;
+    if let Err(error) = ran {
+        publisher.give_up(rt);
+        return Err(error);
+    }
+    let closed = cluster.close(rt, passes, publisher)?;
+    let history = history_of(rt.alloc(), &scene.script.shape, turns)?;
+    let Group { said: _, clients } = group;
+    ends();
+    let outcome = Outcome {
+        shape: scene.script.shape,
+        roles,
+        history,
+        clients: Clients::from_vec(clients),
+    };
+    Ok((outcome, closed))
+}
