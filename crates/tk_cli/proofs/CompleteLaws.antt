@@ -1,8 +1,10 @@
 -- A form that isn't refused, with objects that don't fail, ends with Done or Memory.
-use Rattle.std.proofs.Common.{◌≡◌, ◌∙◌, ◌⊎◌, ◌++◌, ◌≤◌, refl, ap, sym, subst, inl, inr}
+use Rattle.std.proofs.Common.{◌≡◌, ◌≢◌, ◌∙◌, ◌⊎◌, ◌++◌, ◌≤◌, ◌<◌, refl, ap, sym, subst, inl, inr}
 use Rattle.std.proofs.Common.{ℕ, List, [], length, Option, Some, length-append, append-nil, arith}
 use Rattle.std.specs.Prelude.{None}
 use Rattle.tk_io.specs.Content.{TakesUpTo, before_taking, emptied}
+use Rattle.tk_script.specs.declared.form.Form.{Form}
+use Rattle.tk_script.specs.declared.input.Input.{Input}
 use Rattle.tk_script.specs.Grammar.{Spells}
 use Rattle.tk_script.specs.Laws.{SpellsOne}
 use Rattle.tk_cli.specs.declared.top.TheConstants.{INPUT_LIMIT}
@@ -14,7 +16,7 @@ use Rattle.tk_cli.specs.declared.ended.Ended.{Ended}
 use Rattle.tk_cli.specs.Handles.{Puts}
 use Rattle.tk_cli.specs.Inputs.{TakesAll, IsRefused, form_of, refusal_of}
 use Rattle.tk_cli.specs.Outside.{Outside}
-use Rattle.tk_cli.specs.Endings.{EndsWith}
+use Rattle.tk_cli.specs.Endings.{EndsWith, Ends}
 use Rattle.tk_cli.specs.Completeness.{NoFault, HasAccepted, Completes}
 
 -- ---- what was taken of what was left
@@ -76,7 +78,6 @@ reading one status.TooLong r e old new how has none taken =
     let short = short-taken has.bytes taken.0 old.left new.left has.left taken.1.bytes in
     let long = taken.1.exactly.0 refl in
     absurd (omega (arith, short, long, has.within))
-reading one (status.Later line) r e old new how has none taken = absurd how.0
 reading one s r e old new how has none taken = absurd (refused-not one r s old new how.0 has)
 
 handle : (s : Status) (text : List ℕ) (old new : Outside) →
@@ -91,6 +92,5 @@ pub completes : SpellsOne → Completes
 completes one (request.Handle id root) e old new ends may none =
     handle e.status _ old new ends.how.1 none
 completes one request.Nothing e old new ends may none = absurd may
-completes one request.Run e old new ends may none = absurd may
 completes one r e old new ends may none =
     reading one e.status r e old new ends.how may none ends.taken

@@ -1,7 +1,9 @@
 -- How a request ends.
-use Rattle.std.proofs.Common.{◌≡◌, ◌∙◌, ◌↔◌, refl, ap, subst, inl, inr, ℕ, List, take}
-use Rattle.std.proofs.Common.{Option, Some}
-use Rattle.tk_io.specs.Content.{gained}
+use Rattle.std.proofs.Common.{◌≡◌, ◌≢◌, ◌⊎◌, ◌∙◌, ◌↔◌, refl, sym, ap, subst, inl, inr, ℕ, List, take}
+use Rattle.std.proofs.Common.{Option, Some, rules}
+use Rattle.std.specs.Prelude.{None}
+use Rattle.tk_io.specs.Content.{TakesUpTo, gained}
+use Rattle.tk_io.specs.Tapped.{TapsKeep}
 use Rattle.tk_schedule.specs.declared.history.History.{History}
 use Rattle.tk_script.specs.declared.input.Input.{Input}
 use Rattle.tk_report.specs.declared.outcome.Outcome.{Outcome}
@@ -34,7 +36,6 @@ stopped (status.Script line c) r e old new stops quiet = (stops, quiet)
 stopped status.Read r e old new stops quiet = (stops, quiet)
 stopped status.Write r e old new stops quiet = absurd stops
 stopped status.TooLong r e old new stops quiet = (stops, quiet)
-stopped (status.Later line) r e old new stops quiet = absurd stops
 stopped s r e old new stops quiet = (stops, quiet)
 
 -- a run stopped, of which the taps may have fronts
@@ -139,7 +140,6 @@ usage-none (request.Handle id root) e old new ends is =
     absurd (subst (λ s. Puts s (handle_text id root) old.held new.held old.sink_faults
     new.sink_faults) is ends.how.1)
 usage-none request.Nothing e old new ends is = refl
-usage-none request.Run e old new ends is = absurd (cc (is, ends.how.status))
 usage-none q e old new ends is = absurd (subst (λ s. EndsWith s q e old new) is ends.how).0
 
 module _ (words : Words) (q : Request) (e : Ended) (old new : Outside) (asked : Asks words q)

@@ -1,16 +1,26 @@
 -- How a request ends whose input is read.
-use Rattle.std.proofs.Common.{◌≡◌, ◌≢◌, ◌∙◌, ◌≤◌, refl, sym, ap, subst, ℕ, List, Option, Some}
+use Rattle.std.proofs.Common.{◌≡◌, ◌≢◌, ◌∙◌, ◌≤◌, refl, sym, ap, subst, ℕ, List, Option, Some, rules}
 use Rattle.std.proofs.Common.{Ok, Err, [], arith}
 use Rattle.std.specs.Prelude.{None, Result, IfOk, IfErr}
 use Rattle.tk_io.specs.Content.{TakesUpTo, Rose, before_taking}
-use Rattle.tk_schedule.specs.Schedule.{serial_history}
+use Rattle.tk_io.specs.Tapped.{TapsGain, TapsGainFronts, TapsKeepBut}
+use Rattle.tk_io.proofs.Offers.{fronts-of_all}
+use Rattle.tk_schedule.specs.declared.history.History.{History}
+use Rattle.tk_schedule.specs.Schedule.{serial_history, IsLegal}
 use Rattle.tk_script.specs.declared.script.Script.{Script}
+use Rattle.tk_script.specs.declared.input.Input.{Input}
 use Rattle.tk_script.specs.Book.{book_of}
 use Rattle.tk_words.specs.declared.book.Book.{Book}
 use Rattle.tk_words.specs.Book.{words_in}
-use Rattle.tk_words.specs.Words.{WordBook}
+use Rattle.tk_words.specs.Words.{WordBook, words_of}
+use Rattle.tk_report.specs.declared.outcome.Outcome.{Outcome}
+use Rattle.tk_report.specs.Exchange.{exchange, bytes_of}
+use Rattle.tk_report.specs.Outcomes.{IsLeftBy, OutcomesReport, outcome_text}
+use Rattle.tk_report.specs.Histories.{ReportsShow}
+use Rattle.tk_cluster.specs.Closings.{Ended as Closed}
 use Rattle.tk_run.specs.declared.run_error.RunError.{RunError}
 use Rattle.tk_run.specs.declared.run_error.RunError.TheVariants as run_error
+use Rattle.tk_run.specs.Threads.{CameAbout, IsRun}
 use Rattle.tk_cli.specs.declared.top.TheConstants.{INPUT_LIMIT}
 use Rattle.tk_cli.specs.declared.request.Request.{Request}
 use Rattle.tk_cli.specs.declared.request.Request.TheVariants as request
@@ -20,12 +30,12 @@ use Rattle.tk_cli.specs.declared.ended.Ended.{Ended}
 use Rattle.tk_cli.specs.Errors.{run_status}
 use Rattle.tk_cli.specs.Handles.{Puts, PutsNothing, handle_text}
 use Rattle.tk_cli.specs.Inputs.{IsDue, IsReady, Stops}
-use Rattle.tk_cli.specs.Outside.{Outside, outside, IsUnwritten, IsUntapped, NoCountFalls}
-use Rattle.tk_cli.specs.Endings.{LeavesSource, LeavesTaps, HandsNothing}
-use Rattle.tk_cli.specs.Endings.{IsMade, StopsInTaps, EndsWith}
-use Rattle.tk_cli.specs.Endings.{HowEnds, Ends}
+use Rattle.tk_cli.specs.Outside.{Outside, outside, IsUnread, IsUnwritten, IsUntapped, NoCountFalls}
+use Rattle.tk_cli.specs.Endings.{LeavesSource, LeavesTaps, HandsNothing, HandsAs, HandsSerial}
+use Rattle.tk_cli.specs.Endings.{HandsRun, IsMade, StopsInTaps, FailsInTaps, IsQuiet, EndsWith}
+use Rattle.tk_cli.specs.Endings.{HowEnds, Ends, TapsSee, TapsSeeFronts, report_in, seen_in}
 use Rattle.tk_cli.proofs.InputLaws.{not_over, over-as, err_same, ok_long}
-use Rattle.tk_cli.proofs.EndingLaws.{IsPlain, stopped, run_stopped, made-ends}
+use Rattle.tk_cli.proofs.EndingLaws.{IsPlain, stopped, run_stopped, told, made-ends}
 
 -- a request that reads its input ends by its status
 pub record ReadsInput (r : Request) : Type 0 where
@@ -34,6 +44,9 @@ pub record ReadsInput (r : Request) : Type 0 where
 
 pub serial-reads : ReadsInput request.Serial
 serial-reads = record { source = λ no. no; how = λ e old new how. how }
+
+pub run-reads : ReadsInput request.Run
+run-reads = record { source = λ no. no; how = λ e old new how. how }
 
 pub view-reads : (j : ℕ) → ReadsInput (request.View j)
 view-reads j = record { source = λ no. no; how = λ e old new how. how }
@@ -150,6 +163,10 @@ module _ (left left' : Option (List ℕ)) (script : Script) (book : Book)
       (serial_history ready.input.first.shape)
   serial-due = record { read = ready.read; accepted = ready.accepted; history = refl }
 
+  pub run-due : (H : History) → IsLegal ready.input.first.shape H →
+      IsDue request.Run left left' ready.input H
+  run-due H legal = record { read = ready.read; accepted = ready.accepted; history = legal }
+
 -- ---- a text, where there is one
 
 pub plain-view : (j : ℕ) (old new : Outside) → IsPlain (request.View j) old new
@@ -226,23 +243,6 @@ handle-ends {X} id root items e left f held held' sf sf' tap tf rises nothing re
 pub usage-ends : (e : Ended) (o : Outside) → e.status ≡ status.Usage → HandsNothing e →
     Ends request.Nothing e o o
 usage-ends e o is nothing = record {
-  taken = none-taken (e.status ≡ status.TooLong) o.left (λ long. cc);
-  counts = record { source = omega arith; sink = omega arith; taps = omega arith };
-  unread = λ leaves. record { left = refl; faults = refl };
-  untapped = λ leaves. record { tap = λ j. refl; faults = refl };
-  how = record {
-    status = is;
-    quiet = record {
-      handed = nothing;
-      unwritten = record { held = refl; faults = refl };
-      untapped = record { tap = λ j. refl; faults = refl };
-    };
-  };
-}
-
-pub later-ends : (e : Ended) (o : Outside) → e.status ≡ status.Later 0 → HandsNothing e →
-    Ends request.Run e o o
-later-ends e o is nothing = record {
   taken = none-taken (e.status ≡ status.TooLong) o.left (λ long. cc);
   counts = record { source = omega arith; sink = omega arith; taps = omega arith };
   unread = λ leaves. record { left = refl; faults = refl };

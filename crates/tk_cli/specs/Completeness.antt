@@ -27,12 +27,10 @@ pub record HasAccepted (r : Request) (o : Outside) : Type 0 where
   pub spelled : Spells (form_of r) bytes input
   pub accepted : refusal_of r input ≡ None
 
--- a request has what it reads, if it reads anything; words of no form, or of one that isn't built
--- yet, are never done
+-- a request has what it reads, if it reads anything; nothing is asked of words of no form
 abbrev pub MayBeDone : Request → Outside → Type 0
 MayBeDone (request.Handle id root) o = Unit {0}
 MayBeDone request.Nothing o = ⊥
-MayBeDone request.Run o = ⊥
 MayBeDone r o = HasAccepted r o
 
 abbrev pub Completes : Type 0

@@ -1,5 +1,5 @@
 -- How the top call ends.
-use Rattle.std.specs.Prelude.{◌≡◌, ◌⊎◌, ℕ, List, [], take, Option, None, Some}
+use Rattle.std.specs.Prelude.{◌≡◌, ◌⊎◌, ℕ, ◌≤◌, List, [], ◌∷◌, ◌++◌, take, Option, None, Some}
 use Rattle.tk_io.specs.Content.{Rose, gained, TakesUpTo}
 use Rattle.tk_io.specs.Tapped.{TapsGain, TapsGainFronts, TapsKeep, TapsKeepBut}
 use Rattle.tk_schedule.specs.declared.history.History.{History}
@@ -13,7 +13,9 @@ use Rattle.tk_report.specs.Exchange.{exchange, view, bytes_of}
 use Rattle.tk_privacy.specs.Privacy.{mirror}
 use Rattle.tk_report.specs.declared.outcome.Outcome.{Outcome}
 use Rattle.tk_report.specs.Outcomes.{IsLeftBy}
+use Rattle.tk_report.specs.Shown.{ShowsHistory}
 use Rattle.tk_cluster.specs.Closings.{Ended as Closed}
+use Rattle.tk_run.specs.Threads.{IsRun}
 use Rattle.tk_cli.specs.declared.top.TheConstants.{INPUT_LIMIT}
 use Rattle.tk_cli.specs.declared.request.Request.{Request}
 use Rattle.tk_cli.specs.declared.request.Request.TheVariants as request
@@ -45,6 +47,7 @@ mirror_of hidden A (Some B) H tape = printed_tape (mirror A B H hidden tape)
 -- what the sink gains
 abbrev pub output_of : Request → Input → History → List ℕ
 output_of request.Serial input H = report_in input H
+output_of request.Run input H = report_in input H
 output_of (request.View server) input H = view_in server input H
 output_of (request.Mirror hidden) input H =
     mirror_of hidden input.first input.second H (kept_in input.tape)
@@ -75,10 +78,12 @@ pub record TapsSeeFronts (input : Input) (H : History) (old new : Outside) : Typ
 
 abbrev pub TapsGainAll : Request → Input → History → Outside → Outside → Type 0
 TapsGainAll request.Serial input H old new = TapsSee input H old new
+TapsGainAll request.Run input H old new = TapsSee input H old new
 TapsGainAll _ input H old new = Unit {0}
 
 abbrev pub TapsGainSome : Request → Input → History → Outside → Outside → Type 0
 TapsGainSome request.Serial input H old new = TapsSeeFronts input H old new
+TapsGainSome request.Run input H old new = TapsSeeFronts input H old new
 TapsGainSome _ input H old new = ⊥
 
 -- nothing is handed back
@@ -98,8 +103,19 @@ pub record HandsSerial (input : Input) (H : History) (e : Ended) : Type 0 where
   pub left : IsLeftBy input.first (words_of input.first.shape (book_of input)) H outcome
   pub closed : e.closed ≡ None
 
+-- What its run with this history left, and what the cluster had; and the report, as it was written,
+-- shows this history.
+pub record HandsRun (input : Input) (H : History) (e : Ended) : Type 0 where
+  pub outcome : Outcome
+  pub closed : Closed
+  pub handed : e.outcome ≡ Some outcome
+  pub handed_closed : e.closed ≡ Some closed
+  pub run : IsRun input.first (book_of input) H (outcome, closed)
+  pub shown : ShowsHistory input.first.shape (report_in input H) H
+
 abbrev pub HandsBack : Request → Input → History → Ended → Type 0
 HandsBack request.Serial input H e = HandsSerial input H e
+HandsBack request.Run input H e = HandsRun input H e
 HandsBack _ input H e = HandsNothing e
 
 -- ---- how a request ends that reads an input
@@ -156,12 +172,12 @@ EndsWith s r e old new =
 abbrev pub LeavesSource : Request → Type 0
 LeavesSource (request.Handle id root) = Unit {0}
 LeavesSource request.Nothing = Unit {0}
-LeavesSource request.Run = Unit {0}
 LeavesSource _ = ⊥
 
 -- the taps are left alone
 abbrev pub LeavesTaps : Request → Type 0
 LeavesTaps request.Serial = ⊥
+LeavesTaps request.Run = ⊥
 LeavesTaps _ = Unit {0}
 
 -- it ends with this status, with which nothing else comes
@@ -173,7 +189,6 @@ abbrev pub HowEnds : Request → Ended → Outside → Outside → Type 0
 HowEnds (request.Handle id root) e old new = HandsNothing e
     × Puts e.status (handle_text id root) old.held new.held old.sink_faults new.sink_faults
 HowEnds request.Nothing e old new = IsOnly status.Usage e old new
-HowEnds request.Run e old new = IsOnly (status.Later 0) e old new
 HowEnds r e old new = EndsWith e.status r e old new
 
 -- How a request ends. It is too long exactly where more than the limit was taken.

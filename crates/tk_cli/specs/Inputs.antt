@@ -8,7 +8,7 @@ use Rattle.tk_shape.specs.Differences.{first_difference}
 use Rattle.tk_schedule.specs.declared.history.History.{History}
 use Rattle.tk_schedule.specs.declared.raw.RawLine.{RawLine}
 use Rattle.tk_schedule.specs.Due.{bad_line}
-use Rattle.tk_schedule.specs.Schedule.{serial_history}
+use Rattle.tk_schedule.specs.Schedule.{serial_history, IsLegal}
 use Rattle.tk_schedule.specs.Told.{Tells}
 use Rattle.tk_script.specs.declared.cause.Cause.{Cause}
 use Rattle.tk_script.specs.declared.form.Form.{Form}
@@ -123,7 +123,6 @@ Stops r (status.Script line c) left left' faults faults' =
 Stops r status.Read left left' faults faults' = Rose faults faults'
 Stops r status.Write left left' faults faults' = ⊥
 Stops r status.TooLong left left' faults faults' = Unit {0}
-Stops r (status.Later line) left left' faults faults' = ⊥
 Stops r s left left' faults faults' = IsRefused r s left left'
 
 -- some bytes spell this input
@@ -140,7 +139,6 @@ Refuses r input (status.Script line c) = ⊥
 Refuses r input status.Read = ⊥
 Refuses r input status.Write = ⊥
 Refuses r input status.TooLong = ⊥
-Refuses r input (status.Later line) = ⊥
 Refuses r input s = refusal_of r input ≡ Some s
 
 -- a run, serial or with threads
@@ -169,6 +167,7 @@ TellsIn shape (Some raw) H = Tells shape raw H
 -- a request is done for this history of the input
 abbrev pub IsHistoryFor : Request → Input → History → Type 0
 IsHistoryFor request.Serial input H = H ≡ serial_history input.first.shape
+IsHistoryFor request.Run input H = IsLegal input.first.shape H
 IsHistoryFor (request.View server) input H = TellsIn input.first.shape input.history H
 IsHistoryFor (request.Mirror hidden) input H = TellsIn input.first.shape input.history H
 IsHistoryFor _ input H = ⊥

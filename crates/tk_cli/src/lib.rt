@@ -8,6 +8,7 @@ mod input;
 mod laws;
 mod mirror_word;
 mod request;
+mod run_word;
 mod serial_word;
 mod status;
 mod telling;
@@ -27,6 +28,8 @@ mod group_tests;
 mod refusal_tests;
 #[cfg(test)]
 mod report_tests;
+#[cfg(test)]
+mod run_tests;
 #[cfg(test)]
 mod status_tests;
 #[cfg(test)]

@@ -32,8 +32,6 @@ pub enum Status {
     Tape { want: u64, got: u64 },
     /// The words name a server that isn't one of the shape's, which are numbered from 1.
     Hidden { got: u32, servers: u32 },
-    /// The form that the words ask for isn't built yet. The line is always 0.
-    Later { line: u64 },
 }
 
 impl Status {
@@ -53,7 +51,6 @@ impl Status {
             Status::Shapes { .. } => 8,
             Status::Tape { .. } => 9,
             Status::Hidden { .. } => 10,
-            Status::Later { .. } => 11,
         }
     }
 }
@@ -97,10 +94,6 @@ fn push_text(alloc: Global, status: &Status, out: &mut Vec<u8>) -> Result<(), Me
             push_field(alloc, *got, out)?;
         }
         Status::Hidden { got, servers } => push_hidden(alloc, *got, *servers, out)?,
-        Status::Later { line } => {
-            out.extend_from_slice(b"talek: later line ")?;
-            push_number(alloc, *line, out)?;
-        }
     }
     Ok(())
 }

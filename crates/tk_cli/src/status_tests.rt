@@ -44,7 +44,6 @@ fn status_lines(rt: HostRuntime) -> Result<(), Fail> {
             "talek: server 4 of 3",
             10,
         ),
-        (Status::Later { line: 12 }, "talek: later line 12", 11),
     ] {
         let mut out = Vec::new(alloc);
         status_line(alloc, &status, &mut out)?;

@@ -8,6 +8,7 @@ use crate::ended::Ended;
 use crate::handle_word::handle_line;
 use crate::mirror_word::mirror_text;
 use crate::request::{Request, request_of};
+use crate::run_word::run_threads;
 use crate::serial_word::run_serial;
 use crate::status::Status;
 use crate::telling::answer;
@@ -22,14 +23,15 @@ use tk_shape::Bytes;
 pub const INPUT_LIMIT: usize = 8388608;
 
 /// Does what the words ask for. A form that reads an input reads all of it from the source, and then writes its whole
-/// output to the sink at once. A serial run gives the taps before that what each server sees. The gate isn't used yet.
+/// output to the sink at once. A run gives the taps before that what each server sees; with threads, its clients and
+/// its publisher come to the gate.
 pub fn talek<R: Threads + Wait + Sync + AllocGlobal, S: Source, K: Sink, T: Taps, G: Gate>(
     rt: &R,
     words: &[Bytes],
     source: &mut S,
     sink: &mut K,
     taps: &mut T,
-    _gate: &G,
+    gate: &G,
 ) -> Ended
     ensures usage { (result.status ≡ Status.Usage) ↔ AsksNothing words.now }
     ensures ends { (request : Requested) → Asks words.now request → Ends request result
@@ -41,7 +43,7 @@ pub fn talek<R: Threads + Wait + Sync + AllocGlobal, S: Source, K: Sink, T: Taps
     let alloc = rt.alloc();
     match request_of(words) {
         Request::Serial => run_serial(alloc, source, sink, taps),
-        Request::Run => Ended::without(Status::Later { line: 0 }),
+        Request::Run => run_threads(rt, source, sink, taps, gate),
         Request::View { server } => answer(view_text(alloc, server, source), sink),
         Request::Mirror { hidden } => answer(mirror_text(alloc, hidden, source), sink),
         Request::Handle { id, root } => answer(handle_line(alloc, id, &root), sink),

@@ -26,13 +26,6 @@ const LAST_HANDLE: &str =
 #[test]
 fn words(rt: HostRuntime) -> Result<(), Fail> {
     let alloc = rt.alloc();
-    let mut source = source_of(alloc, ONE_TEXT)?;
-    let mut sink = MemSink::new(alloc, 4096, Vec::new(alloc));
-    assert_eq!(rt;
-        run(&rt, &["run"], &mut source, &mut sink)?,
-        Status::Later { line: 0 }
-    );
-    assert_eq!(rt; source.left(), ONE_TEXT);
     for words in [
         [].as_slice(),
         &["run", "65"],

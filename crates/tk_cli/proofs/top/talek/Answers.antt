@@ -5,7 +5,7 @@ use Rattle.tk_cli.specs.Endings.{Ends}
 use Rattle.tk_cli.specs.Outside.{outside}
 use Rattle.tk_cli.proofs.EndingLaws.{usage-is, ends-as}
 use Rattle.tk_cli.proofs.WordLaws.{text-ends, view-reads, mirror-reads, plain-view, plain-mirror}
-use Rattle.tk_cli.proofs.WordLaws.{handle-ends, later-ends, usage-ends}
+use Rattle.tk_cli.proofs.WordLaws.{handle-ends, usage-ends}
 use Rattle.tk_cli.proofs.top.talek.Goals as goal
 
 pub returns-in-Serial : goal.returns-in-Serial
@@ -20,14 +20,10 @@ returns-in-Serial g c =
 pub returns-in-Run : goal.returns-in-Run
 returns-in-Run g c =
     let words = c.args.words.now in
-    let e = c.without.result in
-    let ends = later-ends e (outside (g.S.Source.left c.args.source.now)
-    (g.S.Source.faults c.args.source.now) (g.K.Sink.held c.args.sink.now)
-    (g.K.Sink.faults c.args.sink.now) (g.T.Taps.tap c.args.taps.now)
-    (g.T.Taps.faults c.args.taps.now)) c.without.ensures.status c.without.ensures.nothing in
+    let ends = c.run_threads.ensures in
     record {
-      usage = usage-is words request.Run e _ _ c.in-Run.ensures ends;
-      ends = ends-as words request.Run e _ _ c.in-Run.ensures ends;
+      usage = usage-is words request.Run c.run_threads.result _ _ c.in-Run.ensures ends;
+      ends = ends-as words request.Run c.run_threads.result _ _ c.in-Run.ensures ends;
     }
 
 pub returns-in-View : goal.returns-in-View
@@ -108,12 +104,11 @@ returns-in-Handle g c =
 pub returns-in-Nothing : goal.returns-in-Nothing
 returns-in-Nothing g c =
     let words = c.args.words.now in
-    let e = c.without-in-Nothing.result in
+    let e = c.without.result in
     let ends = usage-ends e (outside (g.S.Source.left c.args.source.now)
     (g.S.Source.faults c.args.source.now) (g.K.Sink.held c.args.sink.now)
     (g.K.Sink.faults c.args.sink.now) (g.T.Taps.tap c.args.taps.now)
-    (g.T.Taps.faults c.args.taps.now)) c.without-in-Nothing.ensures.status
-    c.without-in-Nothing.ensures.nothing in
+    (g.T.Taps.faults c.args.taps.now)) c.without.ensures.status c.without.ensures.nothing in
     record {
       usage = usage-is words request.Nothing e _ _ c.in-Nothing.ensures ends;
       ends = ends-as words request.Nothing e _ _ c.in-Nothing.ensures ends;

@@ -1,0 +1,70 @@
+//! The word `run`: the report of the history that came about.
+ghost use Rattle.std.specs.Prelude.{◌≡◌, ◌≤◌, IfErr};
+ghost use Rattle.tk_io.specs.Content.{Rose};
+ghost use Rattle.tk_words.specs.Book.{shape_of, words_in};
+ghost use Rattle.tk_run.specs.Threads.{CameAbout};
+ghost use Rattle.tk_cli.specs.Endings.{Ends};
+ghost use Rattle.tk_cli.specs.Outside.{outside};
+
+use crate::ended::Ended;
+use crate::input::ready;
+use crate::request::Request;
+use crate::status::Status;
+use crate::telling::tell;
+use std::alloc::AllocGlobal;
+use std::sync::Wait;
+use std::thread::Threads;
+use tk_cluster::Closed;
+use tk_io::{Gate, Sink, Source, Taps};
+use tk_report::{Outcome, ends, one_history};
+use tk_run::{RunError, threads};
+use tk_script::Script;
+use tk_words::Book;
+
+/// The word `run`.
+pub(crate) fn run_threads<
+    R: Threads + Wait + Sync + AllocGlobal,
+    S: Source,
+    K: Sink,
+    T: Taps,
+    G: Gate,
+>(rt: &R, source: &mut S, sink: &mut K, taps: &mut T, gate: &G) -> Ended
+    ensures { Ends Request.Run result
+        (outside (S.left source.old) (S.faults source.old) (K.held sink.old) (K.faults sink.old)
+        (T.tap taps.old) (T.faults taps.old))
+        (outside (S.left source.new) (S.faults source.new) (K.held sink.new) (K.faults sink.new)
+        (T.tap taps.new) (T.faults taps.new)) }
+{
+    let (script, book) = match ready(rt.alloc(), source) {
+        Ok(input) => input,
+        Err(status) => return Ended::without(status),
+    };
+    let (outcome, closed) = match threads_by(rt, &script, &book, taps, gate) {
+        Ok(left) => left,
+        Err(error) => return Ended::without(Status::from(error)),
+    };
+    ends();
+    one_history();
+    tell(rt.alloc(), outcome, Some(closed), sink)
+}
+
+/// What the run of a script with threads leaves, by the words of a book.
+fn threads_by<R: Threads + Wait + Sync + AllocGlobal, T: Taps, G: Gate>(
+    rt: &R,
+    script: &Script,
+    book: &Book,
+    taps: &mut T,
+    gate: &G,
+) -> Result<(Outcome, Closed), RunError>
+    requires one_shape { shape_of book.now ≡ script.now.shape }
+    ensures run { CameAbout script.now (words_in book.now) result
+        (T.tap taps.old) (T.tap taps.new) }
+    ensures rose { IfErr result (λ e. e ≡ RunError.Taps
+        → Rose (T.faults taps.old) (T.faults taps.new)) }
+    ensures counts { T.faults taps.old ≤ T.faults taps.new }
+{
+    match book {
+        Book::Keyed(draws) => threads(rt, script, draws, taps, gate),
+        Book::Drawn(draws) => threads(rt, script, draws, taps, gate),
+    }
+}
