@@ -1,4 +1,6 @@
 //! Runs of threads: their reports, and who comes to the gate.
+ghost use Rattle.std.specs.Prelude.{◌≡◌, IfOk};
+
 use crate::threads;
 use std::alloc::Global;
 use std::sync::Wait;
@@ -6,7 +8,7 @@ use std::sync::atomic::Ordering::SeqCst;
 use std::sync::atomic::{AtomicBool, AtomicU64};
 use std::test::Fail;
 use std::thread::{Threads, yield_now};
-use tk_io::{Gate, MemTaps, OpenGate};
+use tk_io::{Gate, NoTaps, OpenGate};
 use tk_report::{Outcome, parse_history, print_outcome, report};
 use tk_script::{Form, Input, Script, parse};
 use tk_words::{Book, DrawnDraws};
@@ -85,7 +87,9 @@ end
 ";
 
 /// A script and the words of its book.
-fn scripted(alloc: Global, text: &[u8]) -> Result<(Script, DrawnDraws), Fail> {
+fn scripted(alloc: Global, text: &[u8]) -> Result<(Script, DrawnDraws), Fail>
+    ensures { IfOk result (λ r. r.1.shape ≡ r.0.shape) }
+{
     let Ok(
         Input {
             first: script,
@@ -108,7 +112,9 @@ fn reported(
     script: &Script,
     draws: &DrawnDraws,
     outcome: &Outcome,
-) -> Result<Vec<u8>, Fail> {
+) -> Result<Vec<u8>, Fail>
+    requires { draws.now.shape ≡ script.now.shape }
+{
     let mut printed = Vec::new(alloc);
     print_outcome(alloc, outcome, &mut printed)?;
     let Ok(history) = parse_history(alloc, &script.shape, printed.as_slice()) else {
@@ -122,23 +128,20 @@ fn reported(
     Ok(printed)
 }
 
-/// The scripts, and for each how many epochs each client pins and how many bytes its servers see.
-const RUNS: [(&[u8], usize, usize); 2] = [(ONE_TEXT, 2, 1644), (TWELVE_CLIENTS, 16, 0)];
+/// The scripts, and for each how many entries its order has.
+const RUNS: [(&[u8], usize); 2] = [(ONE_TEXT, 6), (TWELVE_CLIENTS, 200)];
 
 #[test]
 fn reports_of_threads(rt: HostRuntime) -> Result<(), Fail> {
     let alloc = rt.alloc();
-    for (text, turns, seen) in RUNS {
+    for (text, entries) in RUNS {
         let (script, draws) = scripted(alloc, text)?;
-        let mut taps = MemTaps::new(alloc, 2, vec![in alloc; 0]?)?;
-        let Ok((outcome, closed)) = threads(&rt, &script, &draws, &mut taps, &OpenGate) else {
+        let Ok((outcome, closed)) = threads(&rt, &script, &draws, &mut NoTaps, &OpenGate) else {
             return Err(Fail::from("a run"));
         };
         let printed = reported(alloc, &script, &draws, &outcome)?;
         assert!(rt; printed.as_slice().starts_with(b"report\norder 1 1 "));
-        assert_eq!(rt; closed.epochs(0).len(), turns);
-        assert_eq!(rt; taps.bytes(1).len(), taps.bytes(2).len());
-        assert!(rt; seen == 0 || taps.bytes(1).len() == seen);
+        assert_eq!(rt; closed.order().as_slice().len(), entries);
     }
     Ok(())
 }
@@ -214,9 +217,8 @@ fn three_gates(rt: HostRuntime) -> Result<(), Fail> {
     let alloc = rt.alloc();
     for (held, until, first, second) in GATES {
         let (script, draws) = scripted(alloc, ONE_TEXT)?;
-        let mut taps = MemTaps::new(alloc, 2, vec![in alloc; 0]?)?;
         let gate = Holding::new(held, until);
-        let Ok((outcome, _closed)) = threads(&rt, &script, &draws, &mut taps, &gate) else {
+        let Ok((outcome, _closed)) = threads(&rt, &script, &draws, &mut NoTaps, &gate) else {
             return Err(Fail::from("a run"));
         };
         let printed = reported(alloc, &script, &draws, &outcome)?;
