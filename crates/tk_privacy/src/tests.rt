@@ -140,7 +140,9 @@ fn read(alloc: Global, script: &[u8], words: &[u8]) -> Result<(Script, Tape), Fa
     let mut text = Vec::new(alloc);
     text.extend_from_slice(script)?;
     text.extend_from_slice(words)?;
-    let input = parse(alloc, text.as_slice(), Form::Run).ok().ok_or("a script")?;
+    let input = parse(alloc, text.as_slice(), Form::Run)
+        .ok()
+        .ok_or("a script")?;
     let bytes = input.tape.ok_or("its words")?.bytes.into_vec();
     let shape = input.first.shape;
     let tape = Tape::from_bytes(&shape, bytes).ok().ok_or("its length")?;
