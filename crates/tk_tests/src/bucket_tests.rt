@@ -1,10 +1,10 @@
-ghost use Rattle.std.specs.Prelude.{◌≡◌, IfOk};
+ghost use Rattle.std.specs.Prelude.{◌≡◌, ◌<◌, ◌≤◌, IfOk};
 ghost use Rattle.tk_bucket.specs.Sizes.{IsSizes};
 
 use std::alloc::Global;
 use std::test::Fail;
 use tk_answer::Blocks;
-use tk_bucket::{Buckets, Memory, Packed, Step2};
+use tk_bucket::{Buckets, Memory, Packed, Step2, changes_lower_both};
 
 const BLOCK: [u8; 24] = [0x77; 24];
 
@@ -78,5 +78,65 @@ fn buckets_of_eight_slots(rt: HostRuntime) -> Result<(), Fail> {
     assert_eq!(rt; last.len(), 320);
     assert_eq!(rt; last.get(280..288), Some([0xff; 8].as_slice()));
     assert_eq!(rt; last.last(), Some(&0x77));
+    Ok(())
+}
+
+/// How many pages there are, how many are shared, and how many are spare.
+fn counts(buckets: &Buckets) -> [u32; 3] {
+    [buckets.pages(), buckets.shared(), buckets.spare()]
+}
+
+/// Writes a record into the first slot of a bucket; the sizes stay.
+fn write(buckets: &mut Buckets, bucket: u32, position: u64)
+    requires bucket { bucket < buckets.old.contents.buckets }
+    requires depth { buckets.old.contents.depth ≡ 4 }
+    requires block { buckets.old.contents.block ≡ 24 }
+    requires position { 1 ≤ position }
+    ensures buckets { buckets.new.contents.buckets ≡ buckets.old.contents.buckets }
+    ensures depth { buckets.new.contents.depth ≡ 4 }
+    ensures block { buckets.new.contents.block ≡ 24 }
+{
+    buckets.write_slot(bucket, 0, position, (bucket, 1), &BLOCK);
+}
+
+/// Takes a snapshot; the sizes stay.
+fn taken(alloc: Global, buckets: &mut Buckets) -> Result<Packed, Memory>
+    ensures buckets { buckets.new.contents.buckets ≡ buckets.old.contents.buckets }
+    ensures depth { buckets.new.contents.depth ≡ buckets.old.contents.depth }
+    ensures block { buckets.new.contents.block ≡ buckets.old.contents.block }
+{
+    buckets.snapshot(alloc)
+}
+
+/// The rest of a bucket's page, whose first record has this position.
+fn starts_with(packed: &Packed, i: u32, len: usize, position: u8) -> bool {
+    match bytes_from(packed, i) {
+        Some(bytes) => bytes.len() == len && bytes.get(7) == Some(&position),
+        None => false,
+    }
+}
+
+#[test]
+fn pages_shared_and_changed(rt: HostRuntime) -> Result<(), Fail> {
+    let mut buckets = wide(rt.alloc(), 256, 4, 24).ok().ok_or("memory")?;
+    assert_eq!(rt; counts(&buckets), [16, 0, 0]);
+    let early = taken(rt.alloc(), &mut buckets).ok().ok_or("memory")?;
+    assert_eq!(rt; counts(&buckets), [16, 16, 16]);
+    write(&mut buckets, 0, 7);
+    assert_eq!(rt; counts(&buckets), [16, 15, 15]);
+    write(&mut buckets, 1, 8);
+    assert_eq!(rt; counts(&buckets), [16, 15, 15]);
+    write(&mut buckets, 16, 9);
+    assert_eq!(rt; counts(&buckets), [16, 14, 14]);
+    let late = taken(rt.alloc(), &mut buckets).ok().ok_or("memory")?;
+    assert_eq!(rt; counts(&buckets), [16, 16, 16]);
+    // both snapshots keep their blocks
+    write(&mut buckets, 0, 10);
+    for (i, position) in [(0, 7), (1, 8), (16, 9), (255, 0)] {
+        let len = 160 * (16 - i as usize % 16);
+        assert!(rt; starts_with(&early, i, len, 0), "bucket {i}");
+        assert!(rt; starts_with(&late, i, len, position), "bucket {i}");
+    }
+    changes_lower_both();
     Ok(())
 }

@@ -25,6 +25,8 @@ mod law_tests;
 #[cfg(test)]
 mod place_tests;
 #[cfg(test)]
+mod pool_tests;
+#[cfg(test)]
 mod pressure;
 #[cfg(test)]
 mod print_tests;
