@@ -5,6 +5,8 @@
 #[cfg(test)]
 mod answer_tests;
 #[cfg(test)]
+mod beside_tests;
+#[cfg(test)]
 mod bit_tests;
 #[cfg(test)]
 mod bloom_tests;
@@ -24,6 +26,8 @@ mod kernel_tests;
 mod law_tests;
 #[cfg(test)]
 mod place_tests;
+#[cfg(test)]
+mod plain_table;
 #[cfg(test)]
 mod pool_tests;
 #[cfg(test)]

@@ -90,16 +90,18 @@ fn are_stored(snapshot: &Snapshot, latest: &[Write], depth: u32) -> bool {
     slots == depth.saturating_mul(8)
 }
 
-/// Two buckets that look random: the high bits of a linear congruence.
-fn next_pair(state: &mut u64) -> (u32, u32)
-    ensures first { result.0 < 8 }
-    ensures second { result.1 < 8 }
+/// Two of so many buckets that look random: the high bits of a linear congruence.
+pub(crate) fn next_pair(state: &mut u64, buckets: u32) -> (u32, u32)
+    requires { 0 < buckets }
+    ensures first { result.0 < buckets }
+    ensures second { result.1 < buckets }
 {
     *state = state
         .wrapping_mul(6364136223846793005)
         .wrapping_add(1442695040888963407);
     let high = *state >> 40;
-    ((high % 8) as u32, (high / 8 % 8) as u32)
+    let count = u64::from(buckets);
+    ((high % count) as u32, (high / count % count) as u32)
 }
 
 /// The last so many writes.
@@ -115,7 +117,7 @@ fn press(alloc: Global, depth: u32, retained: u32, writes: u64) -> Result<(), Fa
     let mut all: Vec<Write> = Vec::new(alloc);
     let mut state = u64::from(depth);
     for position in 1..=writes {
-        let pair = next_pair(&mut state);
+        let pair = next_pair(&mut state, 8);
         let stored = fits(last(&all, retained.saturating_sub(1)), pair, depth);
         if (put(&mut table, position, pair) == Put::Placed) != stored {
             return Err("put".into());
