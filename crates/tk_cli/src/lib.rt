@@ -29,14 +29,10 @@ mod refusal_tests;
 #[cfg(test)]
 mod report_tests;
 #[cfg(test)]
-mod run_tests;
-#[cfg(test)]
 mod status_tests;
 #[cfg(test)]
 mod tap_tests;
 #[cfg(test)]
 mod testing;
-#[cfg(test)]
-mod view_tests;
 #[cfg(test)]
 mod word_tests;
