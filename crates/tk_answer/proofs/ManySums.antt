@@ -46,6 +46,11 @@ rows_reach n rows vectors same h k d less =
     subst (λ v. 8 * length v ≡ n) (get_or-map (λ row. row.items) rows k d) (all k d.items (omega (arith, length-map rows (λ row. row.items)))) in
     ap (λ m. 8 * m) row.ok.0 ∙ here
 
+-- where there is a row, the blocks are whole eights
+pub eights_of_rows : (n : ℕ) (rows : List (Vec ℕ Global)) → 0 < length rows → All (λ row. 8 * row.len ≡ n) rows → n % 8 ≡ 0
+eights_of_rows n [] some h = absurd (omega arith)
+eights_of_rows n (row ∷ rows) some h = let first : 8 * row.len ≡ n = h 0 row (omega arith) in omega arith
+
 module _ (width : ℕ) (blocks : List (List ℕ)) (vectors : List (Vec ℕ Global)) (some : 0 < width) (each : AllSized width blocks) where
   -- a tile added to each
   pub tile_added : (done n : ℕ) (tile : List ℕ) (sums new : List (Vec ℕ Global)) → AreSumming width blocks vectors done sums →

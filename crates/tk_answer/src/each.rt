@@ -1,4 +1,4 @@
-ghost use Rattle.std.specs.Prelude.{◌≡◌, ◌*◌, length, map, IfOk};
+ghost use Rattle.std.specs.Prelude.{◌≡◌, ◌*◌, length, map, vec_len, IfOk};
 ghost use Rattle.std.specs.List.{All};
 ghost use Rattle.tk_kernel.specs.Chosen.{chosen_sum};
 
@@ -19,16 +19,30 @@ pub fn answer_each<B: Blocks>(
     ensures { IfOk result (λ sums. sums.items
         ≡ map (chosen_sum (B.width blocks.now) (B.blocks blocks.now)) vectors.items) }
 {
-    if vectors.is_empty() {
+    let rows = rows_of(alloc, vectors)?;
+    answer_rows(alloc, blocks, rows.as_slice())
+}
+
+/// The answers to the vectors whose bytes these rows have, as `answer_each` gives them, in one pass over the blocks.
+pub fn answer_rows<B: Blocks>(
+    alloc: Global,
+    blocks: &B,
+    rows: &[Vec<u8>],
+) -> Result<Vec<Bytes>, Memory>
+    requires rows { All (λ row. 8 * vec_len row ≡ length (B.blocks blocks.now)) rows.now }
+    ensures { IfOk result (λ sums. sums.items
+        ≡ map (chosen_sum (B.width blocks.now) (B.blocks blocks.now))
+        (map (λ row. row.items) rows.now)) }
+{
+    if rows.is_empty() {
         return Ok(Vec::new(alloc));
     }
-    let rows = rows_of(alloc, vectors)?;
-    let sums = summed(alloc, blocks, rows.as_slice())?;
+    let sums = summed(alloc, blocks, rows)?;
     bytes_of(alloc, sums)
 }
 
-// The vectors' bytes.
-fn rows_of(alloc: Global, vectors: Vec<Bytes>) -> Result<Vec<Vec<u8>>, Memory>
+/// The vectors' bytes, none of which is copied.
+pub fn rows_of(alloc: Global, vectors: Vec<Bytes>) -> Result<Vec<Vec<u8>>, Memory>
     ensures { IfOk result (λ rows. map (λ row. row.items) rows.items ≡ vectors.items) }
 {
     let mut rows = Vec::new(alloc);

@@ -8,6 +8,6 @@ mod sum;
 mod tiles;
 
 pub use blocks::Blocks;
-pub use each::answer_each;
+pub use each::{answer_each, answer_rows, rows_of};
 pub use laws::parts_are_runs;
 pub use sum::answer;
