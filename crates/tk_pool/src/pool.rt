@@ -1,6 +1,7 @@
 ghost use Rattle.std.specs.Prelude.{◌≡◌, ◌+◌, ◌<◌, ◌≤◌, ℕ, length, max, IfOk};
+ghost use Rattle.std.specs.Prelude.{OnErr};
 ghost use Rattle.std.specs.Vec.{vec_capacity};
-ghost use Rattle.tk_pool.specs.Pool.{Spares, IsPool};
+ghost use Rattle.tk_pool.specs.Pool.{Spares, AreSpare, IsPool};
 
 use crate::{Memory, Page};
 use std::alloc::Global;
@@ -42,10 +43,11 @@ impl PagePool {
         }
     }
 
-    /// Makes at least `n` pages spare. Where memory is wanting, some of those may have been made.
+    /// Makes at least `n` pages spare. Where memory is wanting, nothing changes.
     pub fn reserve(&mut self, alloc: Global, n: u32) -> Result<(), Memory>
         ensures len { self.new.page_len ≡ self.old.page_len }
         ensures spare { IfOk result (λ _. self.new.spare ≡ max self.old.spare n) }
+        ensures err { OnErr result (self.new ≡ self.old) }
         ensures kept { self.old.spare ≤ self.new.spare }
         ensures no_more { self.new.spare ≤ max self.old.spare n }
         ensures room { self.old.room ≤ self.new.room }
@@ -82,19 +84,32 @@ impl PagePool {
     }
 }
 
-/// Makes pages until there are `n`, or memory is wanting.
+/// Makes pages until there are `n`. Where memory is wanting, nothing changes.
 fn make_spare(alloc: Global, pages: &mut Vec<Page>, page_len: u32, n: u32) -> Result<(), Memory>
     requires { IsPool page_len (vec_capacity pages.old) pages.old.items }
     ensures pool { IsPool page_len (vec_capacity pages.new) pages.new.items }
     ensures spare { IfOk result (λ _. length pages.new.items ≡ max (length pages.old.items) n) }
-    ensures kept { length pages.old.items ≤ length pages.new.items }
-    ensures no_more { length pages.new.items ≤ max (length pages.old.items) n }
     ensures room { vec_capacity pages.old ≤ vec_capacity pages.new }
+    ensures err_spare { OnErr result (length pages.new.items ≡ length pages.old.items) }
+    ensures err_room { OnErr result (vec_capacity pages.new ≡ vec_capacity pages.old) }
 {
-    let missing = (n as usize).saturating_sub(pages.len());
-    pages.reserve_exact(missing)?;
-    for _made in 0..missing {
-        pages.push_reserved(Page::zeroed(alloc, page_len)?);
+    let missing = n.saturating_sub(pages.len() as u32);
+    let made = blank_pages(alloc, page_len, missing)?;
+    pages.reserve_exact(missing as usize)?;
+    for page in made {
+        pages.push_reserved(page);
     }
     Ok(())
+}
+
+/// So many pages of zeros.
+fn blank_pages(alloc: Global, page_len: u32, count: u32) -> Result<Vec<Page>, Memory>
+    ensures each { IfOk result (λ pages. AreSpare page_len pages.items) }
+    ensures counted { IfOk result (λ pages. length pages.items ≡ count) }
+{
+    let mut pages = Vec::with_capacity(alloc, count as usize)?;
+    for _made in 0..count {
+        pages.push_reserved(Page::zeroed(alloc, page_len)?);
+    }
+    Ok(pages)
 }
