@@ -84,9 +84,7 @@ impl<T: Share> Publisher<T> {
     {
         self.ledger.fits()
     }
-}
 
-impl<T: Share> Publisher<T> {
     /// Ends the board. The list begins with what each of these readers knew.
     pub fn close<R: Wait>(self, rt: &R, readers: Vec<Reader<T>>) -> Result<(), Memory>
         requires { All (λ k. k.board ≡ self.board) readers.items }

@@ -26,6 +26,7 @@ impl<T: Share> Model for Told<T> {
 }
 
 impl<T: Share> Told<T> {
+    /// The value that was shown.
     pub fn value(&self) -> &T
         ensures { IsLast self.now.list (T.meaning result.now) }
     {

@@ -51,12 +51,14 @@ impl Blank {
         })
     }
 
+    /// The shape of the order to come.
     pub fn shape(&self) -> Shape
         ensures { result ≡ self.now.shape }
     {
         self.shape
     }
 
+    /// How many seats it will have.
     pub fn seats(&self) -> u32
         ensures { result ≡ self.now.seats }
     {

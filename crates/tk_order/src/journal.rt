@@ -22,6 +22,7 @@ impl Model for Journal {
 }
 
 impl Journal {
+    /// The entries by position, the first one at place 0.
     pub fn as_slice(&self) -> &[Arc<Placed>]
         ensures { map (λ a. arc_value a) result.now ≡ self.now }
     {

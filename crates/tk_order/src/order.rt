@@ -74,7 +74,8 @@ impl<B: Naming> Order<B> {
         unreachable!()
     }
 
-    /// The length of the list now. It waits for nobody.
+    /// The length of the list that the seat knows then, with all that others had ordered where it
+    /// looked. It waits for nobody.
     pub fn look(&self, seat: &mut OrderSeat<B>) -> u64
         ensures now { result ≡ length seat.new.seen }
         ensures sees { SeesMore seat.old seat.new }
@@ -133,7 +134,8 @@ impl<B: Naming> Order<B> {
     }
 
     /// The whole list. It begins with what each of these seats had seen, and has under a seat's
-    /// number just the entries that this seat ordered.
+    /// number just the entries that this seat ordered. Not all numbers need to be handed in: under
+    /// one that isn't, there stands what its seat ordered, of which nothing is said here.
     pub fn close<R: Wait>(self, rt: &R, seats: Vec<OrderSeat<B>>) -> Journal
         ensures whole { IsWhole seats.items result }
         ensures legal { IsLegal B.shape result }
