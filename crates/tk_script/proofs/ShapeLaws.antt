@@ -122,7 +122,8 @@ limits_kept s =
             (
               between 24 1024 s.block r.block_low r.block_high,
               (
-                and_from (is_power_of_two s.filter_bits) (is_between 64 65536 s.filter_bits) r.filter_power
+                and_from (is_power_of_two s.filter_bits) (is_between 64 65536 s.filter_bits)
+                    r.filter_power
                     (between 64 65536 s.filter_bits r.filter_low r.filter_high),
                 (
                   between 1 4 s.hits r.hits_low r.hits_high,

@@ -88,7 +88,8 @@ not-spelled text never =
 
 none-by : (word : List ℕ) (o : Option ℕ) (rest : List (List ℕ)) →
     (turn_said word None o rest ≡ no_turn) × (turn_said word o None rest ≡ no_turn)
-none-by word o rest = (first (bytes_eq word (codes "order")), second (bytes_eq word (codes "order")) o)
+none-by word o rest =
+    (first (bytes_eq word (codes "order")), second (bytes_eq word (codes "order")) o)
   where
     inner : (t : Bool) → cond t no_turn no_turn ≡ no_turn
     inner true = refl
@@ -123,7 +124,8 @@ kind-two line w rest p e f = ap turn_parts (e ∙ ap (λ (ps : List (List ℕ)).
 pub kind-three : (line w rest p more t : List ℕ) → parts_of line ≡ w ∷ parts_of rest →
     parts_of rest ≡ p ∷ parts_of more → parts_of more ≡ t ∷ [] → read_turn line ≡ no_turn
 kind-three line w rest p more t e f g =
-    ap turn_parts (e ∙ ap (λ (ps : List (List ℕ)). w ∷ ps) (f ∙ ap (λ (ps : List (List ℕ)). p ∷ ps) g))
+    ap turn_parts (e ∙ ap (λ (ps : List (List ℕ)). w ∷ ps)
+    (f ∙ ap (λ (ps : List (List ℕ)). p ∷ ps) g))
 
 -- a word, a phase, a tick and what follows
 pub parts-four : (line w rest p more t last : List ℕ) → parts_of line ≡ w ∷ parts_of rest →

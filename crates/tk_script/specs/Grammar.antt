@@ -1,7 +1,9 @@
 -- Which texts spell which inputs.
 -- A text is lines of fields with one space between; numbers are plain decimal, and hexadecimal
 -- digits are in either case.
-use Rattle.std.specs.Prelude.{◌≡◌, ℕ, ◌+◌, ◌<◌, ◌≤◌, ◌^◌, ◌-◌, min, ◌⊎◌, ◌==◌, cond, List, [], ◌∷◌, ◌++◌, length, map, take, replicate, codes, decimal, flat_map, Option, Some, None, Ok}
+use Rattle.std.specs.Prelude.{◌≡◌, ℕ, ◌+◌, ◌<◌, ◌≤◌, ◌^◌, ◌-◌, min, ◌⊎◌, ◌==◌, cond, List, [], ◌∷◌}
+use Rattle.std.specs.Prelude.{◌++◌, length, map, take, replicate, codes, decimal, flat_map, Option}
+use Rattle.std.specs.Prelude.{Some, None, Ok}
 use Rattle.std.specs.List.{join_with_byte, onto_first, AllByRecursion, AllZip}
 use Rattle.hex.specs.Hex.{decode_of}
 use Rattle.tk_shape.specs.declared.shape.Shape.{Shape}

@@ -1,6 +1,7 @@
 -- The one form in which a script, a history and a tape are printed: the digits of bytes are in
 -- lower case.
-use Rattle.std.specs.Prelude.{ℕ, zero, suc, List, [], ◌∷◌, ◌++◌, length, map, take, drop, codes, decimal, flat_map, Option, Some, None}
+use Rattle.std.specs.Prelude.{ℕ, zero, suc, List, [], ◌∷◌, ◌++◌, length, map, take, drop, codes}
+use Rattle.std.specs.Prelude.{decimal, flat_map, Option, Some, None}
 use Rattle.std.specs.List.{AllByRecursion}
 use Rattle.hex.specs.Hex.{encode_lower, IsBytes}
 use Rattle.tk_handle.specs.declared.handle.Handle.{Handle}
@@ -8,7 +9,8 @@ use Rattle.tk_handle.specs.Handle.{handle_bytes}
 use Rattle.tk_script.specs.declared.script.Script.{Script}
 use Rattle.tk_script.specs.declared.keys.Keys.{Keys}
 use Rattle.tk_schedule.specs.declared.raw.RawKind.{RawKind}
-use Rattle.tk_script.specs.Grammar.{Line, fields, shape_line, kind_line, role_line, say_line, raw_line, IsHandle, IsSeed}
+use Rattle.tk_script.specs.Grammar.{Line, fields, shape_line, kind_line, role_line, say_line}
+use Rattle.tk_script.specs.Grammar.{raw_line, IsHandle, IsSeed}
 
 -- lines, each ended by a line feed
 abbrev pub text_of : List Line → List ℕ

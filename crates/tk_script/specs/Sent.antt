@@ -1,5 +1,6 @@
 -- What each client sends in each turn: it depends on the script alone.
-use Rattle.std.specs.Prelude.{ℕ, ◌+◌, ◌==◌, ◌&&◌, nat_le, nat_lt, Bool, max, List, [], ◌∷◌, filter, find, count_by, slice_index_or, Option}
+use Rattle.std.specs.Prelude.{ℕ, ◌+◌, ◌==◌, ◌&&◌, nat_le, nat_lt, Bool, max, List, [], ◌∷◌, filter}
+use Rattle.std.specs.Prelude.{find, count_by, slice_index_or, Option}
 use Rattle.tk_shape.specs.declared.shape.Shape.{Shape}
 use Rattle.tk_script.specs.declared.script.Script.{Script}
 use Rattle.tk_script.specs.declared.role.Role.{Role}

@@ -1,5 +1,6 @@
 -- What holds of every script.
-use Rattle.std.specs.Prelude.{◌≡◌, ℕ, ◌+◌, Bool, true, ◌&&◌, ◌||◌, ◌==◌, nat_le, nat_lt, List, [], ◌∷◌, length, IsTrue, Option, Some, None}
+use Rattle.std.specs.Prelude.{◌≡◌, ℕ, ◌+◌, Bool, true, ◌&&◌, ◌||◌, ◌==◌, nat_le, nat_lt, List, []}
+use Rattle.std.specs.Prelude.{◌∷◌, length, IsTrue, Option, Some, None}
 use Rattle.std.specs.List.{list_all}
 use Rattle.tk_shape.specs.Lengths.{tape_len}
 use Rattle.tk_seal.specs.Texts.{is_allowed}

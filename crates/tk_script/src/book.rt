@@ -22,7 +22,8 @@ impl Script {
     ghost use Rattle.tk_script.specs.declared.book.BookError.TheVariants as error;
     ghost use Rattle.tk_script.specs.Book.{book_from, HasTape, IsOtherTape, IsWholeTape};
 
-    /// The words of a script: those of its keys, or those of a tape, of which no more bytes are kept than the shape wants.
+    /// The words of a script: those of its keys, or those of a tape, of which no more bytes are
+    /// kept than the shape wants.
     pub fn book(&self, alloc: Global, tape: Option<RawTape>) -> Result<Book, BookError>
         requires { HasTape self.now.shape self.now.keys tape }
         ensures shape { IfOk result (λ book. shape_of book ≡ self.now.shape) }
@@ -62,7 +63,8 @@ fn keyed_draws(alloc: Global, script: &Script, keys: &Keys) -> Result<KeyedDraws
     Ok(KeyedDraws::new(&script.shape, handles, seeds))
 }
 
-/// The words of a tape, of which no more bytes are kept than the shape wants; or that it has another length.
+/// The words of a tape, of which no more bytes are kept than the shape wants; or that it has
+/// another length.
 fn drawn_draws(shape: &Shape, tape: RawTape) -> Result<DrawnDraws, BookError>
     requires { tape.got ≡ tape_len shape.now → length tape.bytes ≡ tape_len shape.now }
     ensures whole { IfOk result (λ draws. tape.got ≡ tape_len shape.now) }

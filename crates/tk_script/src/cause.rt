@@ -5,7 +5,8 @@ use tk_shape::Field;
 pub enum Cause {
     /// The input ends where a line is due.
     Early,
-    /// No line that may stand here: by its words, its number of fields, its spelling of numbers or its digits.
+    /// No line that may stand here: by its words, its number of fields, its spelling of numbers or
+    /// its digits.
     Form,
     /// The shape's numbers break a limit, of which this is the first.
     Shape { field: Field, value: u64 },

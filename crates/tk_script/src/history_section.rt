@@ -10,7 +10,8 @@ use crate::{Cause, ScriptError};
 use std::alloc::Global;
 use tk_schedule::{RawHistory, RawKind, RawLine};
 
-/// The history section that begins here, and the place behind it. Whether its lines are the ones due is not asked here.
+/// The history section that begins here, and the place behind it. Whether its lines are the ones
+/// due is not asked here.
 pub(crate) fn history_of(
     alloc: Global,
     start: Place<'_>,

@@ -2,15 +2,16 @@ use crate::Script;
 use tk_schedule::RawHistory;
 use tk_shape::Bytes;
 
-/// A tape as it was read: no more bytes than the first script's shape wants are kept, and all are counted.
+/// A tape as it was read: no more bytes than the first script's shape wants are kept, and all are
+/// counted.
 #[derive(Debug, Drop)]
 pub struct RawTape {
     pub bytes: Bytes,
     pub got: u64,
 }
 
-/// What a text spells: a script, or two; a history as it was read, where the form has one; and a tape where words are
-/// drawn.
+/// What a text spells: a script, or two; a history as it was read, where the form has one; and a
+/// tape where words are drawn.
 #[derive(Debug, Drop)]
 pub struct Input {
     pub first: Script,

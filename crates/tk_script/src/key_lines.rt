@@ -1,7 +1,8 @@
 ghost use Rattle.std.specs.Prelude.{◌≡◌, [], List, Some, Ok, length, ℕ, IfSome};
 ghost use Rattle.hex.specs.Hex.{decode_of};
 ghost use Rattle.tk_script.specs.Answer.{Agrees};
-ghost use Rattle.tk_script.specs.Reading.{IsTaken, named, next_lines, read_handle, read_keys, read_seed};
+ghost use Rattle.tk_script.specs.Reading.{IsTaken, named, next_lines, read_handle, read_keys};
+ghost use Rattle.tk_script.specs.Reading.{read_seed};
 ghost use Rattle.tk_script.specs.Stands.{stands};
 
 use crate::fields::rest_behind;

@@ -1,6 +1,7 @@
 ghost use Rattle.std.specs.Prelude.{◌≡◌, ◌++◌, ◌∷◌, [], map, OnOk};
 ghost use Rattle.std.specs.List.{AllByRecursion};
-ghost use Rattle.tk_script.specs.Printing.{text_of, handle_line, seed_line, lines_of_keys, HasHandle, HasSeed, HasKeys};
+ghost use Rattle.tk_script.specs.Printing.{text_of, handle_line, seed_line, lines_of_keys};
+ghost use Rattle.tk_script.specs.Printing.{HasHandle, HasSeed, HasKeys};
 
 use crate::Keys;
 use crate::line_text::push_bytes_line;

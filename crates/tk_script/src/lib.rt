@@ -1,5 +1,5 @@
-//! The text that describes a group, its logs and what is said: a script and, where its words are drawn, their tape; and
-//! what else stands in the forms of an input, a history and a second script.
+//! The text that describes a group, its logs and what is said: a script and, where its words are
+//! drawn, their tape; and what else stands in the forms of an input, a history and a second script.
 #![tactic(auto)]
 
 mod book;

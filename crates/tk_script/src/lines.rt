@@ -1,4 +1,5 @@
-ghost use Rattle.std.specs.Prelude.{◌≡◌, ◌≢◌, ◌<◌, ◌↔◌, ◌∷◌, ℕ, codes, IsTrue, List, [], length, slice_index, IfSome, IfNone, IsSomeAnd};
+ghost use Rattle.std.specs.Prelude.{◌≡◌, ◌≢◌, ◌<◌, ◌↔◌, ◌∷◌, ℕ, codes, IsTrue, List, [], length};
+ghost use Rattle.std.specs.Prelude.{slice_index, IfSome, IfNone, IsSomeAnd};
 ghost use Rattle.tk_script.specs.Grammar.{Line, lines_of};
 
 /// Where a byte stands first in a text.

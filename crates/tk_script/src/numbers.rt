@@ -1,6 +1,8 @@
 ghost use Rattle.std.specs.Prelude.{◌≡◌, ◌<◌, ◌^◌, ℕ, decimal, Some, IfSome};
+ghost use Rattle.tk_script.specs.Reading.{number_spelled};
 
-/// The number of 64 bits whose plain decimal a text is: digits alone, and no zero in front of others.
+/// The number of 64 bits whose plain decimal a text is: digits alone, and no zero in front of
+/// others.
 pub fn plain_number(text: &[u8]) -> Option<u64>
     ensures found { IfSome result (λ n. text.now ≡ decimal n) }
     ensures only { (n : ℕ) → n < 2 ^ 64 → text.now ≡ decimal n → result ≡ Some n }
@@ -29,6 +31,7 @@ pub fn plain_number(text: &[u8]) -> Option<u64>
 pub(crate) fn number_of(text: &[u8]) -> Option<u32>
     ensures found { IfSome result (λ n. text.now ≡ decimal n) }
     ensures only { (n : ℕ) → n < 2 ^ 32 → text.now ≡ decimal n → result ≡ Some n }
+    ensures spelled { result ≡ number_spelled text.now }
 {
     match plain_number(text) {
         Some(number) if number <= 4294967295 => Some(number as u32),

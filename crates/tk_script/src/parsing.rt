@@ -2,7 +2,8 @@ ghost use Rattle.std.specs.Prelude.{◌≡◌, true, false, IfOk};
 ghost use Rattle.tk_shape.specs.Lengths.{tape_len};
 ghost use Rattle.tk_script.specs.Answer.{Gives, Agrees};
 ghost use Rattle.tk_script.specs.Grammar.{lines_of, Spells};
-ghost use Rattle.tk_script.specs.Reading.{front, input_lines, read_end, read_input, read_mirror, read_run, read_view};
+ghost use Rattle.tk_script.specs.Reading.{front, input_lines, read_end, read_input, read_mirror};
+ghost use Rattle.tk_script.specs.Reading.{read_run, read_view};
 ghost use Rattle.tk_script.specs.Stands.{stands};
 
 use crate::history_section::history_of;
@@ -12,8 +13,8 @@ use crate::tape::tape_of;
 use crate::{Form, Input, RawTape, Script, ScriptError};
 use std::alloc::Global;
 
-/// The input of a form that a text spells, or the first of its lines that is refused: that may also be one behind its
-/// last.
+/// The input of a form that a text spells, or the first of its lines that is refused: that may also
+/// be one behind its last.
 pub fn parse(alloc: Global, text: &[u8], form: Form) -> Result<Input, ScriptError>
     ensures found { IfOk result (λ input. Spells form text.now input) }
     ensures read { Agrees input_lines result (read_input form (lines_of text.now)) }
@@ -78,8 +79,8 @@ fn mirror_of(alloc: Global, text: &[u8]) -> Result<Input, ScriptError>
     })
 }
 
-/// The tape behind a script of drawn words, where it is all that stands from here on; behind a keyed script nothing
-/// may stand.
+/// The tape behind a script of drawn words, where it is all that stands from here on; behind a
+/// keyed script nothing may stand.
 fn tape_behind(
     alloc: Global,
     script: &Script,

@@ -1,4 +1,5 @@
-ghost use Rattle.std.specs.Prelude.{◌≡◌, ◌++◌, ◌∷◌, ℕ, List, [], ◌-◌, length, take, replicate, Some, Ok, IfOk, IfSome, IsSomeAnd, OnOk};
+ghost use Rattle.std.specs.Prelude.{◌≡◌, ◌++◌, ◌∷◌, ℕ, List, [], ◌-◌, length, take, replicate};
+ghost use Rattle.std.specs.Prelude.{Some, Ok, IfOk, IfSome, IsSomeAnd, OnOk};
 ghost use Rattle.hex.specs.Hex.{decode_of};
 ghost use Rattle.tk_script.specs.Pieces.{piece_bytes};
 ghost use Rattle.tk_script.specs.Reading.{IsRead, parts_of, read_digits, read_fill, read_piece};
@@ -63,7 +64,8 @@ fn append_repeats(byte: u8, count: usize, kept: &mut Vec<u8>) -> Result<(), Memo
     Ok(())
 }
 
-/// The piece that a line spells: `x` and an even number of digits, or `fill`, two digits and a number.
+/// The piece that a line spells: `x` and an even number of digits, or `fill`, two digits and a
+/// number.
 pub(crate) fn piece_of(alloc: Global, line: &[u8]) -> Result<Result<Piece, Cause>, Memory>
     ensures { IfOk result (λ r. IsRead piece_bytes r (read_piece line.now)) }
 {
@@ -91,7 +93,8 @@ fn bytes_piece(alloc: Global, digits: &[u8]) -> Result<Result<Piece, Cause>, Mem
     }
 }
 
-/// The piece of the two digits of a byte and, behind a space, how many times it is repeated: 1 to 2,097,152 times.
+/// The piece of the two digits of a byte and, behind a space, how many times it is repeated: 1 to
+/// 2,097,152 times.
 fn fill_piece(text: &[u8]) -> Result<Piece, Cause>
     ensures { IsRead piece_bytes result (read_fill (parts_of text.now)) }
 {

@@ -9,15 +9,16 @@ use std::alloc::Global;
 /// What `parse` answers of a printed script of keys: the same script.
 pub fn parse_printed(alloc: Global, script: &Script) -> Result<Input, ScriptError>
     ensures same { (keys : Keys) → script.now.keys ≡ Some keys →
-        Gives result (λ input. input ≡ record { first = script.now; second = None; history = None; tape = None }) }
+        Gives result (λ input. input ≡
+        record { first = script.now; second = None; history = None; tape = None }) }
 {
     let mut text = Vec::new(alloc);
     print(script, &mut text)?;
     parse(alloc, text.as_slice(), Form::Run)
 }
 
-/// What `parse` answers of a printed script of drawn words with a printed tape behind it: the same script, and what is
-/// kept of the same tape.
+/// What `parse` answers of a printed script of drawn words with a printed tape behind it: the same
+/// script, and what is kept of the same tape.
 pub fn parse_printed_with(alloc: Global, script: &Script, tape: &[u8]) -> Result<Input, ScriptError>
     ensures same { script.now.keys ≡ None →
         Gives result (λ input. input ≡

@@ -1,7 +1,8 @@
 ghost use Rattle.std.specs.Prelude.{◌≡◌, ◌<◌, ◌^◌, ℕ, List, [], IfOk, IfSome, IsSomeAnd};
 ghost use Rattle.tk_script.specs.Answer.{Agrees};
 ghost use Rattle.tk_script.specs.Grammar.{lines_of, say_line};
-ghost use Rattle.tk_script.specs.Reading.{is_by, last_when, named, out_of_range, read_next_say, read_say, to_end, why_not};
+ghost use Rattle.tk_script.specs.Reading.{is_by, last_when, named, out_of_range, read_next_say};
+ghost use Rattle.tk_script.specs.Reading.{read_say, to_end, why_not};
 ghost use Rattle.tk_script.specs.Stands.{stands};
 
 use crate::fields::{next_number, rest_behind};
@@ -49,8 +50,8 @@ fn last_when(says: &[Say]) -> (u32, u32)
     }
 }
 
-/// The text that a line says behind one of the phase and tick `last`: it has room in a block and is allowed, and is all
-/// after the space that follows the log.
+/// The text that a line says behind one of the phase and tick `last`: it has room in a block and is
+/// allowed, and is all after the space that follows the log.
 fn say_of(
     alloc: Global,
     shape: &Shape,
@@ -92,7 +93,8 @@ fn fields_of(line: &[u8]) -> Option<(u32, u32, u32, &[u8])>
     Some((phase, tick, log, text))
 }
 
-/// Why a text may not be said on a log, in a phase and a tick, behind one of the phase and tick `last`.
+/// Why a text may not be said on a log, in a phase and a tick, behind one of the phase and tick
+/// `last`.
 fn why_not(
     shape: &Shape,
     last: (u32, u32),

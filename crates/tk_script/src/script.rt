@@ -3,8 +3,8 @@ ghost use Rattle.tk_script.specs.SoundScript.{IsScript};
 use crate::{Keys, Role, Roles, Say, Says};
 use tk_shape::Shape;
 
-/// A group and what it says: the numbers of the run, keys unless the words are drawn, who writes and follows each
-/// log, and the texts in the order in which they are said.
+/// A group and what it says: the numbers of the run, keys unless the words are drawn, who writes
+/// and follows each log, and the texts in the order in which they are said.
 #[derive(Debug, Drop)]
 pub struct Script {
     pub shape: Shape,
@@ -15,7 +15,8 @@ pub struct Script {
 }
 
 impl Script {
-    ghost use Rattle.std.specs.Prelude.{◌≡◌, ◌+◌, ◌<◌, ◌≤◌, ℕ, length, IsTrue, slice_get, slice_index, Some};
+    ghost use Rattle.std.specs.Prelude.{◌≡◌, ◌+◌, ◌<◌, ◌≤◌, ℕ, length, IsTrue, slice_get};
+    ghost use Rattle.std.specs.Prelude.{slice_index, Some};
     ghost use Rattle.std.specs.List.{list_all};
     ghost use Rattle.tk_seal.specs.Texts.{is_allowed};
 

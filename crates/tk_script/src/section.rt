@@ -34,13 +34,15 @@ pub(crate) fn script_of(
     Ok((script, rest))
 }
 
-/// The shape of the three lines at the front of a script, whether it is keyed, and the place behind them.
+/// The shape of the three lines at the front of a script, whether it is keyed, and the place behind
+/// them.
 fn head_of(
     alloc: Global,
     may_be_keyed: bool,
     start: Place<'_>,
 ) -> Result<(Shape, bool, Place<'_>), ScriptError>
-    ensures { Agrees (λ x. (named x.0, x.1, stands x.2)) result (read_head may_be_keyed (stands start.entry)) }
+    ensures { Agrees (λ x. (named x.0, x.1, stands x.2)) result
+        (read_head may_be_keyed (stands start.entry)) }
 {
     let rest = start.behind(b"talek 1")?;
     let (shape, rest) = shape_of(alloc, rest)?;

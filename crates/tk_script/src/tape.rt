@@ -10,8 +10,8 @@ use crate::{RawTape, ScriptError};
 use std::alloc::Global;
 use tk_shape::Bytes;
 
-/// The tape section that begins here, and the place behind it. No more than `want` bytes are kept; all are counted,
-/// as far as 64 bits go.
+/// The tape section that begins here, and the place behind it. No more than `want` bytes are kept;
+/// all are counted, as far as 64 bits go.
 pub(crate) fn tape_of(
     alloc: Global,
     want: usize,

@@ -1,10 +1,10 @@
 ghost use Rattle.std.specs.Prelude.{◌≡◌, ◌<◌, ◌∷◌, [], Some, length, IfOk, IfSome, IfNone};
 ghost use Rattle.tk_script.specs.Reading as reading;
-ghost use Rattle.tk_script.specs.Reading.{IsTaken, parts_of, number_spelled, numbers_spelled};
+ghost use Rattle.tk_script.specs.Reading.{IsTaken, parts_of, numbers_spelled};
 ghost use Rattle.tk_script.specs.TurnHead.{HasHead};
 
 use crate::lines::place_of;
-use crate::numbers::plain_number;
+use crate::numbers::number_of;
 use std::alloc::Global;
 use tk_schedule::{Item, Items, RawKind};
 use tk_shape::{Memory, Words};
@@ -18,7 +18,8 @@ struct Head<'a> {
     rest: &'a [u8],
 }
 
-/// What a line of a history says: the order or the epochs of a turn. Whether the turn has them is not asked here.
+/// What a line of a history says: the order or the epochs of a turn. Whether the turn has them is
+/// not asked here.
 pub fn turn_of(alloc: Global, line: &[u8]) -> Result<Option<RawKind>, Memory>
     ensures { IfOk result (λ o. IsTaken o (reading.read_turn line.now)) }
 {
@@ -93,16 +94,6 @@ fn first_part(text: &[u8]) -> (&[u8], Option<&[u8]>)
     match place_of(text, b' ') {
         Some(end) => (&text[..end], Some(&text[end + 1..])),
         None => (text, None),
-    }
-}
-
-/// The number of 32 bits whose plain decimal a text is.
-fn number_of(text: &[u8]) -> Option<u32>
-    ensures { result ≡ number_spelled text.now }
-{
-    match plain_number(text) {
-        Some(number) if number <= 4294967295 => Some(number as u32),
-        _ => None,
     }
 }
 

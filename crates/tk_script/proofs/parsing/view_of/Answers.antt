@@ -22,7 +22,9 @@ returns-in_err-first c =
 
 pub returns-in_err-history : goal.returns-in_err-history
 returns-in_err-history c =
-    let out : c.from_residual-in_err-history.result ≡ Err c.in_err-history.field-0.0 = search rules in
+    let out : c.from_residual-in_err-history.result ≡ Err c.in_err-history.field-0.0 =
+    search rules
+    in
     let at = same_place (stands c.front.result) (front (lines_of c.args.text.now))
     c.front.ensures.number (ap lines_of c.front.ensures.whole) in
     tells_err c.from_residual-in_err-history.result c.in_err-history.field-0.0 input_lines

@@ -35,9 +35,11 @@ returns-then-count-lt1 c =
     let said = fill_said c.args.text.now found.0 c.in-Some.byte c.in-Some-next_number.count spelled
     found.1 c.in-Some-next_number.ensures.small in
     elim c.then-count-lt1.branch [
-      | then-count-lt1-via-then-count-lt1 w ↦ said ∙ repeats_few c.in-Some.byte c.in-Some-next_number.count
+      | then-count-lt1-via-then-count-lt1 w ↦ said ∙ repeats_few c.in-Some.byte
+          c.in-Some-next_number.count
           (omega arith)
-      | then-count-lt1-via-else-count-lt1+then-count-gt-MOST_REPEATS w ↦ said ∙ repeats_many c.in-Some.byte
+      | then-count-lt1-via-else-count-lt1+then-count-gt-MOST_REPEATS w ↦ said ∙ repeats_many
+          c.in-Some.byte
           c.in-Some-next_number.count (omega arith)
     ]
 
@@ -50,5 +52,6 @@ returns c =
     c.in-Some-next_number.ensures.found none in
     let said = fill_said c.args.text.now found.0 c.in-Some.byte c.in-Some-next_number.count spelled
     found.1 c.in-Some-next_number.ensures.small in
-    said ∙ repeats_taken c.in-Some.byte c.in-Some-next_number.count (omega (arith, c.if-count-lt1.false))
+    said ∙ repeats_taken c.in-Some.byte c.in-Some-next_number.count
+    (omega (arith, c.if-count-lt1.false))
     (omega (arith, c.if-count-gt-MOST_REPEATS.false))

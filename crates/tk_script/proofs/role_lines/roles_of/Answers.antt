@@ -13,15 +13,18 @@ returns-in_err-line c =
     told_refused c.from_residual.result c.in_err-line.field-0.0 (λ x. (x.0, stands x.1))
     (next_lines c.args.shape.now.logs (read_role (named c.args.shape.now)) [] (stands c.args.start))
     c.logs.here.line cause.Early out c.in_err-line.ensures.early
-    (c.logs.invariant.said ∙ lines_early (read_role (named c.args.shape.now)) c.args.shape.now.logs c.logs.counter
+    (c.logs.invariant.said ∙ lines_early (read_role (named c.args.shape.now))
+    c.args.shape.now.logs c.logs.counter
     c.logs.roles.items (stands c.logs.here)
     (omega (arith, c.logs-test.true)) c.in_err-line.ensures.none)
 
 pub returns-in-Err : goal.returns-in-Err
 returns-in-Err c =
     refused_as c.refused.result c.logs.here.line c.in-Err.cause
-    (next_lines c.args.shape.now.logs (read_role (named c.args.shape.now)) [] (stands c.args.start)) c.refused.ensures
-    (c.logs.invariant.said ∙ lines_refused (read_role (named c.args.shape.now)) c.args.shape.now.logs c.logs.counter
+    (next_lines c.args.shape.now.logs (read_role (named c.args.shape.now)) []
+    (stands c.args.start)) c.refused.ensures
+    (c.logs.invariant.said ∙ lines_refused (read_role (named c.args.shape.now))
+    c.args.shape.now.logs c.logs.counter
     c.logs.roles.items (stands c.logs.here)
     c.in_ok-line.line.now (stands c.in_ok-line.behind) c.in-Err.cause
     (omega (arith, c.logs-test.true))
@@ -32,7 +35,8 @@ pub logs-preserved : goal.logs-preserved
 logs-preserved c =
     let pushed : c.push.new.self.items ≡ c.logs.roles.items ++ c.in-Ok.role ∷ [] =
     search rules in
-    let said = c.logs.invariant.said ∙ lines_more (read_role (named c.args.shape.now)) c.args.shape.now.logs c.logs.counter
+    let said = c.logs.invariant.said ∙ lines_more (read_role (named c.args.shape.now))
+    c.args.shape.now.logs c.logs.counter
     c.logs.roles.items (stands c.logs.here)
     c.in_ok-line.line.now (stands c.in_ok-line.behind) c.in-Ok.role
     (omega (arith, c.logs-test.true))
@@ -43,7 +47,8 @@ logs-preserved c =
 
 pub returns : goal.returns
 returns c =
-    c.logs.invariant.said ∙ lines_done (read_role (named c.args.shape.now)) c.args.shape.now.logs c.logs.counter
+    c.logs.invariant.said ∙ lines_done (read_role (named c.args.shape.now)) c.args.shape.now.logs
+    c.logs.counter
     c.logs.roles.items (stands c.logs.here)
     (omega (arith, c.logs-test.false, c.logs.auto.counter-end))
     c.from_vec.result c.from_vec.ensures

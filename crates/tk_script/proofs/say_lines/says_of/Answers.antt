@@ -12,7 +12,8 @@ pub returns-in_err-line : goal.returns-in_err-line
 returns-in_err-line c =
     let out : c.from_residual.result ≡ Err c.in_err-line.field-0.0 = search rules in
     told_refused c.from_residual.result c.in_err-line.field-0.0 (λ x. (x.0, stands x.1))
-    (to_end (read_next_say (named c.args.shape.now)) [] c.args.start.line (lines_of c.args.start.rest.now))
+    (to_end (read_next_say (named c.args.shape.now)) [] c.args.start.line
+    (lines_of c.args.start.rest.now))
     c.lines.here.line cause.Early out c.in_err-line.ensures.early
     (c.lines.invariant.said ∙ end_early (read_next_say (named c.args.shape.now)) c.lines.says.items
     (stands c.lines.here) c.in_err-line.ensures.none)
@@ -31,8 +32,10 @@ returns-in-Err c =
     let other : c.in_ok-line.line.now ≡ codes "end" → ⊥ = search rules in
     let last = c.last_when-last.ensures ∙ ap last_when c.as_slice.ensures.value in
     refused_as c.refused.result c.lines.here.line c.in-Err.cause
-    (to_end (read_next_say (named c.args.shape.now)) [] c.args.start.line (lines_of c.args.start.rest.now)) c.refused.ensures
-    (c.lines.invariant.said ∙ end_refused (read_next_say (named c.args.shape.now)) c.lines.says.items (stands c.lines.here)
+    (to_end (read_next_say (named c.args.shape.now)) [] c.args.start.line
+    (lines_of c.args.start.rest.now)) c.refused.ensures
+    (c.lines.invariant.said ∙ end_refused (read_next_say (named c.args.shape.now))
+    c.lines.says.items (stands c.lines.here)
     c.in_ok-line.line.now (stands c.in_ok-line.behind) c.in-Err.cause
     (record { number = c.in_ok-line.ensures.number; lines = c.in_ok-line.ensures.line }) other
     (ap (λ w. read_say (named c.args.shape.now) w c.in_ok-line.line.now) (sym last)

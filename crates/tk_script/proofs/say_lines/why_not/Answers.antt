@@ -9,7 +9,8 @@ pub returns-in-Some : goal.returns-in-Some
 returns-in-Some c =
     let first : out_of_range (named c.args.shape.now) c.args.when.0 c.args.when.1 c.args.log
     ≡ Some c.in-Some.value = search rules in
-    sym (said_number (named c.args.shape.now) c.args.last c.args.when c.args.text.now _ c.in-Some.value
+    sym (said_number (named c.args.shape.now) c.args.last c.args.when c.args.text.now _
+    c.in-Some.value
     first)
 
 pub returns-then-not-is_by : goal.returns-then-not-is_by
@@ -45,4 +46,5 @@ returns-in-None c =
     let by : is_by c.args.last c.args.when ≡ true = search rules in
     let short : length c.args.text.now ≤ c.args.shape.now.block - 18 = search rules in
     let good : is_allowed c.args.text.now ≡ true = search rules in
-    sym (said_well (named c.args.shape.now) c.args.last c.args.when c.args.text.now _ none by short good)
+    sym (said_well (named c.args.shape.now) c.args.last c.args.when c.args.text.now _ none by
+    short good)

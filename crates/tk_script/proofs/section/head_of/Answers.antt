@@ -11,7 +11,8 @@ returns-in_err-rest c =
     let out : c.from_residual.result ≡ Err c.in_err-rest.field-0.0 = search rules in
     tells_err c.from_residual.result c.in_err-rest.field-0.0 (λ x. (named x.0, x.1, stands x.2))
     (read_head c.args.may_be_keyed (stands c.args.start)) out
-    (head_words_refused c.in_err-rest.field-0.0 c.args.may_be_keyed (stands c.args.start) c.in_err-rest.ensures)
+    (head_words_refused c.in_err-rest.field-0.0 c.args.may_be_keyed (stands c.args.start)
+    c.in_err-rest.ensures)
 
 pub returns-in_err-shape : goal.returns-in_err-shape
 returns-in_err-shape c =
@@ -19,7 +20,8 @@ returns-in_err-shape c =
     tells_err c.from_residual-in_err-shape.result c.in_err-shape.field-0.0 (λ x.
     (named x.0, x.1, stands x.2))
     (read_head c.args.may_be_keyed (stands c.args.start)) out
-    (head_shape_refused c.args.may_be_keyed (stands c.args.start) (stands c.in_ok-rest.rest) c.in_ok-rest.ensures
+    (head_shape_refused c.args.may_be_keyed (stands c.args.start) (stands c.in_ok-rest.rest)
+    c.in_ok-rest.ensures
     c.in_err-shape.field-0.0 c.in_err-shape.ensures)
 
 pub returns-in_err-keyed : goal.returns-in_err-keyed
@@ -28,12 +30,14 @@ returns-in_err-keyed c =
     tells_err c.from_residual-in_err-keyed.result c.in_err-keyed.field-0.0 (λ x.
     (named x.0, x.1, stands x.2))
     (read_head c.args.may_be_keyed (stands c.args.start)) out
-    (head_kind_refused c.args.may_be_keyed (stands c.args.start) (stands c.in_ok-rest.rest) c.in_ok-rest.ensures
+    (head_kind_refused c.args.may_be_keyed (stands c.args.start) (stands c.in_ok-rest.rest)
+    c.in_ok-rest.ensures
     (named c.in_ok-shape.shape) (stands c.in_ok-shape.rest) c.in_ok-shape.ensures
     c.in_err-keyed.field-0.0 c.in_err-keyed.ensures)
 
 pub returns : goal.returns
 returns c =
-    head_is c.args.may_be_keyed (stands c.args.start) (stands c.in_ok-rest.rest) c.in_ok-rest.ensures
+    head_is c.args.may_be_keyed (stands c.args.start) (stands c.in_ok-rest.rest)
+    c.in_ok-rest.ensures
     (named c.in_ok-shape.shape) (stands c.in_ok-shape.rest) c.in_ok-shape.ensures
     c.in_ok-keyed.keyed (stands c.in_ok-keyed.rest) c.in_ok-keyed.ensures

@@ -69,7 +69,7 @@ returns-in_err-phase-clause-none c =
     let three = some-then c.first_part-3.result.1 last (IsBehind more.now tick)
     c.in_ok-rest-3.was c.first_part-3.ensures.some
     in
-    let none : number_spelled phase ≡ None = sym c.number_of.ensures ∙ c.in_err-phase.was in
+    let none : number_spelled phase ≡ None = sym c.number_of.ensures.spelled ∙ c.in_err-phase.was in
     if-none _ _ (kind-no_phase line word phase tick last.now
     (parts-four line word rest.now phase more.now tick last.now one two three) none)
 
@@ -91,6 +91,6 @@ returns-in_err-tick-clause-none c =
     let three = some-then c.first_part-3.result.1 last (IsBehind more.now tick)
     c.in_ok-rest-3.was c.first_part-3.ensures.some
     in
-    let none : number_spelled tick ≡ None = sym c.number_of-2.ensures ∙ c.in_err-tick.was in
+    let none : number_spelled tick ≡ None = sym c.number_of-2.ensures.spelled ∙ c.in_err-tick.was in
     if-none _ _ (kind-no_tick line word phase tick last.now
     (parts-four line word rest.now phase more.now tick last.now one two three) none)
