@@ -8,4 +8,5 @@ pub mod Several
 pub mod MarksAmong
 pub mod LastMarks
 pub mod Following
+pub mod KeptNumbers
 pub mod Offers

@@ -13,6 +13,7 @@ use Rattle.tk_frames.specs.Faults.{IsRefusal}
 use Rattle.tk_frames.specs.Fields.{read_in}
 use Rattle.tk_frames.specs.Order.{Record, before}
 use Rattle.tk_frames.specs.Ranges.{IsRead}
+use Rattle.tk_frames.specs.Spelling.{read_frame}
 use Rattle.tk_replica.specs.declared.epoch.Epoch.{Epoch}
 use Rattle.tk_replica.specs.declared.error.ServeError.{ServeError}
 use Rattle.tk_table.specs.Replies.{reply_to}
@@ -61,10 +62,15 @@ over-epoch shape E e epoch r is named =
     ∙ ap (λ n. reply_to shape (before E n) r) (sym named)
 
 -- it is the reply to the bytes that spell the read
+pub for-spelled : (shape : Shape) (E : List Placed) (bytes : List ℕ) (r : ReadFrame) →
+    IsRead shape r → bytes ≡ read_frame r → reply_for shape E r ≡ reply_due shape E bytes
+unfolding reply_due
+for-spelled shape E bytes r in_range spelled =
+    ap (reply_for shape E) (sym (ap (read_in shape) spelled ∙ read-again shape r in_range))
+
 pub for-bytes : (shape : Shape) (E : List Placed) (s : ReplicaView) (bytes : List ℕ)
     (r : ReadFrame) → StandsFor shape E s → IsAsked s bytes r →
     reply_for shape E r ≡ reply_due shape E bytes
-unfolding reply_due
 for-bytes shape E s bytes r is asked =
-    let in_range = subst (λ sh. IsRead sh r) is.same asked.served.in_range in
-    ap (reply_for shape E) (sym (ap (read_in shape) asked.spelled ∙ read-again shape r in_range))
+    for-spelled shape E bytes r (subst (λ sh. IsRead sh r) is.same asked.served.in_range)
+    asked.spelled

@@ -5,3 +5,5 @@ pub mod Replica
 pub mod Replies
 pub mod Refusals
 pub mod Following
+pub mod Keeping
+pub mod Laws
