@@ -1,0 +1,9 @@
+//! Answers to many vectors by several threads at once, each of which takes some of the vectors.
+#![tactic(auto)]
+
+mod all;
+mod joined;
+#[cfg(test)]
+mod tests;
+
+pub use all::answer_all;
