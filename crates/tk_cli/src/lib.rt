@@ -23,8 +23,6 @@ pub use top::{INPUT_LIMIT, talek};
 #[cfg(test)]
 mod fault_tests;
 #[cfg(test)]
-mod group_tests;
-#[cfg(test)]
 mod refusal_tests;
 #[cfg(test)]
 mod report_tests;
@@ -34,5 +32,3 @@ mod status_tests;
 mod tap_tests;
 #[cfg(test)]
 mod testing;
-#[cfg(test)]
-mod word_tests;

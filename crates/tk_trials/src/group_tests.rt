@@ -1,7 +1,7 @@
-use crate::Status;
-use crate::testing::run_serially;
+use crate::testing::tried;
 use std::alloc::Global;
 use std::test::Fail;
+use tk_cli::Status;
 use tk_shape::Memory;
 
 /// The front of a script of a realistic group: three servers, and twelve clients, three to a log.
@@ -63,9 +63,9 @@ fn add_note(
 fn realistic_group_twice(rt: HostRuntime) -> Result<(), Fail> {
     let alloc = rt.alloc();
     let script = group(alloc)?;
-    let (status, written) = run_serially(&rt, script.as_slice())?;
+    let ((status, _, _), written) = tried(&rt, &["serial"], script.as_slice())?;
     assert_eq!(rt; status, Status::Done);
-    let (status, again) = run_serially(&rt, script.as_slice())?;
+    let ((status, _, _), again) = tried(&rt, &["serial"], script.as_slice())?;
     assert_eq!(rt; status, Status::Done);
     assert_eq!(rt; written, again);
     // two texts for each of eight followers in each of seven phases

@@ -1,13 +1,8 @@
-use crate::Status;
-use crate::testing::{ONE_TEXT, run, source_of};
-use std::alloc::AllocGlobal;
-use std::sync::Wait;
+use crate::testing::{ONE_TEXT, tried};
 use std::test::Fail;
-use std::thread::Threads;
+use tk_cli::Status;
 use tk_handle::Handle;
-use tk_io::MemSink;
 use tk_seal::{allowed, open, seal};
-use tk_shape::Memory;
 
 const ZERO_ROOT: &str = "0000000000000000000000000000000000000000000000000000000000000000";
 
@@ -25,7 +20,6 @@ const LAST_HANDLE: &str =
 
 #[test]
 fn words(rt: HostRuntime) -> Result<(), Fail> {
-    let alloc = rt.alloc();
     for words in [
         [].as_slice(),
         &["run", "65"],
@@ -43,39 +37,25 @@ fn words(rt: HostRuntime) -> Result<(), Fail> {
         &["Serial"],
         &["serial", "1"],
     ] {
-        let mut source = source_of(alloc, ONE_TEXT)?;
-        let mut sink = MemSink::new(alloc, 4096, Vec::new(alloc));
-        assert_eq!(rt; run(&rt, words, &mut source, &mut sink)?, Status::Usage);
-        assert_eq!(rt; source.left(), ONE_TEXT);
+        let (end, written) = tried(&rt, words, ONE_TEXT)?;
+        assert_eq!(rt; end, (Status::Usage, ONE_TEXT.len(), 0));
+        assert!(rt; written.is_empty());
     }
     Ok(())
-}
-
-/// The status that a handle's words end with, and what is written.
-fn handle_line<R: AllocGlobal + Threads + Wait + Sync>(
-    rt: &R,
-    id: &str,
-    root: &str,
-) -> Result<(Status, Vec<u8>), Memory> {
-    let alloc = rt.alloc();
-    let mut source = source_of(alloc, ONE_TEXT)?;
-    let mut sink = MemSink::new(alloc, 100, Vec::new(alloc));
-    let status = run(rt, &["handle", id, root], &mut source, &mut sink)?;
-    Ok((status, sink.bytes().to_vec(alloc)?))
 }
 
 #[test]
 fn handles(rt: HostRuntime) -> Result<(), Fail> {
     let largest = "18446744073709551615";
-    let (status, line) = handle_line(&rt, "0", ZERO_ROOT)?;
-    assert_eq!(rt; status, Status::Done);
-    assert_eq!(rt; line.as_slice(), ZERO_HANDLE.as_bytes());
-    let (status, line) = handle_line(&rt, largest, LOWER_ROOT)?;
-    assert_eq!(rt; status, Status::Done);
-    assert_eq!(rt; line.as_slice(), LAST_HANDLE.as_bytes());
-    let (status, line) = handle_line(&rt, largest, UPPER_ROOT)?;
-    assert_eq!(rt; status, Status::Done);
-    assert_eq!(rt; line.as_slice(), LAST_HANDLE.as_bytes());
+    for (id, root, line) in [
+        ("0", ZERO_ROOT, ZERO_HANDLE),
+        (largest, LOWER_ROOT, LAST_HANDLE),
+        (largest, UPPER_ROOT, LAST_HANDLE),
+    ] {
+        let (end, written) = tried(&rt, &["handle", id, root], ONE_TEXT)?;
+        assert_eq!(rt; end, (Status::Done, ONE_TEXT.len(), 0));
+        assert_eq!(rt; written.as_slice(), line.as_bytes());
+    }
     Ok(())
 }
 

@@ -1,0 +1,55 @@
+use crate::testing::{ONE_TEXT, taps_of, words_of};
+use std::test::Fail;
+use tk_cli::{Status, talek};
+use tk_io::{MemSink, MemSource, OpenGate};
+use tk_report::{parse_history, print_outcome, report};
+use tk_script::{Form, Input, parse};
+use tk_words::Book;
+
+// a run with threads writes the report of the history that it writes, and hands back what it left
+#[test]
+fn run_with_threads(rt: HostRuntime) -> Result<(), Fail> {
+    let alloc = rt.alloc();
+    let Ok(
+        Input {
+            first: script,
+            tape,
+            ..
+        },
+    ) = parse(alloc, ONE_TEXT, Form::Run)
+    else {
+        return Err(Fail::from("a script"));
+    };
+    let Ok(Book::Drawn(draws)) = script.book(alloc, tape) else {
+        return Err(Fail::from("drawn words"));
+    };
+    let words = words_of(alloc, &["run"])?;
+    for _ in 0..3 {
+        let mut source = MemSource::new(ONE_TEXT.to_vec(alloc)?, 4096, Vec::new(alloc));
+        let mut sink = MemSink::new(alloc, 4096, Vec::new(alloc));
+        let mut taps = taps_of(alloc)?;
+        let ended = talek(
+            &rt,
+            words.as_slice(),
+            &mut source,
+            &mut sink,
+            &mut taps,
+            &OpenGate,
+        );
+        assert_eq!(rt; ended.status, Status::Done);
+        let Ok(history) = parse_history(alloc, &script.shape, sink.bytes()) else {
+            return Err(Fail::from("a history"));
+        };
+        let mut told = Vec::new(alloc);
+        report(alloc, &script, &draws, &history, &mut told)?;
+        assert_eq!(rt; sink.bytes(), told.as_slice());
+        let outcome = ended.outcome.ok_or("an outcome")?;
+        let mut left = Vec::new(alloc);
+        print_outcome(alloc, &outcome, &mut left)?;
+        assert_eq!(rt; left.as_slice(), told.as_slice());
+        let closed = ended.closed.ok_or("a closed cluster")?;
+        assert_eq!(rt; closed.order().as_slice().len(), 6);
+        assert_eq!(rt; (taps.bytes(1).len(), taps.bytes(2).len()), (1644, 1644));
+    }
+    Ok(())
+}
