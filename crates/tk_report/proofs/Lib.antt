@@ -38,3 +38,5 @@ pub mod ComingLaws
 pub mod WritingLaws
 pub mod PlacingLaws
 pub mod ReadingLaws
+pub mod DisplacedLaws
+pub mod CountedLaws

@@ -13,3 +13,5 @@ pub mod Histories
 pub mod Delivered
 pub mod Turns
 pub mod Folds
+pub mod Displaced
+pub mod Counts

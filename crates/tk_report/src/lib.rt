@@ -3,6 +3,8 @@
 #![tactic(auto)]
 
 mod clients;
+mod count;
+mod displacing;
 mod folding;
 mod history_text;
 mod laws;
@@ -23,6 +25,7 @@ mod telling;
 mod writing;
 
 pub use clients::Clients;
+pub use displacing::displaced;
 pub use laws::{
     agreement, clear, delivered, ends, honest_passing_over, laid_out, marks, one_history,
     queues_send, records_are_shown, told,
@@ -37,6 +40,8 @@ pub use reporting::report;
 pub use saying::say_turn;
 pub use writing::{entry_of, write_turn};
 
+#[cfg(test)]
+mod displaced_tests;
 #[cfg(test)]
 mod report_tests;
 #[cfg(test)]
