@@ -192,7 +192,7 @@ each-told test P (x ∷ xs) tells all =
     (tells x both.0, each-told test P xs tells both.1)
 
 -- the followers of each log are clients
-followers-in : (shape : Shape) (roles : List Role) (log : ℕ) → list_all (is_role shape) roles
+pub followers-in : (shape : Shape) (roles : List Role) (log : ℕ) → list_all (is_role shape) roles
     ≡ true →
     list_all (λ c. nat_lt c shape.clients) (role_in roles log).followers ≡ true
 followers-in shape [] log all = refl
@@ -206,7 +206,7 @@ followers-in shape (role ∷ roles) zero all =
 followers-in shape (role ∷ roles) (suc log) all =
     followers-in shape roles log (parts (is_role shape role) (list_all (is_role shape) roles) all).1
 
-got-ended : (S : Script) (w : BookWords) (H : History) (clients : List ClientState) (log c : ℕ) →
+pub got-ended : (S : Script) (w : BookWords) (H : History) (clients : List ClientState) (log c : ℕ) →
     AreClientsAtEnd S w H clients → c < S.shape.clients →
     got_by clients c log ≡ got_of S w H c log
 unfolding client_before

@@ -39,4 +39,5 @@ pub mod WritingLaws
 pub mod PlacingLaws
 pub mod ReadingLaws
 pub mod DisplacedLaws
+pub mod SaidLaws
 pub mod CountedLaws

@@ -25,6 +25,8 @@ pub use Rattle.tk_report.proofs.AgreementLaws.{alike-where_old, fronts-agree, fl
 pub use Rattle.tk_report.proofs.LaidOutLaws.{layout-gives-lookup, bytes-give-lookup}
 -- the end of a run, and its report
 pub use Rattle.tk_report.proofs.LeavingLaws.{ends-leave, ends-text, writing-logs, reader-logs}
+pub use Rattle.tk_report.proofs.LeavingLaws.{followers-in, got-ended}
+pub use Rattle.tk_report.proofs.SaidLaws.{ends-unsent, ends-count_said}
 pub use Rattle.tk_report.proofs.ShowsLaws.{reports-show}
 pub use Rattle.tk_report.proofs.OneHistoryLaws.{shows-one}
 -- clients and entries within a turn

@@ -1,13 +1,15 @@
 -- What holds of what a run leaves: its roles, its history and its clients.
-use Rattle.std.specs.Prelude.{◌≡◌, ℕ, ◌<◌, ◌==◌, List, [], length, map, filter, slice_index}
-use Rattle.std.specs.Prelude.{slice_index_or, IsTrue}
+use Rattle.std.specs.Prelude.{◌≡◌, ℕ, ◌+◌, ◌*◌, ◌<◌, ◌≤◌, ◌==◌, List, [], length, map, filter}
+use Rattle.std.specs.Prelude.{slice_index, slice_index_or, sum_by, IsTrue}
 use Rattle.std.specs.List.{list_all, list_any, range_with_len}
 use Rattle.tk_shape.specs.declared.shape.Shape.{Shape}
+use Rattle.tk_shape.specs.Lengths.{turn_count}
 use Rattle.tk_schedule.specs.declared.history.History.{History}
 use Rattle.tk_schedule.specs.Schedule.{IsLegal}
 use Rattle.tk_script.specs.declared.role.Role.{Role}
 use Rattle.tk_script.specs.SoundScript.{is_role}
 use Rattle.tk_script.specs.declared.script.Script.{Script}
+use Rattle.tk_script.specs.Sent.{unsent_count}
 use Rattle.tk_words.specs.Words.{BookWords}
 use Rattle.tk_client.specs.declared.got.Got.{Got}
 use Rattle.tk_client.specs.Reader.{got_in}
@@ -44,6 +46,16 @@ pub record IsOutcome (shape : Shape) (roles : List Role) (H : History)
   pub each : (c : ℕ) (d : ClientState) → c < length clients →
       IsClientOf shape roles c (slice_index_or clients c d)
 
+-- how many texts these clients have left
+abbrev pub left_over : List ClientState → ℕ
+left_over clients = sum_by (λ k. length k.writing.waiting) clients
+
+-- so many texts were said as these clients have left and sent, of which each sent at most one a
+-- turn
+pub record CountsSaid (shape : Shape) (clients : List ClientState) (said : ℕ) : Type 0 where
+  pub low : left_over clients ≤ said
+  pub high : said ≤ shape.clients * turn_count shape + left_over clients
+
 -- what a log gave to the client at a place of these
 abbrev pub got_by : List ClientState → ℕ → ℕ → List Got
 got_by clients c log = slice_index_or (map (λ k. got_in k.reader.follows log) clients) c []
@@ -70,3 +82,18 @@ EndsReport =
     (S : Script) (w : BookWords) (H : History) (clients : List ClientState) →
     AreClientsAtEnd S w H clients →
     left_text S.shape S.roles H clients ≡ report_of S w H
+
+-- the texts of the script may have been said
+abbrev pub EndsCountSaid : Type 0
+EndsCountSaid =
+    (S : Script) (w : BookWords) (H : History) (clients : List ClientState) →
+    AreClientsAtEnd S w H clients → CountsSaid S.shape clients (length S.says)
+
+-- and those that are left are the unsent ones
+abbrev pub unsent_in_all : Script → ℕ
+unsent_in_all S = sum_by (unsent_count S) (range_with_len 0 S.shape.clients)
+
+abbrev pub EndsUnsent : Type 0
+EndsUnsent =
+    (S : Script) (w : BookWords) (H : History) (clients : List ClientState) →
+    AreClientsAtEnd S w H clients → left_over clients ≡ unsent_in_all S

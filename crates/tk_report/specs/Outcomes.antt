@@ -1,5 +1,5 @@
 -- The text of what a run left, and what the run of a script leaves.
-use Rattle.std.specs.Prelude.{◌≡◌, ℕ, List}
+use Rattle.std.specs.Prelude.{◌≡◌, ℕ, List, length}
 use Rattle.tk_schedule.specs.declared.history.History.{History}
 use Rattle.tk_script.specs.declared.script.Script.{Script}
 use Rattle.tk_words.specs.Words.{BookWords}
@@ -7,6 +7,7 @@ use Rattle.tk_report.specs.declared.outcome.Outcome.{Outcome}
 use Rattle.tk_report.specs.Clients.{AreClientsAtEnd}
 use Rattle.tk_report.specs.Leaving.{left_text}
 use Rattle.tk_report.specs.Report.{report_of}
+use Rattle.tk_report.specs.Displaced.{displaced_count}
 
 abbrev pub outcome_text : Outcome → List ℕ
 outcome_text o = left_text o.shape o.roles o.history o.clients
@@ -17,6 +18,8 @@ pub record IsLeftBy (S : Script) (w : BookWords) (H : History) (o : Outcome) : T
   pub roles : o.roles ≡ S.roles
   pub history : o.history ≡ H
   pub clients : AreClientsAtEnd S w H o.clients
+  pub said : o.said ≡ length S.says
+  pub displaced : o.displaced ≡ displaced_count S w H
 
 -- its text is the report of the run
 abbrev pub OutcomesReport : Type 0

@@ -9,7 +9,7 @@ ghost use Rattle.tk_report.specs.Delivered.{EachIsWritten, EpochsOrdered, Layout
 ghost use Rattle.tk_report.specs.Delivered.{EpochsStorable, BytesGiveLookup};
 ghost use Rattle.tk_report.specs.Histories.{ReportsShow, ShowsOne, OrdersAndEpochsTell};
 ghost use Rattle.tk_report.specs.Histories.{EntriesTellOrders, TurnsReadOff};
-ghost use Rattle.tk_report.specs.Leaving.{EndsLeave, EndsReport};
+ghost use Rattle.tk_report.specs.Leaving.{EndsLeave, EndsReport, EndsCountSaid, EndsUnsent};
 ghost use Rattle.tk_report.specs.Outcomes.{OutcomesReport};
 ghost use Rattle.tk_report.specs.PassingOver.{HonestPassingOver, RecordsAreShown};
 ghost use Rattle.tk_report.specs.Queues.{QueuesSend};
@@ -90,9 +90,11 @@ pub fn laid_out()
 {}
 
 /// The clients at the end of a run of a legal history are those of an outcome, whose text is the
-/// report.
+/// report. What they have left over and what each may send bound what was said.
 pub fn ends()
     ensures leave { EndsLeave }
     ensures report { EndsReport }
+    ensures said { EndsCountSaid }
+    ensures unsent { EndsUnsent }
     ensures outcome { OutcomesReport }
 {}

@@ -37,7 +37,7 @@ pub use parsing::parse_history;
 pub use plan::Plan;
 pub use reading::read_turn;
 pub use reporting::report;
-pub use saying::say_turn;
+pub use saying::{count_said, say_turn};
 pub use writing::{entry_of, write_turn};
 
 #[cfg(test)]

@@ -10,6 +10,14 @@ use tk_schedule::turn;
 use tk_script::Script;
 use tk_shape::Memory;
 
+/// How many texts a script says. More than 32 bits can count are as much as want of memory.
+pub fn count_said(script: &Script) -> Result<u32, Memory>
+    ensures { IfOk result (λ n. n ≡ length script.now.says) }
+{
+    let count = script.says.as_slice().len();
+    u32::try_from(count).map_err(|_| Memory)
+}
+
 /// The texts that are said in a turn, from this place on in the script, join the queues of their
 /// logs' writers. Answers the place after them. Where memory runs out some of them may have joined,
 /// and nothing is promised of the clients.
