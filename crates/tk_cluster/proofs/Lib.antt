@@ -1,4 +1,5 @@
 pub mod Replying
+pub mod Together
 pub mod Passing
 pub mod Standing
 pub mod Telling

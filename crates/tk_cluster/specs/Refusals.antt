@@ -1,11 +1,13 @@
 -- Which frames are refused, and why.
-use Rattle.std.specs.Prelude.{◌≡◌, ◌≢◌, ℕ, List, Some}
+use Rattle.std.specs.Prelude.{◌≡◌, ◌≢◌, ◌⊎◌, ℕ, nat_eq, cond, List, Option, Some, None}
 use Rattle.tk_shape.specs.declared.shape.Shape.{Shape}
 use Rattle.tk_frames.specs.declared.read_frame.ReadFrame.{ReadFrame}
 use Rattle.tk_frames.specs.declared.write_frame.WriteFrame.{WriteFrame}
 use Rattle.tk_frames.specs.declared.fault.FrameError.{FrameError}
 use Rattle.tk_frames.specs.declared.fault.FrameError.TheVariants as faults
 use Rattle.tk_frames.specs.Faults.{first_fault, read_checks, write_checks}
+use Rattle.tk_frames.specs.Fields.{read_in}
+use Rattle.tk_frames.specs.Lists.{first_some}
 use Rattle.tk_frames.specs.Ranges.{IsRead, IsWrite}
 use Rattle.tk_frames.specs.Spelling.{read_frame, write_frame}
 use Rattle.tk_cluster.specs.declared.error.AnswerError.{AnswerError}
@@ -55,6 +57,29 @@ IsAnswerRefusal shape number bytes (Frame fault) =
     first_fault (read_checks shape bytes) ≡ Some fault
 IsAnswerRefusal shape number bytes (Epoch want got) = NamesOther shape bytes number want got
 IsAnswerRefusal shape number bytes Memory = Unit {0}
+
+-- the frame's own fault comes first
+abbrev pub refusal_behind : Option FrameError → Option AnswerError → Option AnswerError
+refusal_behind (Some fault) behind = Some (Frame fault)
+refusal_behind None behind = behind
+
+-- an epoch is named that isn't the set's
+abbrev pub other_epoch : ℕ → ℕ → Option AnswerError
+other_epoch number named = cond (nat_eq named number) None (Some (Epoch number named))
+
+-- why the set of a number doesn't answer these bytes, if it doesn't
+abbrev pub answer_refusal : Shape → ℕ → List ℕ → Option AnswerError
+answer_refusal shape number bytes =
+    refusal_behind (first_fault (read_checks shape bytes))
+    (other_epoch number (read_in shape bytes).epoch)
+
+-- why it doesn't answer these frames, if not all are answered: the first bad frame decides
+abbrev pub first_unanswered : Shape → ℕ → List (List ℕ) → Option AnswerError
+first_unanswered shape number frames = first_some (answer_refusal shape number) frames
+
+-- want of memory, or the refusal that there is
+abbrev pub IsManyRefusal : Option AnswerError → AnswerError → Type 0
+IsManyRefusal refusal error = (error ≡ Memory) ⊎ (refusal ≡ Some error)
 
 -- why the pass of a client doesn't write these bytes
 abbrev pub IsWriteRefusal : Shape → ℕ → List ℕ → WriteError → Type 0

@@ -9,7 +9,10 @@ ghost use Rattle.tk_table.specs.Shown.{is_shown};
 ghost use Rattle.tk_replica.specs.Replies.{sum_over, frame_over, reply_bytes};
 ghost use Rattle.tk_replica.specs.Epochs.{filter_of, IsEpochOf};
 ghost use Rattle.tk_frames.specs.Order.{before};
+ghost use Rattle.tk_frames.specs.Spelling.{reply_frame};
 ghost use Rattle.tk_cluster.specs.Refusals.{IsAnswerRefusal, IsAsked, SpellsRead};
+ghost use Rattle.tk_cluster.specs.Refusals.{answer_refusal, IsManyRefusal};
+ghost use Rattle.tk_cluster.specs.Many.{asker_of, reply_with};
 ghost use Rattle.tk_cluster.specs.Sets.{Stands};
 
 use crate::{AnswerError, EpochSet};
@@ -19,6 +22,42 @@ use tk_bloom::Filter;
 use tk_frames::{ReadFrame, ReplyFrame, decode_read, encode_reply};
 use tk_replica::Epoch;
 use tk_shape::{Bytes, Memory};
+
+/// Who asks by a read, and over which epoch.
+#[derive(Clone, Copy, Debug)]
+pub(crate) struct Asker {
+    client: u32,
+    turn: u32,
+    epoch: u32,
+}
+
+impl Asker {
+    pub(crate) fn of(read: &ReadFrame) -> Asker
+        ensures { result ≡ asker_of read.now }
+    {
+        Asker {
+            client: read.client,
+            turn: read.turn,
+            epoch: read.epoch,
+        }
+    }
+
+    /// The reply frame with these sums.
+    pub(crate) fn reply(&self, alloc: Global, first: Bytes, second: Bytes) -> Result<Bytes, Memory>
+        ensures { IfOk result (λ bytes. bytes ≡ reply_frame (reply_with self.now first second)) }
+    {
+        let reply = ReplyFrame {
+            client: self.client,
+            turn: self.turn,
+            epoch: self.epoch,
+            first,
+            second,
+        };
+        let mut out = Vec::new(alloc);
+        encode_reply(&reply, &mut out)?;
+        Ok(Bytes::from_vec(out))
+    }
+}
 
 impl EpochSet {
     /// What is worth reading in its epochs.
@@ -48,7 +87,7 @@ impl EpochSet {
     }
 
     /// A server's epoch.
-    fn epoch(&self, server: u32) -> &Epoch
+    pub(crate) fn epoch(&self, server: u32) -> &Epoch
         requires { (1 ≤ server) × (server ≤ self.now.shape.servers) }
         ensures same { result.now.shape ≡ self.now.shape }
         ensures is { (shape : Shape) (E : List Placed) → Stands shape E self.now.number self.now
@@ -58,12 +97,18 @@ impl EpochSet {
     }
 
     /// The read that a frame spells, if it names this epoch.
-    fn read(&self, alloc: Global, frame: &[u8]) -> Result<ReadFrame, AnswerError>
+    pub(crate) fn read(&self, alloc: Global, frame: &[u8]) -> Result<ReadFrame, AnswerError>
         ensures spells { IfOk result (SpellsRead self.now.shape frame.now) }
         ensures epoch { IfOk result (λ r. r.epoch ≡ self.now.number) }
         ensures kept { OnOk result (first_fault (read_checks self.now.shape frame.now) ≡ None) }
+        ensures answered { OnOk result
+            (answer_refusal self.now.shape self.now.number frame.now ≡ None) }
         ensures refused { IfErr result
             (IsAnswerRefusal self.now.shape self.now.number frame.now) }
+        ensures unanswered { IfErr result
+            (IsManyRefusal (answer_refusal self.now.shape self.now.number frame.now)) }
+        ensures plain { IsAsked self.now frame.now
+            → IfErr result (λ e. e ≡ AnswerError.Memory) }
     {
         let read = decode_read(alloc, &self.shape, frame)?;
         if read.epoch != self.number {
@@ -81,16 +126,9 @@ fn reply(alloc: Global, epoch: &Epoch, read: &ReadFrame) -> Result<Bytes, Memory
     requires { IsRead epoch.now.shape read.now }
     ensures { IfOk result (λ bytes. bytes ≡ frame_over epoch.now read.now) }
 {
-    let reply = ReplyFrame {
-        client: read.client,
-        turn: read.turn,
-        epoch: read.epoch,
-        first: sum(alloc, epoch, read.first.as_slice())?,
-        second: sum(alloc, epoch, read.second.as_slice())?,
-    };
-    let mut out = Vec::new(alloc);
-    encode_reply(&reply, &mut out)?;
-    Ok(Bytes::from_vec(out))
+    let first = sum(alloc, epoch, read.first.as_slice())?;
+    let second = sum(alloc, epoch, read.second.as_slice())?;
+    Asker::of(read).reply(alloc, first, second)
 }
 
 /// The sum of the blocks that a vector chooses.

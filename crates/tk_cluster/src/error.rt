@@ -1,5 +1,6 @@
 ghost use Rattle.std.specs.Prelude.{◌≡◌};
 
+use std::alloc::AllocFailed;
 use tk_frames::FrameError;
 use tk_shape::Memory as WantOfMemory;
 
@@ -52,6 +53,16 @@ impl From<WantOfMemory> for AnswerError {
     ghost from_gives = { λ _ e. e ≡ Memory };
 
     fn from(_e: WantOfMemory) -> AnswerError {
+        AnswerError::Memory
+    }
+}
+
+impl<T: Drop> From<AllocFailed<T>> for AnswerError {
+    ghost use Rattle.tk_cluster.specs.declared.error.AnswerError.TheVariants.{Memory};
+
+    ghost from_gives = { λ _ e. e ≡ Memory };
+
+    fn from(_e: AllocFailed<T>) -> AnswerError {
         AnswerError::Memory
     }
 }

@@ -6,6 +6,8 @@ mod calls;
 mod close;
 mod cluster;
 mod error;
+mod hold;
+mod many;
 mod meet;
 mod open;
 mod pass;
@@ -25,6 +27,7 @@ pub use error::{AnswerError, WriteError};
 pub use pass::Pass;
 pub use publisher::Publisher;
 pub use set::EpochSet;
+pub use tk_replica::Held;
 
 /// What the publisher told: the sets that it had shown then.
 pub type Told = tk_board::Told<std::sync::Arc<EpochSet>>;

@@ -1,0 +1,229 @@
+-- Frames that are answered together.
+use Rattle.std.proofs.Common.{◌≡◌, ℕ, zero, suc, ◌+◌, ◌<◌, inl, inr, refl, ap, ap₂, sym, ◌∙◌, arith}
+use Rattle.std.proofs.Common.{subst, List, [], ◌∷◌, ◌++◌, length, take, map, Option, Some, None}
+use Rattle.std.proofs.Common.{append_assoc, ◌≢◌, Bool, cond}
+use Rattle.std.proofs.lemmas.Bool.{eq-eqb, ne_eqb}
+use Rattle.std.specs.Prelude.{slice_index_or}
+use Rattle.std.specs.Option.{option_or}
+use Rattle.std.specs.List.{All}
+use Rattle.std.proofs.lemmas.List.{map-append}
+use Rattle.tk_shape.specs.declared.shape.Shape.{Shape}
+use Rattle.tk_shape.specs.Lengths.{vector_len}
+use Rattle.tk_frames.specs.declared.entry.Placed.{Placed}
+use Rattle.tk_frames.specs.declared.fault.FrameError.{FrameError}
+use Rattle.tk_frames.specs.declared.fault.FrameError.TheVariants.{Length, Kind, Version, Field}
+use Rattle.tk_frames.specs.declared.fault.FrameError.TheVariants as faults
+use Rattle.tk_frames.specs.declared.read_frame.ReadFrame.{ReadFrame}
+use Rattle.tk_frames.specs.Faults.{IsRefusal, first_fault, read_checks}
+use Rattle.tk_frames.specs.Fields.{read_in}
+use Rattle.tk_frames.proofs.Offers.{read-again}
+use Rattle.tk_frames.specs.Lists.{first_some}
+use Rattle.tk_frames.specs.Spelling.{reply_frame}
+use Rattle.tk_replica.specs.declared.epoch.Epoch.{Epoch}
+use Rattle.tk_replica.specs.Epochs.{IsEpochOf}
+use Rattle.tk_replica.specs.Replies.{sum_over, frame_over, reply_bytes}
+use Rattle.tk_cluster.specs.declared.answer.Asker.{Asker}
+use Rattle.tk_cluster.specs.declared.error.AnswerError.{AnswerError}
+use Rattle.tk_cluster.specs.declared.error.AnswerError.TheVariants.{Epoch as OtherEpoch}
+use Rattle.tk_cluster.specs.declared.set.EpochSet.{EpochSet}
+use Rattle.tk_cluster.specs.Refusals.{answer_error, refusal_behind, answer_refusal, first_unanswered}
+use Rattle.tk_cluster.specs.Refusals.{other_epoch, SpellsRead, IsManyRefusal, IsAsked}
+use Rattle.tk_cluster.specs.Many.{asker_of, reply_with, both_vectors, frames_with}
+use Rattle.tk_cluster.specs.Many.{Names, AreNamed, AreReads}
+use Rattle.tk_cluster.proofs.Replying.{reply-over}
+
+-- ---- what is refused
+
+told : (f : FrameError) (behind : Option AnswerError) →
+    IsManyRefusal (refusal_behind (Some f) behind) (answer_error f)
+told (Length want got) behind = inr refl
+told (Kind got) behind = inr refl
+told (Version got) behind = inr refl
+told (Field name got) behind = inr refl
+told faults.Memory behind = inl refl
+
+-- a fault of the frame is told before anything else
+pub refused-frame : (fault : Option FrameError) (error : FrameError) (behind : Option AnswerError) →
+    IsRefusal fault error → IsManyRefusal (refusal_behind fault behind) (answer_error error)
+refused-frame None error behind same = inl (ap answer_error same)
+refused-frame (Some f) error behind same =
+    subst (λ e. IsManyRefusal (refusal_behind (Some f) behind) (answer_error e)) (sym same)
+    (told f behind)
+
+-- the epoch that the bytes name is that of the read that they spell
+epoch-spelled : (shape : Shape) (bytes : List ℕ) (r : ReadFrame) → SpellsRead shape bytes r →
+    (read_in shape bytes).epoch ≡ r.epoch
+epoch-spelled shape bytes r spells =
+    ap (λ (q : ReadFrame). q.epoch)
+    (ap (read_in shape) spells.spelled ∙ read-again shape r spells.in_range)
+
+-- a read of the epoch is answered
+pub answered : (shape : Shape) (number : ℕ) (bytes : List ℕ) (r : ReadFrame) →
+    first_fault (read_checks shape bytes) ≡ None → SpellsRead shape bytes r →
+    r.epoch ≡ number → answer_refusal shape number bytes ≡ None
+answered shape number bytes r none spells named =
+    ap₂ (λ (fault : Option FrameError) (e : ℕ). refusal_behind fault (other_epoch number e)) none
+    (epoch-spelled shape bytes r spells ∙ named)
+    ∙ ap (λ (b : Bool). cond b None (Some (OtherEpoch number number))) (eq-eqb number number refl)
+
+-- and one of another epoch is refused for it
+pub unanswered : (shape : Shape) (number : ℕ) (bytes : List ℕ) (r : ReadFrame) →
+    first_fault (read_checks shape bytes) ≡ None → SpellsRead shape bytes r →
+    r.epoch ≢ number → answer_refusal shape number bytes ≡ Some (OtherEpoch number r.epoch)
+unanswered shape number bytes r none spells other =
+    ap₂ (λ (fault : Option FrameError) (e : ℕ). refusal_behind fault (other_epoch number e)) none
+    (epoch-spelled shape bytes r spells)
+    ∙ ap (λ (b : Bool). cond b None (Some (OtherEpoch number r.epoch)))
+    (ne_eqb r.epoch number other)
+
+module _ {X Y : Type 0} (f : X → Option Y) where
+  -- behind some that give nothing comes the one that gives y
+  first-at : (xs : List X) (i : ℕ) (x : X) (y : Y) → first_some f (take i xs) ≡ None →
+      i < length xs → x ≡ slice_index_or xs i x → f x ≡ Some y → first_some f xs ≡ Some y
+  first-at [] i x y none low at is = absurd (omega (arith, low))
+  first-at (z ∷ xs) zero x y none low at is =
+      ap (λ o. option_or o (first_some f xs)) (ap f (sym at) ∙ is)
+  first-at (z ∷ xs) (suc i) x y none low at is =
+      elim (f z) as (λ o. option_or o (first_some f (take i xs)) ≡ None →
+      option_or o (first_some f xs) ≡ Some y) [
+        | None ↦ λ rest. first-at xs i x y rest (omega (arith, low)) at is
+        | Some w ↦ λ h. absurd cc
+      ] none
+
+  -- one more that gives nothing
+  pub first-push : (xs : List X) (x : X) → first_some f xs ≡ None → f x ≡ None →
+      first_some f (xs ++ x ∷ []) ≡ None
+  first-push [] x none is = ap (λ o. option_or o None) is
+  first-push (z ∷ xs) x none is =
+      elim (f z) as (λ o. option_or o (first_some f xs) ≡ None →
+      option_or o (first_some f (xs ++ x ∷ [])) ≡ None) [
+        | None ↦ λ rest. first-push xs x rest is
+        | Some w ↦ λ h. absurd cc
+      ] none
+
+-- the first frame that is refused decides
+pub refused-at : (shape : Shape) (number : ℕ) (frames : List (List ℕ)) (i : ℕ) (frame : List ℕ)
+    (error : AnswerError) → first_unanswered shape number (take i frames) ≡ None →
+    i < length frames → frame ≡ slice_index_or frames i frame →
+    IsManyRefusal (answer_refusal shape number frame) error →
+    IsManyRefusal (first_unanswered shape number frames) error
+refused-at shape number frames i frame error none low at refused = elim refused [
+  | inl memory ↦ inl memory
+  | inr is ↦ inr (first-at (answer_refusal shape number) frames i frame error none low at is)
+]
+
+-- ---- what is asked
+
+module _ (shape : Shape) (number : ℕ) where
+  named-push : (fs : List (List ℕ)) (rs : List ReadFrame) (f : List ℕ) (r : ReadFrame) →
+      AreNamed shape number fs rs → Names shape number f r →
+      AreNamed shape number (fs ++ f ∷ []) (rs ++ r ∷ [])
+  named-push [] [] f r named one = (one, tt)
+  named-push (x ∷ fs) (y ∷ rs) f r named one = (named.0, named-push fs rs f r named.1 one)
+  named-push (x ∷ fs) [] f r named one = absurd named
+  named-push [] (y ∷ rs) f r named one = absurd named
+
+  both-push : (rs : List ReadFrame) (r : ReadFrame) →
+      both_vectors (rs ++ r ∷ []) ≡ both_vectors rs ++ r.first ∷ r.second ∷ []
+  both-push [] r = refl
+  both-push (y ∷ rs) r =
+      ap (λ (vs : List (List ℕ)). y.first ∷ y.second ∷ vs) (both-push rs r)
+
+  pub no-reads : AreReads shape number [] [] []
+  no-reads = record { reads = []; spelled = tt; askers_are = refl; vectors_are = refl }
+
+  -- one more read
+  pub reads-push : (fs : List (List ℕ)) (askers : List Asker) (vectors : List (List ℕ))
+      (f : List ℕ) (r : ReadFrame) → AreReads shape number fs askers vectors →
+      Names shape number f r →
+      AreReads shape number (fs ++ f ∷ []) (askers ++ asker_of r ∷ [])
+      ((vectors ++ r.first ∷ []) ++ r.second ∷ [])
+  reads-push fs askers vectors f r are one =
+      record {
+        reads = are.reads ++ r ∷ [];
+        spelled = named-push fs are.reads f r are.spelled one;
+        askers_are =
+            ap (λ (left : List Asker). left ++ asker_of r ∷ []) are.askers_are
+            ∙ sym (map-append asker_of are.reads (r ∷ []));
+        vectors_are =
+            append_assoc vectors (r.first ∷ []) (r.second ∷ [])
+            ∙ ap (λ (vs : List (List ℕ)). vs ++ r.first ∷ r.second ∷ []) are.vectors_are
+            ∙ sym (both-push are.reads r);
+      }
+
+  -- each vector is as long as the shape says
+  vectors-long : (fs : List (List ℕ)) (rs : List ReadFrame) → AreNamed shape number fs rs →
+      All (λ (v : List ℕ). length v ≡ vector_len shape) (both_vectors rs)
+  vectors-long fs [] named k d low = absurd (omega (arith, low))
+  vectors-long [] (r ∷ rs) named k d low = absurd named
+  vectors-long (f ∷ fs) (r ∷ rs) named zero d low = named.0.spells.in_range.first_len
+  vectors-long (f ∷ fs) (r ∷ rs) named (suc zero) d low = named.0.spells.in_range.second_len
+  vectors-long (f ∷ fs) (r ∷ rs) named (suc (suc k)) d low =
+      vectors-long fs rs named.1 k d (omega (arith, low))
+
+  pub reads-long : (fs : List (List ℕ)) (askers : List Asker) (vectors : List (List ℕ)) →
+      AreReads shape number fs askers vectors →
+      All (λ (v : List ℕ). length v ≡ vector_len shape) vectors
+  reads-long fs askers vectors are =
+      subst (All (λ (v : List ℕ). length v ≡ vector_len shape)) (sym are.vectors_are)
+      (vectors-long fs are.reads are.spelled)
+
+-- each frame is asked of the set
+asked-each : (set : EpochSet) (fs : List (List ℕ)) (rs : List ReadFrame) →
+    AreNamed set.shape set.number fs rs → All (IsAsked set) fs
+asked-each set [] rs named k d low = absurd (omega (arith, low))
+asked-each set (f ∷ fs) [] named k d low = absurd named
+asked-each set (f ∷ fs) (r ∷ rs) named zero d low =
+    record { read = r; spells = named.0.spells; named = named.0.named }
+asked-each set (f ∷ fs) (r ∷ rs) named (suc k) d low =
+    asked-each set fs rs named.1 k d (omega (arith, low))
+
+pub reads-asked : (set : EpochSet) (fs : List (List ℕ)) (askers : List Asker)
+    (vectors : List (List ℕ)) → AreReads set.shape set.number fs askers vectors →
+    All (IsAsked set) fs
+reads-asked set fs askers vectors are = asked-each set fs are.reads are.spelled
+
+-- ---- what is replied
+
+-- two sums for each asker give the frames over the epoch
+frames-over : (epoch : Epoch) (rs : List ReadFrame) →
+    frames_with (map asker_of rs) (map (sum_over epoch) (both_vectors rs))
+    ≡ map (frame_over epoch) rs
+frames-over epoch [] = refl
+frames-over epoch (r ∷ rs) =
+    ap (λ (fs : List (List ℕ)). frame_over epoch r ∷ fs) (frames-over epoch rs)
+
+frames-due : (shape : Shape) (E : List Placed) (e : ℕ) (epoch : Epoch) (fs : List (List ℕ))
+    (rs : List ReadFrame) → IsEpochOf shape E e epoch → AreNamed shape e fs rs →
+    map (frame_over epoch) rs ≡ map (reply_bytes shape E) fs
+frames-due shape E e epoch [] [] is named = refl
+frames-due shape E e epoch (f ∷ fs) (r ∷ rs) is named =
+    ap₂ (λ (x : List ℕ) (xs : List (List ℕ)). x ∷ xs)
+    (reply-over shape E e epoch f r is named.0.named named.0.spells)
+    (frames-due shape E e epoch fs rs is named.1)
+frames-due shape E e epoch (f ∷ fs) [] is named = absurd named
+frames-due shape E e epoch [] (r ∷ rs) is named = absurd named
+
+-- the frames made of all sums are the replies to the frames
+pub replies-due : (shape : Shape) (E : List Placed) (e : ℕ) (epoch : Epoch)
+    (fs : List (List ℕ)) (askers : List Asker) (vectors sums : List (List ℕ)) →
+    IsEpochOf shape E e epoch → AreReads shape e fs askers vectors →
+    sums ≡ map (sum_over epoch) vectors →
+    frames_with askers sums ≡ map (reply_bytes shape E) fs
+replies-due shape E e epoch fs askers vectors sums is are summed =
+    ap₂ (λ (left : List Asker) (xs : List (List ℕ)). frames_with left xs) are.askers_are
+    (summed ∙ ap (map (sum_over epoch)) are.vectors_are)
+    ∙ frames-over epoch are.reads ∙ frames-due shape E e epoch fs are.reads is are.spelled
+
+-- one more of the frames, with the next two sums
+pub frames-push : (left behind : List Asker) (asker : Asker) (first second : List ℕ)
+    (sums rest old new all : List (List ℕ)) → left ≡ asker ∷ behind →
+    sums ≡ first ∷ second ∷ rest → new ≡ old ++ reply_frame (reply_with asker first second) ∷ [] →
+    old ++ frames_with left sums ≡ all → new ++ frames_with behind rest ≡ all
+frames-push left behind asker first second sums rest old new all one two pushed so_far =
+    let frame = reply_frame (reply_with asker first second) in
+    ap (λ (xs : List (List ℕ)). xs ++ frames_with behind rest) pushed
+    ∙ append_assoc old (frame ∷ []) (frames_with behind rest)
+    ∙ ap₂ (λ (those : List Asker) (xs : List (List ℕ)). old ++ frames_with those xs) (sym one)
+    (sym two)
+    ∙ so_far
