@@ -6,6 +6,7 @@ use Rattle.tk_shape.specs.declared.shape.Shape.{Shape}
 use Rattle.tk_frames.specs.declared.entry.Placed.{Placed}
 use Rattle.tk_order.specs.Legality.{of, IsLegal}
 use Rattle.tk_cluster.specs.declared.set.EpochSet.{EpochSet}
+use Rattle.tk_cluster.specs.Sets.{Shows}
 use Rattle.tk_cluster.specs.Passes.{Passing, own}
 use Rattle.tk_cluster.specs.Tellings.{Telling, marks}
 
@@ -37,8 +38,11 @@ pub record EndsPass (shown : List EpochSet) (order : List Placed) (a : Passing) 
   pub own : of (a.client + 1) order ≡ own a
   pub known : IsPrefix a.reads.shown shown
 
+-- The order is legal, and the sets that the publisher had shown stand for their epochs in it. It
+-- begins with what each had seen, and has what each ordered.
 pub record Closes (shape : Shape) (passes : List Passing) (p : Telling) (c : Ended) : Type 0 where
   pub legal : IsLegal shape c.order
+  pub shows : Shows shape p.shown c.order
   pub each : All (EndsPass p.shown c.order) passes
   pub begins : IsPrefix p.seen c.order
   pub marks : of 0 c.order ≡ marks p

@@ -15,7 +15,8 @@ use tk_order::{Naming, Order, OrderSeat};
 use tk_shape::Memory;
 
 /// Orders the marks, and shows the sets of their epochs. Seen as the list of entries that it has
-/// seen, its board and the sets that it has shown. It isn't `Drop`: its cluster's `close` ends it.
+/// seen, its board and the sets that it has shown. It isn't `Drop`: its cluster's `close` ends it,
+/// or its own `give_up`.
 pub struct Publisher<B: Naming> {
     seat: OrderSeat<B>,
     board: Board<Arc<EpochSet>>,
@@ -153,6 +154,7 @@ impl<B: Naming> Publisher<B> {
     pub(crate) fn into_parts(self) -> (OrderSeat<B>, Board<Arc<EpochSet>>)
         ensures seat { result.0 ≡ seated self.seen (Some 0) }
         ensures board { result.1 ≡ told_of self }
+        ensures shows { Shows B.shape self.shown self.seen }
     {
         let Publisher {
             seat,

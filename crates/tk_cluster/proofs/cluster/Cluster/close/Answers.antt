@@ -7,6 +7,7 @@ use Rattle.tk_order.specs.Seats.{seated, IsWhole}
 use Rattle.tk_cluster.specs.declared.set.EpochSet.{EpochSet}
 use Rattle.tk_cluster.specs.Passes.{reader_of, seat_of}
 use Rattle.tk_cluster.specs.Closings.{by_client}
+use Rattle.tk_cluster.proofs.Standing.{shows-more}
 use Rattle.tk_cluster.proofs.Closing.{all_end, seat_behind, readers_of_board}
 use Rattle.tk_cluster.proofs.cluster.Cluster.close.Goals as goal
 
@@ -38,6 +39,7 @@ returns g c =
     let mine = whole (length xs) seat (seat_behind xs seat) in
     record {
       legal = j.legal;
+      shows = shows-more g.B.Naming.shape p.seen order p.shown mine.0 j.legal.order c.into_parts-seat.ensures.shows;
       each = all_end p.shown order xs seat whole begins;
       begins = mine.0;
       marks = mine.1;
