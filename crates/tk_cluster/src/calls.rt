@@ -28,9 +28,9 @@ impl<B: Naming> Cluster<B> {
         pass.write(rt, &self.shape, &self.order, frame)
     }
 
-    /// Orders a mark, has every server apply all up to it, shows the set of its epoch, and lets the
-    /// epochs below the one before it go. Where memory runs out the mark may be ordered, and then
-    /// the next call finishes it and orders no other.
+    /// One mark more stands in the order, and the set of its epoch is shown. Where memory runs out
+    /// nothing more is shown, and the mark may stand: then the next call orders no other. That each
+    /// server lets the epochs below the one before go is no promise; tests see it.
     pub fn publish<R: Wait + AllocGlobal>(
         &self,
         rt: &R,
@@ -44,8 +44,9 @@ impl<B: Naming> Cluster<B> {
         publisher.publish(rt, self)
     }
 
-    /// The newest set that is shown, where its number is at most `most`, or else the one that the
-    /// pass knows. It waits for nobody.
+    /// A shown set whose number is at most `most`, and none below the one that the pass knows. It
+    /// waits for nobody. The newest one that is shown is answered where it may be: that is no
+    /// promise, since no clause knows what is shown at that moment.
     pub fn pin(&self, pass: &mut Pass<B>, most: u32) -> Result<Arc<EpochSet>, Memory>
         requires { pass.old.reads.known ≤ most }
         ensures ok { IfOk result
