@@ -1,5 +1,5 @@
 //! Sums over eight blocks, by different numbers of workers.
-ghost use Rattle.std.specs.Prelude.{◌≡◌, length, IfOk};
+ghost use Rattle.std.specs.Prelude.{◌≡◌, ◌<◌, length, IfOk};
 ghost use Rattle.std.specs.List.{All};
 ghost use Rattle.tk_kernel.specs.Pieces.{all_pieces};
 
@@ -31,7 +31,7 @@ impl Blocks for Eight {
     }
 
     fn run(&self, i: u32) -> &[u8] {
-        &self.bytes[i as usize * 41..]
+        &self.bytes[i as usize * 41..328]
     }
 }
 
@@ -56,7 +56,7 @@ fn vectors(alloc: Global, list: &[u8], count: usize) -> Result<Vec<Bytes>, Memor
     Ok(vectors)
 }
 
-/// One answer more is wanted.
+/// Whether this is the answer to a vector by itself.
 fn agrees(blocks: &Eight, vector: u8, sum: &[u8]) -> bool {
     let mut want = [0xff; 41];
     answer(blocks, &[vector], &mut want);
