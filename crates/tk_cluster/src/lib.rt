@@ -7,6 +7,8 @@ mod close;
 mod cluster;
 mod error;
 mod hold;
+#[cfg(test)]
+mod hold_tests;
 mod many;
 mod meet;
 mod open;

@@ -1,14 +1,17 @@
 //! What a set answers once its epoch was released, and what is refused.
 ghost use Rattle.std.specs.Prelude.{◌≡◌, ◌+◌};
 
-use crate::testing::{Desk, blank, read, write};
+use crate::testing::{Desk, blank, read, read_by, write};
 use crate::{AnswerError, EpochSet, Pass, Publisher, WriteError};
+use std::alloc::Global;
 use std::marker::Brand;
 use std::process::Abort;
 use std::sync::{Arc, Wait};
 use std::test::Fail;
+use std::thread::Threads;
 use tk_frames::{FrameError, decode_reply};
 use tk_order::{Blank, Naming};
+use tk_shape::Bytes;
 
 /// A client pins epoch 1, in which there is a write, and three more epochs are shown.
 fn kept<B: Naming, R: Wait + AllocGlobal>(
@@ -54,6 +57,61 @@ fn unanswered(set: &EpochSet, frame: &[u8]) -> Option<AnswerError> {
     set.answer(1, frame).err()
 }
 
+/// Frames of reads by different vectors, the second over the epoch given.
+fn three(alloc: Global, epoch: u32) -> Option<Vec<Bytes>> {
+    let mut frames = Vec::new(alloc);
+    frames.push(read_by(alloc, 1, [4, 32])?).ok()?;
+    frames.push(read_by(alloc, epoch, [36, 1])?).ok()?;
+    frames.push(read_by(alloc, 1, [255, 4])?).ok()?;
+    Some(frames)
+}
+
+/// What a server answers to frames together.
+fn together<R: Threads + Sync>(
+    rt: &R,
+    set: &EpochSet,
+    server: u32,
+    frames: &[Bytes],
+    workers: u32,
+) -> Option<Result<Vec<Bytes>, AnswerError>> {
+    if server < 1 || server > set.shape.servers || workers < 1 || workers > 64 {
+        return None;
+    }
+    Some(set.answer_many(rt, server, frames, workers))
+}
+
+/// Whether these are the answers to the frames one by one.
+fn one_by_one(set: &EpochSet, server: u32, frames: &[Bytes], replies: &[Bytes]) -> bool {
+    if server < 1 || server > set.shape.servers || frames.len() != replies.len() {
+        return false;
+    }
+    for (frame, reply) in frames.iter().zip(replies.iter()) {
+        match set.answer(server, frame.as_slice()) {
+            Ok(alone) if alone.as_slice() == reply.as_slice() => {}
+            _ => return false,
+        }
+    }
+    true
+}
+
+/// Three frames and no frames, and three of which the second names another epoch.
+fn many<R: Threads + Sync + Abort>(rt: &R, set: &EpochSet, alloc: Global) -> Result<(), Fail> {
+    let frames = three(alloc, 1).ok_or("frames")?;
+    for workers in [1, 3] {
+        for server in [1, 2] {
+            let replies = together(rt, set, server, frames.as_slice(), workers).ok_or("server")?;
+            let replies = replies.ok().ok_or("replies")?;
+            assert!(rt; one_by_one(set, server, frames.as_slice(), replies.as_slice()));
+        }
+        let none = together(rt, set, 1, &[], workers).ok_or("server")?;
+        assert!(rt; none.ok().ok_or("none")?.is_empty());
+    }
+    let bad = three(alloc, 3).ok_or("frames")?;
+    let refused = together(rt, set, 2, bad.as_slice(), 3).ok_or("server")?;
+    assert!(rt; refused.err() == Some(AnswerError::Epoch { want: 1, got: 3 }));
+    Ok(())
+}
+
 /// No frame at all, a read of the next epoch and a write of another client.
 fn refused<B: Naming, R: Wait + AllocGlobal + Abort>(
     rt: &R,
@@ -75,7 +133,7 @@ fn refused<B: Naming, R: Wait + AllocGlobal + Abort>(
     Ok(())
 }
 
-fn epoch_1_answers<B: Naming, R: Wait + AllocGlobal + Abort>(
+fn epoch_1_answers<B: Naming, R: Threads + Wait + AllocGlobal + Abort + Sync>(
     rt: &R,
     blank: Blank,
 ) -> Result<(), Fail>
@@ -95,6 +153,7 @@ fn epoch_1_answers<B: Naming, R: Wait + AllocGlobal + Abort>(
     assert!(rt; floor(rt, &desk, 0) == Some(3) && floor(rt, &desk, 1) == Some(3));
     assert!(rt; answered(&desk, &set, 1) == Some((1, true)));
     assert!(rt; answered(&desk, &set, 2) == Some((1, true)));
+    many(rt, &set, desk.alloc)?;
     match passes.first_mut() {
         Some(pass) => refused(rt, &desk, &set, pass),
         None => Ok(()),
@@ -103,7 +162,7 @@ fn epoch_1_answers<B: Naming, R: Wait + AllocGlobal + Abort>(
 
 #[test]
 fn a_set_answers_after_its_epoch_was_released(rt: HostRuntime) -> Result<(), Fail> {
-    let Some(blank) = blank(rt.alloc()) else {
+    let Some(blank) = blank(rt.alloc(), 4) else {
         assert!(rt; false);
         return Ok(());
     };

@@ -10,12 +10,12 @@ use tk_frames::{ReadFrame, WriteFrame, encode_read, encode_write};
 use tk_order::{Blank, Naming};
 use tk_shape::{Bytes, Memory, Shape, Words};
 
-/// Two clients and two servers, four phases of one tick, eight buckets of four slots, and blocks of
-/// 24 bytes.
-pub(crate) fn blank(alloc: Global) -> Option<Blank>
+/// Two clients and two servers, phases of one tick, eight buckets of four slots, and blocks of 24
+/// bytes.
+pub(crate) fn blank(alloc: Global, phases: u32) -> Option<Blank>
     ensures { IfSome result (λ b. b.seats ≡ b.shape.clients + 1) }
 {
-    let numbers = [2, 8, 4, 4, 24, 64, 1, 0, 2, 4, 1, 1];
+    let numbers = [2, 8, 4, 4, 24, 64, 1, 0, 2, phases, 1, 1];
     let Ok(shape) = Shape::new(numbers) else {
         return None;
     };
@@ -42,12 +42,17 @@ pub(crate) fn write(alloc: Global, client: u32, turn: u32) -> Option<Bytes> {
 
 /// The frame of a read for bucket 2 twice, over an epoch.
 pub(crate) fn read(alloc: Global, epoch: u32) -> Option<Bytes> {
+    read_by(alloc, epoch, [4, 4])
+}
+
+/// The frame of a read by two vectors, over an epoch.
+pub(crate) fn read_by(alloc: Global, epoch: u32, vectors: [u8; 2]) -> Option<Bytes> {
     let frame = ReadFrame {
         client: 1,
         turn: 3,
         epoch,
-        first: Bytes::from_slice(alloc, &[4]).ok()?,
-        second: Bytes::from_slice(alloc, &[4]).ok()?,
+        first: Bytes::from_slice(alloc, &[vectors[0]]).ok()?,
+        second: Bytes::from_slice(alloc, &[vectors[1]]).ok()?,
     };
     let mut bytes = Vec::new(alloc);
     encode_read(&frame, &mut bytes).ok()?;

@@ -310,7 +310,7 @@ fn two_phases<B: Naming + Send + Sync, R: Threads + Wait + AllocGlobal + Sync + 
 
 #[test]
 fn what_was_answered_stands_in_what_was_closed(rt: HostRuntime) -> Result<(), Fail> {
-    let Some(blank) = blank(rt.alloc()) else {
+    let Some(blank) = blank(rt.alloc(), 4) else {
         assert!(rt; false);
         return Ok(());
     };
