@@ -36,7 +36,11 @@ pub mod SightLaws
 pub mod TapTurns
 pub mod CameLaws
 pub mod CourseStarts
-pub mod TalkLaws
 pub mod Stopping
 pub mod SightCalls
 pub mod TurnWrites
+pub mod PosingLaws
+pub mod TalkSteps
+pub mod BatchLaws
+pub mod AnsweredLaws
+pub mod OrderedPlaces

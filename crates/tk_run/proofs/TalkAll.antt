@@ -9,6 +9,7 @@ use Rattle.tk_shape.specs.declared.shape.Shape.{Shape}
 use Rattle.tk_shape.specs.Lengths.{turn_count}
 use Rattle.tk_schedule.specs.declared.history.History.{History}
 use Rattle.tk_schedule.specs.Schedule.{IsLegal, epoch_at}
+use Rattle.tk_cluster.specs.Sets.{Stands}
 use Rattle.tk_script.specs.declared.script.Script.{Script}
 use Rattle.tk_words.specs.Words.{WordBook, words_of}
 use Rattle.tk_client.specs.Client.{ClientState}
@@ -16,16 +17,14 @@ use Rattle.tk_cluster.specs.declared.set.EpochSet.{EpochSet}
 use Rattle.tk_run.specs.declared.slip.Slip.{Slip}
 use Rattle.tk_run.specs.declared.talking.Talk.{Talk}
 use Rattle.tk_run.specs.declared.talking.Reading.{Reading}
-use Rattle.tk_run.specs.Clients.{AreClients, client_wrote, client_before}
+use Rattle.tk_run.specs.Clients.{client_wrote}
 use Rattle.tk_run.specs.Ran.{set_on}
-use Rattle.tk_run.specs.Courses.{MayAsk, MayTalk, Talks, MayRead, AreBlank, IsBlank}
-use Rattle.tk_run.specs.Courses.{AreTalks}
-use Rattle.tk_run.specs.Reading.{MayReadOn, HasReadOn, readers, talks_of}
-use Rattle.tk_run.specs.Ticks.{Done}
+use Rattle.tk_run.specs.Turns.{placed_before}
+use Rattle.tk_run.specs.Courses.{MayAskIn, MayRead, AreBlank, IsBlank}
+use Rattle.tk_run.specs.Reading.{MayReadOn, readers, talks_of}
 use Rattle.tk_run.proofs.Cuts.{take_one_more}
 use Rattle.tk_run.proofs.ReadingLaws.{epoch-most}
-use Rattle.tk_run.proofs.AskingLaws.{wrote-shape, wrote-closed}
-use Rattle.tk_run.proofs.TalkLaws.{all_talked}
+use Rattle.tk_run.proofs.AskingLaws.{wrote-shape, wrote-number, wrote-closed}
 
 -- ---- before
 
@@ -47,20 +46,47 @@ blank-length turn (e ∷ ds) (u ∷ ts) are = ap suc (blank-length turn ds ts ar
 blank-length turn [] (u ∷ ts) are = absurd are
 blank-length turn (e ∷ ds) [] are = absurd are
 
-map-at : {X Y : Type 0} (f : X → Y) (xs : List X) (k : ℕ) (d : X) → k < length xs →
+pub map-at : {X Y : Type 0} (f : X → Y) (xs : List X) (k : ℕ) (d : X) → k < length xs →
     slice_index_or (map f xs) k (f d) ≡ f (slice_index_or xs k d)
 map-at f [] k d low = absurd (omega (arith, low))
 map-at f (x ∷ xs) zero d low = refl
 map-at f (x ∷ xs) (suc k) d low = map-at f xs k d (omega (arith, low))
 
-pub all-may : (S : Script) (b : WordBook) (H : History) (g : ℕ) (clients : List ClientState)
+-- a client with a blank read of its set, in a turn of this history
+pub record Begins (S : Script) (b : WordBook) (H : History) (g : ℕ) (r : Reading) : Type 0 where
+  pub reads : MayReadOn S.shape r
+  pub turn_is : r.talk.turn ≡ g
+  pub asks : MayAskIn S b H r.client r.talk
+
+may_ask : (S : Script) (b : WordBook) (H : History) (g c : ℕ) (a : ClientState) (s : Slip)
+    (d : Talk) → IsLegal S.shape H → g < turn_count S.shape → c < S.shape.clients →
+    a ≡ client_wrote S (words_of S.shape b) H g c →
+    Stands S.shape (placed_before S (words_of S.shape b) H (g + 1)) (epoch_at H g c) (set_on s) →
+    IsBlank g s d → MayAskIn S b H a d
+may_ask S b H g c a s d legal inside low is from blank =
+    let w = words_of S.shape b in
+    let mine : a.number ≡ c = wrote-number S w H g c a is in
+    let turn : d.turn ≡ g = blank.turn_is in
+    record {
+      legal = legal;
+      turn_in = omega (arith, turn, inside);
+      client_in = omega (arith, mine, low);
+      wrote = is ∙ (λ i. client_wrote S w H (sym turn i) (sym mine i));
+      stands =
+          subst (λ t. Stands S.shape (placed_before S w H (t + 1)) (epoch_at H t a.number)
+          (arc_value d.set)) (sym turn)
+          (subst (λ n. Stands S.shape (placed_before S w H (g + 1)) (epoch_at H g n)
+          (arc_value d.set)) (sym mine)
+          (subst (Stands S.shape (placed_before S w H (g + 1)) (epoch_at H g c)) (sym blank.set)
+          from));
+    }
+
+begin-at : (S : Script) (b : WordBook) (H : History) (g : ℕ) (clients : List ClientState)
     (slips : List Slip) (rs : List Reading) → MayRead S b H g clients slips →
-    readers rs ≡ clients → AreBlank g slips (talks_of rs) → All (MayReadOn S.shape) rs
-all-may S b H g clients slips rs may same blank k d low =
-    let long : length (readers rs) ≡ length rs = length-map rs (λ (r : Reading). r.client) in
-    let counted : length rs ≡ S.shape.clients =
-    sym long ∙ ap length same ∙ may.wrote.counted
-    in
+    readers rs ≡ clients → AreBlank g slips (talks_of rs) → length rs ≡ S.shape.clients →
+    (k : ℕ) (d : Reading) → k < length rs →
+    ((slice_index_or rs k d).client.number ≡ 0 + k) × Begins S b H g (slice_index_or rs k d)
+begin-at S b H g clients slips rs may same blank counted k d low =
     let low_c : k < S.shape.clients = omega (arith, low, counted) in
     let r = slice_index_or rs k d in
     let inside : k < length clients = omega (arith, low_c, may.wrote.counted) in
@@ -82,73 +108,61 @@ all-may S b H g clients slips rs may same blank k d low =
     in
     let stands = may.sets.each k slip (omega (arith, low_c, may.sets.counted)) in
     let set : arc_value r.talk.set ≡ set_on (slice_index_or slips k slip) = is_here.set in
-    record {
-      client = record {
-        same = wrote-shape S (words_of S.shape b) H g k r.client client;
-        closed = wrote-closed S (words_of S.shape b) H g k r.client client;
-      };
-      talk = record {
-        turn_in = subst (λ n. n < turn_count S.shape) (sym is_here.turn_is) may.turn_in;
-        set = ap (λ (s : EpochSet). s.shape) set ∙ stands.same;
-        epoch_in =
-            let number : (arc_value r.talk.set).number ≡ epoch_at H g k =
-            ap (λ (s : EpochSet). s.number) set ∙ stands.number
-            in
-            subst (λ n. n ≤ S.shape.phases) (sym number)
-            (epoch-most S H g k may.legal may.turn_in low_c);
-        none_asked = is_here.none_asked;
-      };
-    }
-
--- ---- after
-
--- each has read, place by place
-pub done-all : (b : WordBook) (old new : List Reading) → length new ≡ length old →
-    ((k : ℕ) (d : Reading) → k < length old →
-    HasReadOn b (slice_index_or old k d) (slice_index_or new k d)) →
-    Done (Talks b) (readers old) (talks_of old) (talks_of new) (readers new)
-done-all b [] [] same each = tt
-done-all b (x ∷ old) (y ∷ new) same each = (
-  each 0 x (omega arith),
-  done-all b old new (omega (arith, same)) (λ k d low. each (suc k) d (omega (arith, low))),
-)
-done-all b [] (y ∷ new) same each = absurd (omega (arith, same))
-done-all b (x ∷ old) [] same each = absurd (omega (arith, same))
-
--- all have read, where none answers that it couldn't
-pub talked : (S : Script) (b : WordBook) (H : History) (g : ℕ) (clients : List ClientState)
-    (slips : List Slip) (before mid after last : List Reading) → MayRead S b H g clients slips →
-    readers before ≡ clients → AreBlank g slips (talks_of before) → mid ≡ before →
-    length after ≡ length mid →
-    ((k : ℕ) (d : Reading) → k < length mid → (slice_index_or after k d).done ≡ true →
-    HasReadOn b (slice_index_or mid k d) (slice_index_or after k d)) →
-    last ≡ after → All (λ (r : Reading). r.done ≡ true) last →
-    AreClients S.shape.clients (client_before S (words_of S.shape b) H (g + 1)) (readers last)
-    × AreTalks S b H g (talks_of last)
-talked S b H g clients slips before mid after last may readers_are blank mid_is counted each last_is
-    done =
-    let as_long : length mid ≡ length before = ap length mid_is in
-    let last_long : length last ≡ length after = ap length last_is in
-    let read : (k : ℕ) (d : Reading) → k < length before →
-    HasReadOn b (slice_index_or before k d) (slice_index_or after k d) =
-    λ k d low.
-    subst (λ (xs : List Reading).
-    HasReadOn b (slice_index_or xs k d) (slice_index_or after k d)) mid_is
-    (each k d (omega (arith, low, as_long))
-    (subst (λ (xs : List Reading). (slice_index_or xs k d).done ≡ true) last_is
-    (done k d (omega (arith, low, as_long, last_long, counted)))))
-    in
-    let all = done-all b before after (counted ∙ as_long) read in
-    let got =
-    all_talked S b H g clients (readers after) slips (talks_of before) (talks_of after) may
-    blank
-    (subst (λ (cs : List ClientState). Done (Talks b) cs (talks_of before) (talks_of after)
-    (readers after)) readers_are all)
-    in (
-      subst (AreClients S.shape.clients (client_before S (words_of S.shape b) H (g + 1)))
-          (ap readers (sym last_is)) got.0,
-      subst (AreTalks S b H g) (ap talks_of (sym last_is)) got.1,
+    let number : r.client.number ≡ k = wrote-number S (words_of S.shape b) H g k r.client client in (
+      omega (arith, number),
+      record {
+        reads = record {
+          client = record {
+            same = wrote-shape S (words_of S.shape b) H g k r.client client;
+            closed = wrote-closed S (words_of S.shape b) H g k r.client client;
+          };
+          talk = record {
+            turn_in = subst (λ n. n < turn_count S.shape) (sym is_here.turn_is) may.turn_in;
+            set = ap (λ (s : EpochSet). s.shape) set ∙ stands.same;
+            epoch_in =
+                let number : (arc_value r.talk.set).number ≡ epoch_at H g k =
+                ap (λ (s : EpochSet). s.number) set ∙ stands.number
+                in
+                subst (λ n. n ≤ S.shape.phases) (sym number)
+                (epoch-most S H g k may.legal may.turn_in low_c);
+            none_asked = is_here.none_asked;
+            none_replied = is_here.none_replied;
+          };
+        };
+        turn_is = is_here.turn_is;
+        asks =
+            may_ask S b H g k r.client (slice_index_or slips k slip) r.talk may.legal may.turn_in low_c
+            client stands is_here;
+      },
     )
+
+-- so do all, who have their numbers
+pub all-begin : (S : Script) (b : WordBook) (H : History) (g : ℕ) (clients : List ClientState)
+    (slips : List Slip) (rs : List Reading) → MayRead S b H g clients slips →
+    readers rs ≡ clients → AreBlank g slips (talks_of rs) →
+    (length rs ≡ S.shape.clients)
+    × ((k : ℕ) (d : Reading) → k < length rs →
+    ((slice_index_or rs k d).client.number ≡ 0 + k) × Begins S b H g (slice_index_or rs k d))
+all-begin S b H g clients slips rs may same blank =
+    let long : length (readers rs) ≡ length rs = length-map rs (λ (r : Reading). r.client) in
+    let counted : length rs ≡ S.shape.clients =
+    sym long ∙ ap length same ∙ may.wrote.counted
+    in (
+      counted,
+      λ k d low. begin-at S b H g clients slips rs may same blank counted k d low,
+    )
+
+-- two that may read are of one shape, if their clients are the same
+pub one-shape : (S T : Script) (b : WordBook) (H K : History) (g : ℕ) (clients : List ClientState)
+    (slips others : List Slip) → MayRead S b H g clients slips → MayRead T b K g clients others →
+    S.shape ≡ T.shape
+one-shape S T b H K g [] slips others may may_too =
+    let some = S.shape.in_range.clients_low in
+    let none = may.wrote.counted in
+    absurd (omega (arith, some, none))
+one-shape S T b H K g (x ∷ clients) slips others may may_too =
+    sym (wrote-shape S (words_of S.shape b) H g 0 x (may.wrote.each 0 x (omega arith)))
+    ∙ wrote-shape T (words_of T.shape b) K g 0 x (may_too.wrote.each 0 x (omega arith))
 
 -- ---- one by one
 
@@ -159,15 +173,6 @@ blank-next turn [] d [] t are is = (is, tt)
 blank-next turn (e ∷ ds) d (u ∷ ts) t are is = (are.0, blank-next turn ds d ts t are.1 is)
 blank-next turn [] d (u ∷ ts) t are is = absurd are
 blank-next turn (e ∷ ds) d [] t are is = absurd are
-
-pub all-next : {X : Type 0} (P : X → Type 0) (xs : List X) (x : X) → All P xs → P x →
-    All P (xs ++ x ∷ [])
-all-next P [] x all is zero d low = is
-all-next P [] x all is (suc k) d low = absurd (omega (arith, low))
-all-next P (y ∷ xs) x all is zero d low = all 0 y (omega arith)
-all-next P (y ∷ xs) x all is (suc k) d low =
-    all-next P xs x (λ j e inside. all (suc j) e (omega (arith, inside))) is k d
-    (omega (arith, low))
 
 -- what is known of the first readings
 pub record Paired (turn : ℕ) (slips : List Slip) (clients : List ClientState) (rs : List Reading)

@@ -1,26 +1,24 @@
 -- What a client reads in a turn, from the set that it pinned.
 use Rattle.std.proofs.Common.{◌≡◌, refl, ap, ap₂, sym, ◌∙◌, subst}
-use Rattle.std.proofs.Common.{ℕ, ◌+◌, ◌<◌, Bool, List, [], ◌∷◌, map}
+use Rattle.std.proofs.Common.{ℕ, ◌+◌, ◌<◌, List, [], ◌∷◌, map}
 use Rattle.std.specs.List.{range_with_len}
 use Rattle.tk_shape.specs.Lengths.{turn_count}
 use Rattle.tk_schedule.specs.declared.history.History.{History}
-use Rattle.tk_schedule.specs.Schedule.{IsLegal, epoch_at}
+use Rattle.tk_schedule.specs.Schedule.{IsLegal}
 use Rattle.tk_script.specs.declared.script.Script.{Script}
 use Rattle.tk_words.specs.Words.{WordBook, words_of, IsBook}
 use Rattle.tk_frames.specs.declared.read_frame.ReadFrame.{ReadFrame}
 use Rattle.tk_frames.specs.declared.reply_frame.ReplyFrame.{ReplyFrame}
 use Rattle.tk_frames.specs.Spelling.{read_frame, reply_frame}
-use Rattle.tk_client.specs.Asked.{asked}
-use Rattle.tk_client.specs.Client.{ClientState, opened, target_over, after_replies}
+use Rattle.tk_client.specs.Client.{ClientState, after_replies}
 use Rattle.tk_replica.specs.Replies.{reply_bytes, reply_for}
 use Rattle.tk_report.specs.Exchange.{read_at}
 use Rattle.tk_run.specs.Rows.{Frame}
-use Rattle.tk_run.specs.Clients.{client_wrote, client_before}
+use Rattle.tk_run.specs.Clients.{client_asked, client_before}
 use Rattle.tk_run.specs.Turns.{placed_before, reply_at, replies_to, replied}
 use Rattle.tk_run.proofs.ReadingLaws.{map-map, reply-at, AreMade, all-made}
 use Rattle.tk_run.proofs.ServerLaws.{replies-are}
 use Rattle.tk_run.proofs.AnswerLaws.{IsSound, all-sound, client-took}
-use Rattle.tk_run.proofs.AskingLaws.{Shows, client-asked, frames-are}
 
 map_same : {X Y : Type 0} (f h : X → Y) → ((x : X) → f x ≡ h x) → (xs : List X) →
     map f xs ≡ map h xs
@@ -64,26 +62,21 @@ pub record Read (S : Script) (b : WordBook) (H : History) (g c : ℕ) (new : Cli
   pub replies_are : replies
       ≡ map (λ j. reply_frame (reply_at S b H g j c)) (range_with_len 1 S.shape.servers)
 
-pub has_read : (S : Script) (b : WordBook) (H : History) (g c e : ℕ) (marks : List Bool)
-    (client asking new : ClientState) (frames replies : List Frame) →
-    IsBook S.shape b → IsLegal S.shape H → g < turn_count S.shape → c < S.shape.clients →
-    client ≡ client_wrote S (words_of S.shape b) H g c → e ≡ epoch_at H g c →
-    Shows S b H g c marks →
-    asking ≡ opened g e (target_over (words_of client.shape b) marks e client) client →
-    frames ≡ map read_frame (asked client.shape b g client.number e
-    (target_over (words_of client.shape b) marks e client)) →
+-- a client that asked as the history says, and took the replies to it
+pub has_taken : (S : Script) (b : WordBook) (H : History) (g c : ℕ) (asking new : ClientState)
+    (frames replies : List Frame) → IsBook S.shape b → IsLegal S.shape H →
+    g < turn_count S.shape → c < S.shape.clients →
+    asking ≡ client_asked S (words_of S.shape b) H g c →
+    frames ≡ map (λ j. read_frame (read_at S b H g c j)) (range_with_len 1 S.shape.servers) →
     replies ≡ map (reply_bytes S.shape (placed_before S (words_of S.shape b) H (g + 1))) frames →
     new ≡ after_replies (words_of asking.shape b) replies asking →
     Read S b H g c new frames replies
-has_read S b H g c e marks client asking new frames replies book legal turn_in low wrote epoch shows
-    asks frames_asked replies_given took =
+has_taken S b H g c asking new frames replies book legal turn_in low asks are given took =
     let sound = all-sound S b H g c book legal turn_in low in
     let made = all-made S b H g legal turn_in in
-    let asks_so = client-asked S b H g c e marks client asking wrote epoch shows asks in
-    let are = frames_asked ∙ frames-are S b H g c e marks client wrote epoch shows in
-    let owed = talk-replies S b H g c frames replies sound made low are replies_given in
+    let owed = talk-replies S b H g c frames replies sound made low are given in
     record {
-      client = client-took S b H g c asking new replies sound asks_so owed took;
+      client = client-took S b H g c asking new replies sound asks owed took;
       asks = are;
       replies_are = owed ∙ replied-each S b H g c;
     }

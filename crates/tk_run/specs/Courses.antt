@@ -24,7 +24,7 @@ use Rattle.tk_cluster.specs.Tellings.{Telling}
 use Rattle.tk_run.specs.declared.group.Group.{Group}
 use Rattle.tk_run.specs.declared.slip.Slip.{Slip}
 use Rattle.tk_run.specs.declared.talking.Talk.{Talk}
-use Rattle.tk_run.specs.Clients.{AreClients, client_before, client_wrote}
+use Rattle.tk_run.specs.Clients.{AreClients, client_before, client_wrote, client_asked}
 use Rattle.tk_run.specs.Turns.{placed_before, reply_at, turn_seen}
 use Rattle.tk_run.specs.Ran.{Ran, set_on}
 
@@ -66,6 +66,7 @@ pub record MayTalk (shape : Shape) (d : Talk) : Type 0 where
   pub set : (arc_value d.set).shape ≡ shape
   pub epoch_in : (arc_value d.set).number ≤ shape.phases
   pub none_asked : d.asked.items ≡ []
+  pub none_replied : d.replies.items ≡ []
 
 -- what client c was replied in turn g to what it asked
 pub record IsTalk (S : Script) (b : WordBook) (H : History) (g c : ℕ) (talk : Talk) : Type 0 where
@@ -79,18 +80,25 @@ pub record IsBlank (turn : ℕ) (d : Slip) (talk : Talk) : Type 0 where
   pub turn_is : talk.turn ≡ turn
   pub set : arc_value talk.set ≡ set_on d
   pub none_asked : talk.asked.items ≡ []
+  pub none_replied : talk.replies.items ≡ []
 
--- A client that has written in a turn of a legal history, and reads from the set of the epoch that
--- the history says, is afterwards as the history says.
-abbrev pub Talks : WordBook → ClientState → Talk → Talk → ClientState → Type 0
-Talks b a d e new =
-    (S : Script) (H : History) → IsLegal S.shape H → d.turn < turn_count S.shape →
-    a.number < S.shape.clients →
-    a ≡ client_wrote S (words_of S.shape b) H d.turn a.number →
-    Stands S.shape (placed_before S (words_of S.shape b) H (d.turn + 1))
-    (epoch_at H d.turn a.number) (arc_value d.set) →
-    (new ≡ client_before S (words_of S.shape b) H (d.turn + 1) a.number)
-    × IsTalk S b H d.turn a.number e
+-- A client that has written in a turn of this legal history and reads from the set of the epoch
+-- that the history says.
+pub record MayAskIn (S : Script) (b : WordBook) (H : History) (a : ClientState) (d : Talk) : Type 0
+  where
+    pub legal : IsLegal S.shape H
+    pub turn_in : d.turn < turn_count S.shape
+    pub client_in : a.number < S.shape.clients
+    pub wrote : a ≡ client_wrote S (words_of S.shape b) H d.turn a.number
+    pub stands : Stands S.shape (placed_before S (words_of S.shape b) H (d.turn + 1))
+        (epoch_at H d.turn a.number) (arc_value d.set)
+
+-- Such a client asks as the history says.
+pub record AsksAs (S : Script) (b : WordBook) (H : History) (a : ClientState) (d e : Talk)
+    (new : ClientState) : Type 0 where
+  pub client : new ≡ client_asked S (words_of S.shape b) H d.turn a.number
+  pub asked : e.asked.items
+      ≡ map (λ j. read_frame (read_at S b H d.turn a.number j)) (range_with_len 1 S.shape.servers)
 
 pub record AreTalks (S : Script) (b : WordBook) (H : History) (g : ℕ) (talks : List Talk)
     : Type 0 where

@@ -7,4 +7,5 @@ pub mod Ran
 pub mod Acting
 pub mod Courses
 pub mod Reading
+pub mod Answering
 pub mod Threads

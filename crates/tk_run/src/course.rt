@@ -17,7 +17,7 @@ use crate::group::Group;
 use crate::run_error::RunError;
 use crate::sights::{entries_from, give_sights, sights_from};
 use crate::slip::Slip;
-use crate::talking::talk_all;
+use crate::talking::{Round, talk_all};
 use std::alloc::AllocGlobal;
 use std::sync::Wait;
 use std::thread::Threads;
@@ -37,8 +37,10 @@ pub(crate) struct Stage<'a, B: Naming, D: Draws, G: Gate> {
     pub draws: &'a D,
     pub gate: &'a G,
     pub cluster: &'a Cluster<B>,
+    pub workers: u32,
     pub ghost same: { B.shape ≡ script.now.shape },
     pub ghost one_shape: { D.shape draws.now ≡ script.now.shape },
+    pub ghost workers_in: { (1 ≤ workers) × (workers ≤ 64) },
 }
 
 /// A run of threads between two turns: how the turns so far came about, and the clients, their
@@ -142,8 +144,14 @@ fn play_turn<
         → AreSights S (D.book stage.now.draws.now) H turn v.items) }
 {
     let (slips, entries) = write_turn(rt, stage, turn, course)?;
-    let talks = talk_all(rt, stage.draws, turn, &mut course.group.clients, slips)?;
     let servers = stage.script.shape.servers;
+    let round = Round {
+        turn,
+        draws: stage.draws,
+        servers,
+        workers: stage.workers,
+    };
+    let talks = talk_all(rt, &round, &mut course.group.clients, slips)?;
     sights_from(rt.alloc(), servers, entries.as_slice(), talks.as_slice())
 }
 

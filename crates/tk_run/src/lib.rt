@@ -3,12 +3,15 @@
 #![tactic(auto)]
 
 mod acting;
+mod answering;
 mod arranging;
 mod asking;
 mod course;
 mod desks;
 mod frames;
 mod group;
+mod leaving;
+mod posing;
 mod reading;
 mod run;
 mod run_error;
@@ -17,6 +20,7 @@ mod server;
 mod servers;
 mod sights;
 mod slip;
+mod taking;
 mod talking;
 mod tapping;
 mod telling;

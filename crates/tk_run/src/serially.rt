@@ -6,11 +6,12 @@ ghost use Rattle.tk_report.specs.Exchange.{exchange, bytes_of};
 ghost use Rattle.tk_report.specs.Outcomes.{IsLeftBy};
 ghost use Rattle.tk_io.specs.Tapped.{TapsGain, TapsGainFronts, TapsKeepBut};
 
+use crate::leaving::outcome_of;
 use crate::run_error::RunError;
 use crate::turns::take_turns;
 use std::alloc::Global;
 use tk_io::Taps;
-use tk_report::{Clients, Outcome, Plan, ends};
+use tk_report::{Outcome, Plan};
 use tk_schedule::History;
 use tk_script::Script;
 use tk_words::Draws;
@@ -39,18 +40,11 @@ pub fn serial<D: Draws, T: Taps>(
     ensures counts { T.faults taps.old ≤ T.faults taps.new }
 {
     let history = History::serial(alloc, &script.shape)?;
-    let roles = script.roles.clone()?;
     let plan = Plan {
         script,
         draws,
         history: &history,
     };
-    let clients = Clients::from_vec(take_turns(alloc, &plan, taps)?);
-    ends();
-    Ok(Outcome {
-        shape: script.shape,
-        roles,
-        history,
-        clients,
-    })
+    let clients = take_turns(alloc, &plan, taps)?;
+    Ok(outcome_of(alloc, script, draws, history, clients)?)
 }

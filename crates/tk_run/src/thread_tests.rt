@@ -128,15 +128,20 @@ fn reported(
     Ok(printed)
 }
 
-/// The scripts, and for each how many entries its order has.
-const RUNS: [(&[u8], usize); 2] = [(ONE_TEXT, 6), (TWELVE_CLIENTS, 200)];
+/// The scripts, and for each how many entries its order has, and by how many workers its servers
+/// answer.
+const RUNS: [(&[u8], usize, u32); 2] = [(ONE_TEXT, 6, 1), (TWELVE_CLIENTS, 200, 3)];
 
 #[test]
 fn reports_of_threads(rt: HostRuntime) -> Result<(), Fail> {
     let alloc = rt.alloc();
-    for (text, entries) in RUNS {
+    for (text, entries, workers) in RUNS {
         let (script, draws) = scripted(alloc, text)?;
-        let Ok((outcome, closed)) = threads(&rt, &script, &draws, &mut NoTaps, &OpenGate) else {
+        if workers < 1 || workers > 64 {
+            return Err(Fail::from("workers"));
+        }
+        let ran = threads(&rt, &script, &draws, &mut NoTaps, &OpenGate, workers);
+        let Ok((outcome, closed)) = ran else {
             return Err(Fail::from("a run"));
         };
         let printed = reported(alloc, &script, &draws, &outcome)?;
@@ -218,7 +223,7 @@ fn three_gates(rt: HostRuntime) -> Result<(), Fail> {
     for (held, until, first, second) in GATES {
         let (script, draws) = scripted(alloc, ONE_TEXT)?;
         let gate = Holding::new(held, until);
-        let Ok((outcome, _closed)) = threads(&rt, &script, &draws, &mut NoTaps, &gate) else {
+        let Ok((outcome, _closed)) = threads(&rt, &script, &draws, &mut NoTaps, &gate, 1) else {
             return Err(Fail::from("a run"));
         };
         let printed = reported(alloc, &script, &draws, &outcome)?;

@@ -5,6 +5,7 @@ ghost use Rattle.tk_run.specs.Threads.{CameAbout};
 use crate::acting::Herald;
 use crate::course::{Course, Stage, run_turns};
 use crate::group::Group;
+use crate::leaving::outcome_of;
 use crate::run_error::RunError;
 use crate::telling::history_of;
 use std::alloc::AllocGlobal;
@@ -14,21 +15,24 @@ use std::thread::Threads;
 use tk_cluster::{Closed, Cluster};
 use tk_io::{Gate, Taps};
 use tk_order::{Blank, Naming};
-use tk_report::{Clients, Outcome, ends};
+use tk_report::Outcome;
 use tk_script::Script;
 use tk_words::Draws;
 
 /// What a run of a script leaves in which the clients and the publisher act at once, and what its
 /// cluster had. However they interleave, each server's tap gains what the server sees of the
-/// history that comes about.
+/// history that comes about. Each server answers the reads of an epoch in one batch, which it shares
+/// among so many workers.
 pub fn threads<D: Draws, T: Taps, G: Gate, R: Threads + Wait + Sync + AllocGlobal>(
     rt: &R,
     script: &Script,
     draws: &D,
     taps: &mut T,
     gate: &G,
+    workers: u32,
 ) -> Result<(Outcome, Closed), RunError>
     requires one_shape { D.shape draws.now ≡ script.now.shape }
+    requires workers { (1 ≤ workers) × (workers ≤ 64) }
     ensures run { CameAbout script.now (D.book draws.now) result
         (T.tap taps.old) (T.tap taps.new) }
     ensures rose { IfErr result (λ e. e ≡ RunError.Taps
@@ -40,6 +44,7 @@ pub fn threads<D: Draws, T: Taps, G: Gate, R: Threads + Wait + Sync + AllocGloba
         script,
         draws,
         gate,
+        workers,
     };
     run_over::<Brand, D, T, G, R>(rt, &scene, blank, taps)
 }
@@ -50,7 +55,9 @@ struct Scene<'a, D: Draws, G: Gate> {
     script: &'a Script,
     draws: &'a D,
     gate: &'a G,
+    workers: u32,
     ghost one_shape: { D.shape draws.now ≡ script.now.shape },
+    ghost workers_in: { (1 ≤ workers) × (workers ≤ 64) },
 }
 
 /// A run over the cluster of a blank.
@@ -78,7 +85,6 @@ fn run_over<
     ensures counts { T.faults taps.old ≤ T.faults taps.new }
 {
     let group = Group::open(rt.alloc(), scene.script)?;
-    let roles = scene.script.roles.clone()?;
     let (cluster, publisher, passes) = Cluster::<B>::open(rt, blank)?;
     let mut course = Course {
         turns: Vec::new(rt.alloc()),
@@ -94,6 +100,7 @@ fn run_over<
         draws: scene.draws,
         gate: scene.gate,
         cluster: &cluster,
+        workers: scene.workers,
     };
     let ran = run_turns(rt, &stage, &mut course, taps);
     let Course {
@@ -113,12 +120,6 @@ fn run_over<
     let closed = cluster.close(rt, passes, publisher)?;
     let history = history_of(rt.alloc(), &scene.script.shape, turns)?;
     let Group { said: _, clients } = group;
-    ends();
-    let outcome = Outcome {
-        shape: scene.script.shape,
-        roles,
-        history,
-        clients: Clients::from_vec(clients),
-    };
+    let outcome = outcome_of(rt.alloc(), scene.script, scene.draws, history, clients)?;
     Ok((outcome, closed))
 }

@@ -1,10 +1,9 @@
--- One reading more is done, and taken apart.
-use Rattle.std.proofs.Common.{◌≡◌, ◌+◌, ◌++◌, ◌∷◌, [], ap, sym, ◌∙◌, List, true, rules}
+-- One reading more is taken apart.
+use Rattle.std.proofs.Common.{◌≡◌, ◌+◌, ◌++◌, ◌∷◌, [], ap, sym, ◌∙◌, List}
 use Rattle.std.proofs.lemmas.List.{map-append}
 use Rattle.tk_client.specs.Client.{ClientState}
 use Rattle.tk_run.specs.declared.talking.Talk.{Talk}
 use Rattle.tk_run.specs.declared.talking.Reading.{Reading}
-use Rattle.tk_run.proofs.TalkAll.{all-next}
 use Rattle.tk_run.proofs.talking.parted.Goals as goal
 
 pub parting-preserved : goal.parting-preserved
@@ -13,7 +12,6 @@ parting-preserved c =
     let read = c.parting.yielded in
     let reading = c.in-Some.reading in
     record {
-      done = all-next (λ (r : Reading). r.done ≡ true) read reading so_far.done (search rules);
       clients =
           c.in_ok-push.ensures.items
           ∙ ap (λ (xs : List ClientState). xs ++ reading.client ∷ []) so_far.clients

@@ -3,14 +3,12 @@ use Rattle.std.proofs.Common.{◌≡◌, ℕ, List, [], refl, ap, sym, subst}
 use Rattle.tk_shape.specs.declared.shape.Shape.{Shape}
 use Rattle.tk_schedule.specs.declared.history.History.{History}
 use Rattle.tk_schedule.specs.declared.history.TurnOrder.{TurnOrder}
-use Rattle.tk_schedule.specs.Schedule.{serial_history}
+use Rattle.tk_schedule.specs.Schedule.{IsLegal, serial_history}
 use Rattle.tk_schedule.proofs.Offers.{serial-IsLegal}
-use Rattle.tk_script.specs.declared.role.Role.{Role}
 use Rattle.tk_words.specs.Words.{words_of}
-use Rattle.tk_client.specs.Client.{ClientState}
 use Rattle.tk_io.proofs.Offers.{fronts-of_all}
 use Rattle.tk_report.specs.Clients.{AreClientsAtEnd}
-use Rattle.tk_report.specs.Leaving.{IsOutcome}
+use Rattle.tk_report.specs.Outcomes.{IsLeftBy}
 use Rattle.tk_report.specs.Exchange.{exchange, bytes_of}
 use Rattle.tk_cluster.specs.Clusters.{Opened}
 use Rattle.tk_cluster.specs.Closings.{AllOnce, Closes}
@@ -29,17 +27,6 @@ returns-in_err-group-clause-run g c =
     let tap = g.T.Taps.tap c.args.taps.now in
     let H = serial_history S.shape in
     came_stopped S book _ c.from_residual.result c.from_residual.ensures.1 tap tap H
-    (serial-IsLegal S.shape)
-    (fronts-none S.shape.servers (λ (j : ℕ). bytes_of (exchange S book H j)) tap)
-    (λ j out. refl)
-
-pub returns-in_err-roles-clause-run : goal.returns-in_err-roles-clause-run
-returns-in_err-roles-clause-run g c =
-    let S = c.args.scene.now.script.now in
-    let book = g.D.Draws.book c.args.scene.now.draws.now in
-    let tap = g.T.Taps.tap c.args.taps.now in
-    let H = serial_history S.shape in
-    came_stopped S book _ c.from_residual-in_err-roles.result c.from_residual-in_err-roles.ensures.1 tap tap H
     (serial-IsLegal S.shape)
     (fronts-none S.shape.servers (λ (j : ℕ). bytes_of (exchange S book H j)) tap)
     (λ j out. refl)
@@ -128,9 +115,30 @@ returns-in_err-history-clause-run g c =
     (taps.ok K (course_goes_on S book K now.group xs p course)))
     taps.others
 
--- the clients at the end are those of an outcome
-pub invariant_of-outcome : goal.invariant_of-outcome
-invariant_of-outcome g c =
+-- the clients at the end are those of the history that came about
+pub outcome_of-outcome-requires-legal : goal.outcome_of-outcome-requires-legal
+outcome_of-outcome-requires-legal g c =
+    let S = c.args.scene.now.script.now in
+    let book = g.D.Draws.book c.args.scene.now.draws.now in
+    let now = c.run_turns-ran.new.course in
+    let K = now.turns.items in
+    let course = c.in_default.ensures.course in
+    subst (IsLegal S.shape) (sym c.in_ok-history.ensures)
+    (course_legal S book K now.group now.passes.items now.herald.publisher course)
+
+pub outcome_of-outcome-requires-clients : goal.outcome_of-outcome-requires-clients
+outcome_of-outcome-requires-clients g c =
+    let S = c.args.scene.now.script.now in
+    let book = g.D.Draws.book c.args.scene.now.draws.now in
+    let now = c.run_turns-ran.new.course in
+    let K = now.turns.items in
+    let course = c.in_default.ensures.course in
+    subst (λ (H : History). AreClientsAtEnd S (words_of S.shape book) H now.group.clients.items)
+    (sym c.in_ok-history.ensures)
+    (course_clients S book K now.group now.passes.items now.herald.publisher course)
+
+pub returns-in_err-outcome-clause-run : goal.returns-in_err-outcome-clause-run
+returns-in_err-outcome-clause-run g c =
     let S = c.args.scene.now.script.now in
     let book = g.D.Draws.book c.args.scene.now.draws.now in
     let now = c.run_turns-ran.new.course in
@@ -138,21 +146,14 @@ invariant_of-outcome g c =
     let xs = now.passes.items in
     let p = now.herald.publisher in
     let course = c.in_default.ensures.course in
-    let clients = now.group.clients.items in
-    let outcome = c.ends.ensures.leave S (words_of S.shape book) K clients
-    (course_clients S book K now.group xs p course) (course_legal S book K now.group xs p course)
-    in
-    let with_clients =
-    subst (λ (k : List ClientState). IsOutcome S.shape S.roles K k) (sym c.from_vec.ensures) outcome
-    in
-    let with_history =
-    subst (λ (h : History). IsOutcome S.shape S.roles h c.from_vec.result)
-    (sym c.in_ok-history.ensures) with_clients
-    in
-    record {
-      sound = subst (λ (r : List Role). IsOutcome S.shape r c.in_ok-history.history
-          c.from_vec.result) (sym c.in_ok-roles.ensures.cases) with_history;
-    }
+    let old = g.T.Taps.tap c.args.taps.now in
+    let new = g.T.Taps.tap c.run_turns-ran.new.taps in
+    let taps = c.in_default.ensures.taps in
+    came_stopped S book _ c.from_residual-in_err-outcome.result c.from_residual-in_err-outcome.ensures.1 old new K
+    (course_legal S book K now.group xs p course)
+    (fronts-of_all S.shape.servers (λ (j : ℕ). bytes_of (exchange S book K j)) old new
+    (taps.ok K (course_goes_on S book K now.group xs p course)))
+    taps.others
 
 pub returns-clause-run : goal.returns-clause-run
 returns-clause-run g c =
@@ -173,13 +174,9 @@ returns-clause-run g c =
       history = K;
       legal = course_legal S book K now.group xs p course;
       run = record {
-        left = record {
-          shape = refl;
-          roles = c.in_ok-roles.ensures.cases;
-          history = c.in_ok-history.ensures;
-          clients = subst (AreClientsAtEnd S (words_of S.shape book) K) (sym c.from_vec.ensures)
-              (course_clients S book K now.group xs p course);
-        };
+        left =
+            subst (λ (H : History). IsLeftBy S (words_of S.shape book) H c.in_ok-outcome.outcome)
+            c.in_ok-history.ensures c.in_ok-outcome.ensures;
         order = course_order S book K now.group xs p course closed closes;
         epochs = course_epochs S book K now.group xs p course closed closes;
       };
