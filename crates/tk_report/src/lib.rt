@@ -41,6 +41,8 @@ pub use saying::{count_said, say_turn};
 pub use writing::{entry_of, write_turn};
 
 #[cfg(test)]
+mod displaced_tests;
+#[cfg(test)]
 mod report_tests;
 #[cfg(test)]
 mod tests;
