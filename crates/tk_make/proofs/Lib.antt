@@ -1,0 +1,4 @@
+pub mod Ranges
+pub mod ByTurns
+pub mod MadeShape
+pub mod SoundLaws
