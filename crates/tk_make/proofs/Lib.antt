@@ -2,3 +2,4 @@ pub mod Ranges
 pub mod ByTurns
 pub mod MadeShape
 pub mod SoundLaws
+pub mod TallyLaws

@@ -2,6 +2,8 @@
 use Rattle.std.proofs.Common.{◌≡◌, ◌∙◌, ℕ, ◌+◌, ◌-◌, ◌≤◌, Bool, List, [], ◌∷◌, ◌++◌, ap, ap₂, sym}
 use Rattle.std.proofs.Common.{append_assoc, flat_map, map, filter, cond, true, false, append-nil, arith}
 use Rattle.std.specs.List.{range_with_len}
+use Rattle.std.specs.Prelude.{sum_by}
+use Rattle.std.proofs.lemmas.List.Sums.{sum_by-append, sum_by-cons}
 use Rattle.std.proofs.lemmas.Grind.{flat_map-append}
 use Rattle.std.proofs.Math.Nat.{zero-add}
 use Rattle.std.proofs.lemmas.List.{map-id, map-append}
@@ -82,3 +84,15 @@ passed_over {X} p f n old before_is fails =
     before_is
     ∙ ap (λ (ks : List ℕ). old ++ map f ks)
     (sym (filter_range_more p n ∙ ap (λ (ks : List ℕ). front ++ ks) last ∙ append-nil front))
+
+-- ---- sums
+
+-- what one more number adds
+pub sum_next : (f : ℕ → ℕ) (n : ℕ) {before new more : ℕ} →
+    before ≡ sum_by f (range_with_len 0 n) → new ≡ before + more → more ≡ f n →
+    new ≡ sum_by f (range_with_len 0 (n + 1))
+sum_next f n before_is new_is more_is =
+    let front = range_with_len 0 n in
+    let parts : sum_by f (range_with_len 0 (n + 1)) ≡ sum_by f front + sum_by f (n ∷ []) =
+    ap (sum_by f) (range_more 0 n n (zero-add n)) ∙ sum_by-append f front (n ∷ []) in
+    omega (arith, before_is, new_is, more_is, parts, sum_by-cons f n [])
