@@ -12,7 +12,8 @@ use Rattle.tk_seal.specs.Texts.{is_allowed}
 use Rattle.tk_script.specs.declared.keys.Keys.{Keys}
 use Rattle.tk_script.specs.declared.role.Role.{Role}
 use Rattle.tk_script.specs.declared.say.Say.{Say}
-use Rattle.tk_script.specs.SoundScript.{is_role, is_ascending, is_say, are_in_order, has_keys, IsScript}
+use Rattle.tk_script.specs.SoundScript.{is_role, is_ascending, is_say, are_in_order, has_keys}
+use Rattle.tk_script.specs.SoundScript.{IsScript}
 use Rattle.tk_make.specs.Making.{made_numbers, made_keys, made_roles, made_says}
 use Rattle.tk_make.proofs.ByTurns.{for-each}
 

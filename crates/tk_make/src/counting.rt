@@ -1,4 +1,4 @@
-ghost use Rattle.std.specs.Prelude.{◌≡◌, ◌+◌, IfOk};
+ghost use Rattle.std.specs.Prelude.{◌≡◌, IfOk};
 ghost use Rattle.tk_report.specs.Leaving.{left_over};
 ghost use Rattle.tk_make.specs.Tallies.{counts_left};
 

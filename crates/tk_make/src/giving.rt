@@ -1,4 +1,5 @@
-ghost use Rattle.std.specs.Prelude.{◌≡◌, ◌<◌, ℕ, Some, length, slice_get, slice_index, count_by, IfOk};
+ghost use Rattle.std.specs.Prelude.{◌≡◌, ◌<◌, ℕ, Some, length, slice_get, slice_index, count_by};
+ghost use Rattle.std.specs.Prelude.{IfOk};
 ghost use Rattle.tk_report.specs.Leaving.{got_by};
 ghost use Rattle.tk_make.specs.Tallies.{is_of, given_in, given_by};
 

@@ -1,4 +1,4 @@
-ghost use Rattle.std.specs.Prelude.{◌≡◌, ◌<◌, IfOk};
+ghost use Rattle.std.specs.Prelude.{◌≡◌, IfOk};
 ghost use Rattle.tk_make.specs.Making.{root_of, made_handles, made_seed, made_seeds, made_keys};
 
 use std::alloc::Global;

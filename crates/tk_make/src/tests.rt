@@ -13,10 +13,12 @@ log 9 10 11
 ";
 
 /// Its first handle.
-const HANDLE: [&[u8]; 3] = [
+const HANDLE: [&[u8]; 5] = [
     b"handle 0000000000000000",
-    b"4540f05a9f1fb296d7736e7b208e3c96eb4fe1834688d2604f450952ed432d41bbe2a0b6ea7566d2a5d1e7e20d42af2c",
-    b"53d792b1c43fea817e9ad275ae5469633aeb5224ecf849929b9d828db1ced4dd832025e8018b8160b82284f3c949aa5a\n",
+    b"4540f05a9f1fb296d7736e7b208e3c96eb4fe1834688d260",
+    b"4f450952ed432d41bbe2a0b6ea7566d2a5d1e7e20d42af2c",
+    b"53d792b1c43fea817e9ad275ae5469633aeb5224ecf84992",
+    b"9b9d828db1ced4dd832025e8018b8160b82284f3c949aa5a\n",
 ];
 
 /// Its last seed, and its texts.
