@@ -13,7 +13,7 @@ use Rattle.tk_cli.specs.declared.request.Request.TheVariants as request
 use Rattle.tk_cli.specs.declared.status.Status.{Status}
 use Rattle.tk_cli.specs.declared.status.Status.TheVariants as status
 use Rattle.tk_cli.specs.declared.ended.Ended.{Ended}
-use Rattle.tk_cli.specs.Handles.{Puts}
+use Rattle.tk_cli.specs.Puts.{PutsSome}
 use Rattle.tk_cli.specs.Inputs.{TakesAll, IsRefused, form_of, refusal_of}
 use Rattle.tk_cli.specs.Outside.{Outside}
 use Rattle.tk_cli.specs.Endings.{EndsWith, Ends}
@@ -80,17 +80,21 @@ reading one status.TooLong r e old new how has none taken =
     absurd (omega (arith, short, long, has.within))
 reading one s r e old new how has none taken = absurd (refused-not one r s old new how.0 has)
 
-handle : (s : Status) (text : List ℕ) (old new : Outside) →
-    Puts s text old.held new.held old.sink_faults new.sink_faults → NoFault old new →
+writing : (Is : List ℕ → Type 0) (s : Status) (old new : Outside) →
+    PutsSome Is s old.held new.held old.sink_faults new.sink_faults → NoFault old new →
     (s ≡ status.Done) ⊎ (s ≡ status.Memory)
-handle status.Done text old new puts none = inl refl
-handle status.Memory text old new puts none = inr refl
-handle status.Write text old new puts none = absurd (none.sink puts.rose)
-handle _ text old new puts none = absurd puts
+writing Is status.Done old new puts none = inl refl
+writing Is status.Memory old new puts none = inr refl
+writing Is status.Write old new puts none = absurd (none.sink puts.2.rose)
+writing Is _ old new puts none = absurd puts.2
 
 pub completes : SpellsOne → Completes
 completes one (request.Handle id root) e old new ends may none =
-    handle e.status _ old new ends.how.1 none
+    writing _ e.status old new ends.how.1 none
+completes one (request.Make n) e old new ends may none =
+    writing _ e.status old new ends.how.1 none
+completes one (request.Tally n) e old new ends may none =
+    writing _ e.status old new ends.how.1 none
 completes one request.Nothing e old new ends may none = absurd may
 completes one r e old new ends may none =
     reading one e.status r e old new ends.how may none ends.taken

@@ -16,7 +16,8 @@ use Rattle.tk_cli.specs.declared.status.Status.{Status}
 use Rattle.tk_cli.specs.declared.status.Status.TheVariants as status
 use Rattle.tk_cli.specs.declared.ended.Ended.{Ended}
 use Rattle.tk_cli.specs.Errors.{run_status}
-use Rattle.tk_cli.specs.Handles.{Puts, handle_text}
+use Rattle.tk_cli.specs.Puts.{Puts, PutsSome}
+use Rattle.tk_cli.specs.Texts.{IsTextOf}
 use Rattle.tk_cli.specs.Requests.{Words, Asks, AsksNothing}
 use Rattle.tk_cli.proofs.RequestLaws.{asks-one}
 use Rattle.tk_cli.specs.Inputs.{IsDue, Stops}
@@ -133,12 +134,22 @@ module _ (r : Request) (e : Ended) (old new : Outside) (text : List ℕ)
 
 -- ---- by the words
 
+-- no text is put with it
+no_usage : (q : Request) (e : Ended) (old new : Outside) → e.status ≡ status.Usage →
+    PutsSome (IsTextOf q) e.status old.held new.held old.sink_faults new.sink_faults → ⊥
+no_usage q e old new is puts =
+    (subst (λ s. PutsSome (IsTextOf q) s old.held new.held old.sink_faults new.sink_faults) is
+    puts).2
+
 -- it is usage exactly where the words ask for nothing
 usage-none : (q : Request) (e : Ended) (old new : Outside) → Ends q e old new →
     e.status ≡ status.Usage → q ≡ request.Nothing
 usage-none (request.Handle id root) e old new ends is =
-    absurd (subst (λ s. Puts s (handle_text id root) old.held new.held old.sink_faults
-    new.sink_faults) is ends.how.1)
+    absurd (no_usage (request.Handle id root) e old new is ends.how.1)
+usage-none (request.Make n) e old new ends is =
+    absurd (no_usage (request.Make n) e old new is ends.how.1)
+usage-none (request.Tally n) e old new ends is =
+    absurd (no_usage (request.Tally n) e old new is ends.how.1)
 usage-none request.Nothing e old new ends is = refl
 usage-none q e old new ends is = absurd (subst (λ s. EndsWith s q e old new) is ends.how).0
 

@@ -163,7 +163,7 @@ server-refuses got servers s r input is refused =
 
 pub runs-form : (r : Request) → IsOfRuns r → form_of r ≡ form.Run
 runs-form request.Serial runs = refl
-runs-form request.Run runs = refl
+runs-form (request.Run n) runs = refl
 runs-form r runs = absurd runs
 
 -- a run that an input refuses

@@ -28,12 +28,13 @@ use Rattle.tk_cli.specs.declared.status.Status.{Status}
 use Rattle.tk_cli.specs.declared.status.Status.TheVariants as status
 use Rattle.tk_cli.specs.declared.ended.Ended.{Ended}
 use Rattle.tk_cli.specs.Errors.{run_status}
-use Rattle.tk_cli.specs.Handles.{Puts, PutsNothing, handle_text}
+use Rattle.tk_cli.specs.Puts.{Puts, PutsNothing, PutsSome}
+use Rattle.tk_cli.specs.Texts.{IsTextOf}
 use Rattle.tk_cli.specs.Inputs.{IsDue, IsReady, Stops}
 use Rattle.tk_cli.specs.Outside.{Outside, outside, IsUnread, IsUnwritten, IsUntapped, NoCountFalls}
 use Rattle.tk_cli.specs.Endings.{LeavesSource, LeavesTaps, HandsNothing, HandsAs, HandsSerial}
 use Rattle.tk_cli.specs.Endings.{HandsRun, IsMade, StopsInTaps, FailsInTaps, IsQuiet, EndsWith}
-use Rattle.tk_cli.specs.Endings.{HowEnds, Ends, TapsSee, TapsSeeFronts, report_in, seen_in}
+use Rattle.tk_cli.specs.Endings.{HowEnds, Ends, WritesText, TapsSee, TapsSeeFronts, report_in, seen_in}
 use Rattle.tk_cli.proofs.InputLaws.{not_over, over-as, err_same, ok_long}
 use Rattle.tk_cli.proofs.EndingLaws.{IsPlain, stopped, run_stopped, told, made-ends}
 
@@ -45,8 +46,8 @@ pub record ReadsInput (r : Request) : Type 0 where
 pub serial-reads : ReadsInput request.Serial
 serial-reads = record { source = λ no. no; how = λ e old new how. how }
 
-pub run-reads : ReadsInput request.Run
-run-reads = record { source = λ no. no; how = λ e old new how. how }
+pub run-reads : (n : ℕ) → ReadsInput (request.Run n)
+run-reads n = record { source = λ no. no; how = λ e old new how. how }
 
 pub view-reads : (j : ℕ) → ReadsInput (request.View j)
 view-reads j = record { source = λ no. no; how = λ e old new how. how }
@@ -163,9 +164,9 @@ module _ (left left' : Option (List ℕ)) (script : Script) (book : Book)
       (serial_history ready.input.first.shape)
   serial-due = record { read = ready.read; accepted = ready.accepted; history = refl }
 
-  pub run-due : (H : History) → IsLegal ready.input.first.shape H →
-      IsDue request.Run left left' ready.input H
-  run-due H legal = record { read = ready.read; accepted = ready.accepted; history = legal }
+  pub run-due : (n : ℕ) (H : History) → IsLegal ready.input.first.shape H →
+      IsDue (request.Run n) left left' ready.input H
+  run-due n H legal = record { read = ready.read; accepted = ready.accepted; history = legal }
 
 -- ---- a text, where there is one
 
@@ -209,36 +210,63 @@ none-taken over left short = (
   },
 )
 
--- the line of a handle, or want of memory
-pub handle-ends : {X : Type 0} (id : ℕ) (root : List ℕ) (items : X → List ℕ) (e : Ended)
+-- a request that reads nothing
+pub record ReadsNothing (r : Request) : Type 0 where
+  pub how : (e : Ended) (old new : Outside) → WritesText r e old new → HowEnds r e old new
+
+pub handle-reads_nothing : (id : ℕ) (root : List ℕ) → ReadsNothing (request.Handle id root)
+handle-reads_nothing id root = record { how = λ e old new how. how }
+
+pub make-reads_nothing : (n : ℕ) → ReadsNothing (request.Make n)
+make-reads_nothing n = record { how = λ e old new how. how }
+
+pub tally-reads_nothing : (n : ℕ) → ReadsNothing (request.Tally n)
+tally-reads_nothing n = record { how = λ e old new how. how }
+
+-- a text that is put is some text
+some-put : (Is : List ℕ → Type 0) (s : Status) (text : List ℕ) (held held' : Option (List ℕ))
+    (f f' : ℕ) → Is text → Puts s text held held' f f' → PutsSome Is s held held' f f'
+some-put Is status.Memory text held held' f f' is puts = puts
+some-put Is status.Done text held held' f f' is puts = (text, is, puts)
+some-put Is status.Write text held held' f f' is puts = (text, is, puts)
+some-put Is _ text held held' f f' is puts = absurd puts
+
+some-short : (Is : List ℕ → Type 0) (s : Status) (held held' : Option (List ℕ)) (f f' : ℕ) →
+    PutsSome Is s held held' f f' → s ≢ status.TooLong
+some-short Is s held held' f f' puts is =
+    absurd (subst (λ x. PutsSome Is x held held' f f') is puts).2
+
+-- its text is written, or memory was wanting
+pub text-written : {X : Type 0} (r : Request) → ReadsNothing r → (items : X → List ℕ) (e : Ended)
     (left : Option (List ℕ)) (f : ℕ) (held held' : Option (List ℕ)) (sf sf' : ℕ)
     (tap : ℕ → Option (List ℕ)) (tf : ℕ) → sf ≤ sf' → HandsNothing e → (res : Result X Status) →
-    IfOk res (λ x. items x ≡ handle_text id root) → IfErr res (λ s. s ≡ status.Memory) →
+    IfOk res (λ x. IsTextOf r (items x)) → IfErr res (λ s. s ≡ status.Memory) →
     IfOk res (λ x. Puts e.status (items x) held held' sf sf') → IfErr res (λ s. e.status ≡ s) →
     IfErr res (λ s. PutsNothing held held' sf sf') →
-    Ends (request.Handle id root) e (outside left f held sf tap tf)
-    (outside left f held' sf' tap tf)
-handle-ends {X} id root items e left f held held' sf sf' tap tf rises nothing res line memory puts
+    Ends r e (outside left f held sf tap tf) (outside left f held' sf' tap tf)
+text-written {X} r reads items e left f held held' sf sf' tap tf rises nothing res text memory puts
     same quiet =
-    let how = handle-how res line memory puts same quiet in
+    let old = outside left f held sf tap tf in
+    let new = outside left f held' sf' tap tf in
+    let written = written-by res text memory puts same quiet in
     record {
       taken = none-taken (e.status ≡ status.TooLong) left
-          (puts-short e.status (handle_text id root) held held' sf sf' how);
+          (some-short (IsTextOf r) e.status held held' sf sf' written);
       counts = record { source = omega arith; sink = rises; taps = omega arith };
       unread = λ leaves. record { left = refl; faults = refl };
       untapped = λ leaves. record { tap = λ j. refl; faults = refl };
-      how = (nothing, how);
+      how = reads.how e old new (nothing, written);
     }
   where
-    handle-how : (res : Result X Status) → IfOk res (λ x. items x ≡ handle_text id root) →
+    written-by : (res : Result X Status) → IfOk res (λ x. IsTextOf r (items x)) →
         IfErr res (λ s. s ≡ status.Memory) →
         IfOk res (λ x. Puts e.status (items x) held held' sf sf') →
         IfErr res (λ s. e.status ≡ s) → IfErr res (λ s. PutsNothing held held' sf sf') →
-        Puts e.status (handle_text id root) held held' sf sf'
-    handle-how (Ok x) line memory puts same quiet =
-        subst (λ t. Puts e.status t held held' sf sf') line puts
-    handle-how (Err s) line memory puts same quiet =
-        subst (λ x. Puts x (handle_text id root) held held' sf sf') (sym (same ∙ memory)) quiet
+        PutsSome (IsTextOf r) e.status held held' sf sf'
+    written-by (Ok x) text memory puts same quiet =
+        some-put (IsTextOf r) e.status (items x) held held' sf sf' text puts
+    written-by (Err s) text memory puts same quiet =
+        subst (λ x. PutsSome (IsTextOf r) x held held' sf sf') (sym (same ∙ memory)) quiet
 
 pub usage-ends : (e : Ended) (o : Outside) → e.status ≡ status.Usage → HandsNothing e →
     Ends request.Nothing e o o

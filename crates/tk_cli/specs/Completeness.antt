@@ -30,6 +30,8 @@ pub record HasAccepted (r : Request) (o : Outside) : Type 0 where
 -- a request has what it reads, if it reads anything; nothing is asked of words of no form
 abbrev pub MayBeDone : Request → Outside → Type 0
 MayBeDone (request.Handle id root) o = Unit {0}
+MayBeDone (request.Make n) o = Unit {0}
+MayBeDone (request.Tally n) o = Unit {0}
 MayBeDone request.Nothing o = ⊥
 MayBeDone r o = HasAccepted r o
 

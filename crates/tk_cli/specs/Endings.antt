@@ -22,7 +22,9 @@ use Rattle.tk_cli.specs.declared.request.Request.TheVariants as request
 use Rattle.tk_cli.specs.declared.status.Status.{Status}
 use Rattle.tk_cli.specs.declared.status.Status.TheVariants as status
 use Rattle.tk_cli.specs.declared.ended.Ended.{Ended}
-use Rattle.tk_cli.specs.Handles.{Puts, handle_text, hex_lines}
+use Rattle.tk_cli.specs.Handles.{hex_lines}
+use Rattle.tk_cli.specs.Puts.{PutsSome}
+use Rattle.tk_cli.specs.Texts.{IsTextOf}
 use Rattle.tk_cli.specs.Inputs.{Reads, IsDue, IsHistoryFor, Stops, form_of, kept_in, refusal_of}
 use Rattle.tk_cli.specs.Outside.{Outside, IsUnread, IsUnwritten, IsUntapped, NoCountFalls}
 
@@ -47,7 +49,7 @@ mirror_of hidden A (Some B) H tape = printed_tape (mirror A B H hidden tape)
 -- what the sink gains
 abbrev pub output_of : Request → Input → History → List ℕ
 output_of request.Serial input H = report_in input H
-output_of request.Run input H = report_in input H
+output_of (request.Run workers) input H = report_in input H
 output_of (request.View server) input H = view_in server input H
 output_of (request.Mirror hidden) input H =
     mirror_of hidden input.first input.second H (kept_in input.tape)
@@ -78,12 +80,12 @@ pub record TapsSeeFronts (input : Input) (H : History) (old new : Outside) : Typ
 
 abbrev pub TapsGainAll : Request → Input → History → Outside → Outside → Type 0
 TapsGainAll request.Serial input H old new = TapsSee input H old new
-TapsGainAll request.Run input H old new = TapsSee input H old new
+TapsGainAll (request.Run workers) input H old new = TapsSee input H old new
 TapsGainAll _ input H old new = Unit {0}
 
 abbrev pub TapsGainSome : Request → Input → History → Outside → Outside → Type 0
 TapsGainSome request.Serial input H old new = TapsSeeFronts input H old new
-TapsGainSome request.Run input H old new = TapsSeeFronts input H old new
+TapsGainSome (request.Run workers) input H old new = TapsSeeFronts input H old new
 TapsGainSome _ input H old new = ⊥
 
 -- nothing is handed back
@@ -115,7 +117,7 @@ pub record HandsRun (input : Input) (H : History) (e : Ended) : Type 0 where
 
 abbrev pub HandsBack : Request → Input → History → Ended → Type 0
 HandsBack request.Serial input H e = HandsSerial input H e
-HandsBack request.Run input H e = HandsRun input H e
+HandsBack (request.Run workers) input H e = HandsRun input H e
 HandsBack _ input H e = HandsNothing e
 
 -- ---- how a request ends that reads an input
@@ -166,18 +168,27 @@ EndsWith status.Write r e old new =
 EndsWith s r e old new =
     Stops r s old.left new.left old.source_faults new.source_faults × IsQuiet e old new
 
+-- ---- how a request ends that reads nothing
+
+-- it writes a text that is one of the request, and hands nothing back
+abbrev pub WritesText : Request → Ended → Outside → Outside → Type 0
+WritesText r e old new = HandsNothing e
+    × PutsSome (IsTextOf r) e.status old.held new.held old.sink_faults new.sink_faults
+
 -- ---- how each request ends
 
 -- the source is left alone
 abbrev pub LeavesSource : Request → Type 0
 LeavesSource (request.Handle id root) = Unit {0}
+LeavesSource (request.Make n) = Unit {0}
+LeavesSource (request.Tally n) = Unit {0}
 LeavesSource request.Nothing = Unit {0}
 LeavesSource _ = ⊥
 
 -- the taps are left alone
 abbrev pub LeavesTaps : Request → Type 0
 LeavesTaps request.Serial = ⊥
-LeavesTaps request.Run = ⊥
+LeavesTaps (request.Run workers) = ⊥
 LeavesTaps _ = Unit {0}
 
 -- it ends with this status, with which nothing else comes
@@ -186,8 +197,9 @@ pub record IsOnly (s : Status) (e : Ended) (old new : Outside) : Type 0 where
   pub quiet : IsQuiet e old new
 
 abbrev pub HowEnds : Request → Ended → Outside → Outside → Type 0
-HowEnds (request.Handle id root) e old new = HandsNothing e
-    × Puts e.status (handle_text id root) old.held new.held old.sink_faults new.sink_faults
+HowEnds (request.Handle id root) e old new = WritesText (request.Handle id root) e old new
+HowEnds (request.Make n) e old new = WritesText (request.Make n) e old new
+HowEnds (request.Tally n) e old new = WritesText (request.Tally n) e old new
 HowEnds request.Nothing e old new = IsOnly status.Usage e old new
 HowEnds r e old new = EndsWith e.status r e old new
 

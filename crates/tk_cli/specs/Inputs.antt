@@ -144,7 +144,7 @@ Refuses r input s = refusal_of r input ≡ Some s
 -- a run, serial or with threads
 abbrev pub IsOfRuns : Request → Type 0
 IsOfRuns request.Serial = Unit {0}
-IsOfRuns request.Run = Unit {0}
+IsOfRuns (request.Run workers) = Unit {0}
 IsOfRuns _ = ⊥
 
 -- All was taken, and it spells an input that a run doesn't refuse: this is its script, and these
@@ -167,7 +167,7 @@ TellsIn shape (Some raw) H = Tells shape raw H
 -- a request is done for this history of the input
 abbrev pub IsHistoryFor : Request → Input → History → Type 0
 IsHistoryFor request.Serial input H = H ≡ serial_history input.first.shape
-IsHistoryFor request.Run input H = IsLegal input.first.shape H
+IsHistoryFor (request.Run workers) input H = IsLegal input.first.shape H
 IsHistoryFor (request.View server) input H = TellsIn input.first.shape input.history H
 IsHistoryFor (request.Mirror hidden) input H = TellsIn input.first.shape input.history H
 IsHistoryFor _ input H = ⊥

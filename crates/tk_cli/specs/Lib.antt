@@ -2,6 +2,8 @@ pub mod StatusLines
 pub mod Requests
 pub mod Outside
 pub mod Handles
+pub mod Puts
+pub mod Texts
 pub mod Errors
 pub mod Inputs
 pub mod Endings

@@ -1,5 +1,5 @@
 -- What the words ask for.
-use Rattle.std.specs.Prelude.{◌≡◌, ℕ, ◌<◌, ◌^◌, ◌⊎◌, List, [], ◌∷◌, length, codes, decimal, Ok}
+use Rattle.std.specs.Prelude.{◌≡◌, ℕ, ◌≤◌, ◌<◌, ◌^◌, ◌⊎◌, List, [], ◌∷◌, length, codes, decimal, Ok}
 use Rattle.hex.specs.Hex.{decode_of}
 use Rattle.tk_cli.specs.declared.request.Request.{Request}
 use Rattle.tk_cli.specs.declared.request.Request.TheVariants as request
@@ -12,14 +12,21 @@ abbrev pub AsksSerial : Words → Type 0
 AsksSerial (word ∷ []) = word ≡ codes "serial"
 AsksSerial _ = ⊥
 
--- the report of a run with threads
-abbrev pub AsksRun : Words → Type 0
-AsksRun (word ∷ []) = word ≡ codes "run"
-AsksRun _ = ⊥
-
--- the plain decimal of a number of 32 bits
+-- the plain decimal of a number of 32 bits, and of one of 64
 abbrev pub IsSmall : ℕ → List ℕ → Type 0
 IsSmall n text = (n < 2 ^ 32) × (text ≡ decimal n)
+
+abbrev pub IsLong : ℕ → List ℕ → Type 0
+IsLong n text = (n < 2 ^ 64) × (text ≡ decimal n)
+
+-- the report of a run with threads, by 1 to 64 workers; alone it is by one
+abbrev pub IsCrew : ℕ → List ℕ → Type 0
+IsCrew workers text = ((1 ≤ workers) × (workers ≤ 64)) × (text ≡ decimal workers)
+
+abbrev pub AsksRun : Words → (workers : ℕ) → Type 0
+AsksRun (word ∷ []) workers = (word ≡ codes "run") × (workers ≡ 1)
+AsksRun (word ∷ number ∷ []) workers = (word ≡ codes "run") × IsCrew workers number
+AsksRun _ workers = ⊥
 
 -- what a server sees
 abbrev pub AsksView : Words → (server : ℕ) → Type 0
@@ -31,6 +38,16 @@ abbrev pub AsksMirror : Words → (hidden : ℕ) → Type 0
 AsksMirror (word ∷ number ∷ []) hidden = (word ≡ codes "mirror") × IsSmall hidden number
 AsksMirror _ hidden = ⊥
 
+-- the script that is made from a number
+abbrev pub AsksMake : Words → ℕ → Type 0
+AsksMake (word ∷ number ∷ []) n = (word ≡ codes "make") × IsLong n number
+AsksMake _ n = ⊥
+
+-- what comes of its serial run
+abbrev pub AsksTally : Words → ℕ → Type 0
+AsksTally (word ∷ number ∷ []) n = (word ≡ codes "tally") × IsLong n number
+AsksTally _ n = ⊥
+
 -- 64 hexadecimal digits, in either case, for the 32 bytes of a root
 abbrev pub SpellsRoot : List ℕ → List ℕ → Type 0
 SpellsRoot digits root = (length digits ≡ 64) × (decode_of digits ≡ Ok root)
@@ -38,10 +55,14 @@ SpellsRoot digits root = (length digits ≡ 64) × (decode_of digits ≡ Ok root
 -- the handle of a log: an id of 64 bits in plain decimal, and a root
 abbrev pub AsksHandle : Words → (id : ℕ) → (root : List ℕ) → Type 0
 AsksHandle (word ∷ number ∷ digits ∷ []) id root =
-    (word ≡ codes "handle") × ((id < 2 ^ 64) × (number ≡ decimal id)) × SpellsRoot digits root
+    (word ≡ codes "handle") × IsLong id number × SpellsRoot digits root
 AsksHandle _ id root = ⊥
 
--- the view of some server, some mirrored tape, the handle of some log
+-- a run by some workers, the view of some server, some mirrored tape, the handle of some log, some
+-- script that is made, and what comes of it
+abbrev pub AsksSomeRun : Words → Type 0
+AsksSomeRun words = (workers : ℕ) × AsksRun words workers
+
 abbrev pub AsksSomeView : Words → Type 0
 AsksSomeView words = (server : ℕ) × AsksView words server
 
@@ -51,16 +72,24 @@ AsksSomeMirror words = (hidden : ℕ) × AsksMirror words hidden
 abbrev pub AsksSomeHandle : Words → Type 0
 AsksSomeHandle words = (id : ℕ) × (root : List ℕ) × AsksHandle words id root
 
+abbrev pub AsksSomeMake : Words → Type 0
+AsksSomeMake words = (n : ℕ) × AsksMake words n
+
+abbrev pub AsksSomeTally : Words → Type 0
+AsksSomeTally words = (n : ℕ) × AsksTally words n
+
 -- none of the forms
 abbrev pub AsksNothing : Words → Type 0
 AsksNothing words =
-    ¬ (AsksSerial words ⊎ AsksRun words ⊎ AsksSomeView words ⊎ AsksSomeMirror words
-    ⊎ AsksSomeHandle words)
+    ¬ (AsksSerial words ⊎ AsksSomeRun words ⊎ AsksSomeView words ⊎ AsksSomeMirror words
+    ⊎ AsksSomeHandle words ⊎ AsksSomeMake words ⊎ AsksSomeTally words)
 
 abbrev pub Asks : Words → Request → Type 0
 Asks words request.Serial = AsksSerial words
-Asks words request.Run = AsksRun words
+Asks words (request.Run workers) = AsksRun words workers
 Asks words (request.View server) = AsksView words server
 Asks words (request.Mirror hidden) = AsksMirror words hidden
 Asks words (request.Handle id root) = AsksHandle words id root
+Asks words (request.Make n) = AsksMake words n
+Asks words (request.Tally n) = AsksTally words n
 Asks words request.Nothing = AsksNothing words

@@ -1,5 +1,5 @@
-ghost use Rattle.std.specs.Prelude.{◌≡◌, ◌↔◌, ℕ, List, [], ◌∷◌, Some, IfSome};
-ghost use Rattle.tk_cli.specs.Requests.{Asks, AsksHandle, IsSmall, SpellsRoot};
+ghost use Rattle.std.specs.Prelude.{◌≡◌, ◌≢◌, ◌↔◌, ℕ, List, [], ◌∷◌, Some, IfSome, codes};
+ghost use Rattle.tk_cli.specs.Requests.{Asks, AsksHandle, IsCrew, IsSmall, SpellsRoot};
 
 use hex::FromHex;
 use tk_script::plain_number;
@@ -11,13 +11,17 @@ pub(crate) enum Request {
     /// The report of a serial run.
     Serial,
     /// The report of a run with threads.
-    Run,
+    Run { workers: u32 },
     /// What a server sees.
     View { server: u32 },
     /// The tape over which another script shows the same to all servers but one.
     Mirror { hidden: u32 },
     /// The handle of a log, from a root.
     Handle { id: u64, root: [u8; 32] },
+    /// The script that is made from a number.
+    Make { number: u64 },
+    /// What comes of its serial run.
+    Tally { number: u64 },
     /// None of the forms.
     Nothing,
 }
@@ -41,13 +45,62 @@ fn asked_alone(word: &[u8]) -> Request
         return Request::Serial;
     }
     if word == b"run".as_slice() {
-        return Request::Run;
+        return Request::Run { workers: 1 };
     }
     Request::Nothing
 }
 
-/// What a word and a number ask for.
+/// What a word and a number ask for. Each word has its own range of numbers.
 fn asked_numbered(word: &[u8], number: &[u8]) -> Request
+    ensures { Asks (word.now ∷ number.now ∷ []) result }
+{
+    if word == b"run".as_slice() {
+        return asked_run(number);
+    }
+    if word == b"make".as_slice() {
+        return asked_make(number);
+    }
+    if word == b"tally".as_slice() {
+        return asked_tally(number);
+    }
+    asked_server(word, number)
+}
+
+/// What the word `run` and a number ask for.
+fn asked_run(number: &[u8]) -> Request
+    ensures { Asks (codes "run" ∷ number.now ∷ []) result }
+{
+    match crew_number(number) {
+        Some(workers) => Request::Run { workers },
+        None => Request::Nothing,
+    }
+}
+
+/// What the word `make` and a number ask for.
+fn asked_make(number: &[u8]) -> Request
+    ensures { Asks (codes "make" ∷ number.now ∷ []) result }
+{
+    match plain_number(number) {
+        Some(number) => Request::Make { number },
+        None => Request::Nothing,
+    }
+}
+
+/// What the word `tally` and a number ask for.
+fn asked_tally(number: &[u8]) -> Request
+    ensures { Asks (codes "tally" ∷ number.now ∷ []) result }
+{
+    match plain_number(number) {
+        Some(number) => Request::Tally { number },
+        None => Request::Nothing,
+    }
+}
+
+/// What another word and a number, which is a server's, ask for.
+fn asked_server(word: &[u8], number: &[u8]) -> Request
+    requires run { word.now ≢ codes "run" }
+    requires make { word.now ≢ codes "make" }
+    requires tally { word.now ≢ codes "tally" }
     ensures { Asks (word.now ∷ number.now ∷ []) result }
 {
     let Some(number) = small_number(number) else {
@@ -87,6 +140,16 @@ fn handle_of(word: &[u8], id: &[u8], root: &[u8]) -> Option<(u64, [u8; 32])>
     let number = plain_number(id)?;
     let bytes = root_of(root)?;
     Some((number, bytes))
+}
+
+/// The number of workers that a plain decimal is.
+fn crew_number(text: &[u8]) -> Option<u32>
+    ensures { (n : ℕ) → (result ≡ Some n) ↔ IsCrew n text.now }
+{
+    match plain_number(text) {
+        Some(number) if 1 <= number && number <= 64 => Some(number as u32),
+        _ => None,
+    }
 }
 
 /// The number of 32 bits that a plain decimal is.

@@ -21,6 +21,14 @@ use tk_run::{RunError, threads};
 use tk_script::Script;
 use tk_words::Book;
 
+/// Who runs: its threads, the gate that they come to, and how many answer reads.
+#[derive(Drop)]
+pub(crate) struct Crew<'a, R, G> {
+    pub rt: &'a R,
+    pub gate: &'a G,
+    pub workers: u32,
+}
+
 /// The word `run`.
 pub(crate) fn run_threads<
     R: Threads + Wait + Sync + AllocGlobal,
@@ -28,34 +36,36 @@ pub(crate) fn run_threads<
     K: Sink,
     T: Taps,
     G: Gate,
->(rt: &R, source: &mut S, sink: &mut K, taps: &mut T, gate: &G) -> Ended
-    ensures { Ends Request.Run result
+>(crew: &Crew<R, G>, source: &mut S, sink: &mut K, taps: &mut T) -> Ended
+    requires workers { (1 ≤ crew.now.workers) × (crew.now.workers ≤ 64) }
+    ensures { Ends (Request.Run crew.now.workers) result
         (outside (S.left source.old) (S.faults source.old) (K.held sink.old) (K.faults sink.old)
         (T.tap taps.old) (T.faults taps.old))
         (outside (S.left source.new) (S.faults source.new) (K.held sink.new) (K.faults sink.new)
         (T.tap taps.new) (T.faults taps.new)) }
 {
-    let (script, book) = match ready(rt.alloc(), source) {
+    let alloc = crew.rt.alloc();
+    let (script, book) = match ready(alloc, source) {
         Ok(input) => input,
         Err(status) => return Ended::without(status),
     };
-    let (outcome, closed) = match threads_by(rt, &script, &book, taps, gate) {
+    let (outcome, closed) = match threads_by(crew, &script, &book, taps) {
         Ok(left) => left,
         Err(error) => return Ended::without(Status::from(error)),
     };
     ends();
     one_history();
-    tell(rt.alloc(), outcome, Some(closed), sink)
+    tell(alloc, outcome, Some(closed), sink)
 }
 
 /// What the run of a script with threads leaves, by the words of a book.
 fn threads_by<R: Threads + Wait + Sync + AllocGlobal, T: Taps, G: Gate>(
-    rt: &R,
+    crew: &Crew<R, G>,
     script: &Script,
     book: &Book,
     taps: &mut T,
-    gate: &G,
 ) -> Result<(Outcome, Closed), RunError>
+    requires workers { (1 ≤ crew.now.workers) × (crew.now.workers ≤ 64) }
     requires one_shape { shape_of book.now ≡ script.now.shape }
     ensures run { CameAbout script.now (words_in book.now) result
         (T.tap taps.old) (T.tap taps.new) }
@@ -63,8 +73,9 @@ fn threads_by<R: Threads + Wait + Sync + AllocGlobal, T: Taps, G: Gate>(
         → Rose (T.faults taps.old) (T.faults taps.new)) }
     ensures counts { T.faults taps.old ≤ T.faults taps.new }
 {
+    let workers = crew.workers;
     match book {
-        Book::Keyed(draws) => threads(rt, script, draws, taps, gate),
-        Book::Drawn(draws) => threads(rt, script, draws, taps, gate),
+        Book::Keyed(draws) => threads(crew.rt, script, draws, taps, crew.gate, workers),
+        Book::Drawn(draws) => threads(crew.rt, script, draws, taps, crew.gate, workers),
     }
 }

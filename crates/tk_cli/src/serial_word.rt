@@ -48,7 +48,7 @@ pub(crate) fn run_serial<S: Source, K: Sink, T: Taps>(
 }
 
 /// What the serial run of a script by the words of a book leaves.
-fn serial_by<T: Taps>(
+pub(crate) fn serial_by<T: Taps>(
     alloc: Global,
     script: &Script,
     book: &Book,

@@ -1,7 +1,7 @@
 //! What is written to the sink.
 ghost use Rattle.std.specs.Prelude.{◌≡◌, ◌≤◌, IfOk, IfErr};
 ghost use Rattle.tk_report.specs.Outcomes.{outcome_text};
-ghost use Rattle.tk_cli.specs.Handles.{Puts, PutsNothing};
+ghost use Rattle.tk_cli.specs.Puts.{Puts, PutsNothing};
 ghost use Rattle.tk_cli.specs.Endings.{HandsAs, HandsNothing};
 
 use crate::ended::Ended;

@@ -6,11 +6,13 @@ ghost use Rattle.tk_cli.specs.Requests.{Asks, AsksNothing};
 
 use crate::ended::Ended;
 use crate::handle_word::handle_line;
+use crate::make_word::make_text;
 use crate::mirror_word::mirror_text;
 use crate::request::{Request, request_of};
-use crate::run_word::run_threads;
+use crate::run_word::{Crew, run_threads};
 use crate::serial_word::run_serial;
 use crate::status::Status;
+use crate::tally_word::tally_text;
 use crate::telling::answer;
 use crate::view_word::view_text;
 use std::alloc::AllocGlobal;
@@ -43,10 +45,12 @@ pub fn talek<R: Threads + Wait + Sync + AllocGlobal, S: Source, K: Sink, T: Taps
     let alloc = rt.alloc();
     match request_of(words) {
         Request::Serial => run_serial(alloc, source, sink, taps),
-        Request::Run => run_threads(rt, source, sink, taps, gate),
+        Request::Run { workers } => run_threads(&Crew { rt, gate, workers }, source, sink, taps),
         Request::View { server } => answer(view_text(alloc, server, source), sink),
         Request::Mirror { hidden } => answer(mirror_text(alloc, hidden, source), sink),
         Request::Handle { id, root } => answer(handle_line(alloc, id, &root), sink),
+        Request::Make { number } => answer(make_text(alloc, number), sink),
+        Request::Tally { number } => answer(tally_text(alloc, number), sink),
         Request::Nothing => Ended::without(Status::Usage),
     }
 }

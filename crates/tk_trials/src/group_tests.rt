@@ -1,10 +1,11 @@
-use crate::testing::tried;
-use std::alloc::Global;
+use crate::testing::{ONE_TEXT, retold, tried};
 use std::test::Fail;
 use tk_cli::Status;
-use tk_shape::Memory;
+use tk_make::generate;
+use tk_script::print;
+use tk_words::Book;
 
-/// The front of a script of a realistic group: three servers, and twelve clients, three to a log.
+/// How the script of a realistic group begins: three servers, and twelve clients, three to a log.
 const GROUP: &[u8] = b"talek 1
 shape 3 256 4 512 256 4096 3 4 12 8 4 4
 keyed
@@ -12,61 +13,47 @@ log 0 1 2
 log 3 4 5
 log 6 7 8
 log 9 10 11
+handle 0000000000000000";
+
+/// Two groups' numbers, first texts, and ends.
+const MADE: [(&str, &str, &str); 2] = [
+    ("0", "say 1 1 0 note 0 1 1", "say 8 4 2 note 2 8 4\nend\n"),
+    ("1", "say 1 1 1 note 1 1 1", "say 8 4 3 note 3 8 4\nend\n"),
+];
+
+/// The counts of the second.
+const COUNTS: &[u8] = b"said 64
+sent 64
+dummies 320
+displaced 0
+delivered 112
+absent 0
+unsent 0
 ";
 
-/// Appends a line of a word and so many digits that are all alike.
-fn add_digits(out: &mut Vec<u8>, word: &[u8], digit: u8, count: usize) -> Result<(), Memory> {
-    out.extend_from_slice(word)?;
-    for _ in 0..count {
-        out.push(digit)?;
+#[test]
+fn made_groups(rt: HostRuntime) -> Result<(), Fail> {
+    for (number, first, last) in MADE {
+        let (end, script) = tried(&rt, &["make", number], ONE_TEXT)?;
+        assert_eq!(rt; end, (Status::Done, ONE_TEXT.len(), 0));
+        assert!(rt; script.starts_with(GROUP));
+        assert!(rt; script.ends_with(last.as_bytes()));
+        let mut lines = script.as_slice().split(|byte| *byte == b'\n');
+        let said = lines
+            .find(|line| line.starts_with(b"say "))
+            .ok_or("a text")?;
+        assert_eq!(rt; said, first.as_bytes());
     }
-    out.push(b'\n')?;
-    Ok(())
-}
-
-/// The script of the group. In each tick two of the logs have a note.
-fn group(alloc: Global) -> Result<Vec<u8>, Memory> {
-    let mut script = Vec::from_slice(alloc, GROUP)?;
-    for digit in b"abcd" {
-        add_digits(&mut script, b"handle ", *digit, 208)?;
-    }
-    for digit in b"0123456789ab" {
-        add_digits(&mut script, b"seed ", *digit, 64)?;
-    }
-    for phase in 1..9 {
-        for tick in 1..5 {
-            for log in 0..4 {
-                if (phase + tick + log) % 2 == 1 {
-                    add_note(alloc, &mut script, phase, tick, log)?;
-                }
-            }
-        }
-    }
-    script.extend_from_slice(b"end\n")?;
-    Ok(script)
-}
-
-/// Appends the line of a note.
-fn add_note(
-    alloc: Global,
-    script: &mut Vec<u8>,
-    phase: u32,
-    tick: u32,
-    log: u32,
-) -> Result<(), Memory> {
-    let line = format!(in alloc; "say {phase} {tick} {log} note {log} {phase} {tick}\n")?;
-    script.extend_from_slice(line.as_bytes())?;
     Ok(())
 }
 
 #[test]
-fn realistic_group_twice(rt: HostRuntime) -> Result<(), Fail> {
-    let alloc = rt.alloc();
-    let script = group(alloc)?;
-    let ((status, _, _), written) = tried(&rt, &["serial"], script.as_slice())?;
-    assert_eq!(rt; status, Status::Done);
-    let ((status, _, _), again) = tried(&rt, &["serial"], script.as_slice())?;
-    assert_eq!(rt; status, Status::Done);
+fn made_group_twice(rt: HostRuntime) -> Result<(), Fail> {
+    let (_, script) = tried(&rt, &["make", "1"], b"")?;
+    let ((status, left, _), written) = tried(&rt, &["serial"], script.as_slice())?;
+    assert_eq!(rt; (status, left), (Status::Done, 0));
+    let ((status, left, _), again) = tried(&rt, &["serial"], script.as_slice())?;
+    assert_eq!(rt; (status, left), (Status::Done, 0));
     assert_eq!(rt; written, again);
     // two texts for each of eight followers in each of seven phases
     let lines = written.as_slice().split(|byte| *byte == b'\n');
@@ -74,7 +61,29 @@ fn realistic_group_twice(rt: HostRuntime) -> Result<(), Fail> {
         lines.filter(|line| line.starts_with(b"text ")).count(),
         112
     );
-    let mut lines = written.as_slice().split(|byte| *byte == b'\n');
-    assert!(rt; lines.any(|line| line == b"text 13 note 3 7 3".as_slice()));
+    Ok(())
+}
+
+#[test]
+fn run_of_four_workers(rt: HostRuntime) -> Result<(), Fail> {
+    let alloc = rt.alloc();
+    let script = generate(alloc, 1)?;
+    let Ok(Book::Keyed(draws)) = script.book(alloc, None) else {
+        return Err(Fail::from("keyed words"));
+    };
+    let mut text = Vec::new(alloc);
+    print(&script, &mut text)?;
+    let ((status, left, _), written) = tried(&rt, &["run", "4"], text.as_slice())?;
+    assert_eq!(rt; (status, left), (Status::Done, 0));
+    let told = retold(alloc, &script, &draws, written.as_slice())?;
+    assert_eq!(rt; written, told);
+    Ok(())
+}
+
+#[test]
+fn counts_of_a_made_group(rt: HostRuntime) -> Result<(), Fail> {
+    let (end, written) = tried(&rt, &["tally", "1"], ONE_TEXT)?;
+    assert_eq!(rt; end, (Status::Done, ONE_TEXT.len(), 0));
+    assert_eq!(rt; written.as_slice(), COUNTS);
     Ok(())
 }

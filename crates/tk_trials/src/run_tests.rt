@@ -1,8 +1,8 @@
-use crate::testing::{ONE_TEXT, taps_of, words_of};
+use crate::testing::{ONE_TEXT, retold, taps_of, words_of};
 use std::test::Fail;
 use tk_cli::{Status, talek};
 use tk_io::{MemSink, MemSource, OpenGate};
-use tk_report::{parse_history, print_outcome, report};
+use tk_report::print_outcome;
 use tk_script::{Form, Input, parse};
 use tk_words::Book;
 
@@ -23,8 +23,13 @@ fn run_with_threads(rt: HostRuntime) -> Result<(), Fail> {
     let Ok(Book::Drawn(draws)) = script.book(alloc, tape) else {
         return Err(Fail::from("drawn words"));
     };
-    let words = words_of(alloc, &["run"])?;
-    for _ in 0..3 {
+    for words in [
+        ["run"].as_slice(),
+        &["run", "1"],
+        &["run", "2"],
+        &["run", "64"],
+    ] {
+        let words = words_of(alloc, words)?;
         let mut source = MemSource::new(ONE_TEXT.to_vec(alloc)?, 4096, Vec::new(alloc));
         let mut sink = MemSink::new(alloc, 4096, Vec::new(alloc));
         let mut taps = taps_of(alloc)?;
@@ -37,11 +42,7 @@ fn run_with_threads(rt: HostRuntime) -> Result<(), Fail> {
             &OpenGate,
         );
         assert_eq!(rt; ended.status, Status::Done);
-        let Ok(history) = parse_history(alloc, &script.shape, sink.bytes()) else {
-            return Err(Fail::from("a history"));
-        };
-        let mut told = Vec::new(alloc);
-        report(alloc, &script, &draws, &history, &mut told)?;
+        let told = retold(alloc, &script, &draws, sink.bytes())?;
         assert_eq!(rt; sink.bytes(), told.as_slice());
         let outcome = ended.outcome.ok_or("an outcome")?;
         let mut left = Vec::new(alloc);

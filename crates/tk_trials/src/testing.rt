@@ -1,10 +1,16 @@
 //! What the tests share.
+ghost use Rattle.std.specs.Prelude.{◌≡◌};
+
 use std::alloc::Global;
 use std::sync::Wait;
+use std::test::Fail;
 use std::thread::Threads;
 use tk_cli::{Status, talek};
 use tk_io::{MemSink, MemSource, MemTaps, OpenGate};
+use tk_report::{parse_history, report};
+use tk_script::Script;
 use tk_shape::{Bytes, Memory};
+use tk_words::Draws;
 
 /// A script of two clients with one text, over two phases of one tick, and its tape.
 pub(crate) const ONE_TEXT: &[u8] = b"talek 1
@@ -69,4 +75,21 @@ pub(crate) fn taps_of(alloc: Global) -> Result<MemTaps, Memory> {
         return Err(Memory);
     };
     Ok(taps)
+}
+
+/// The report for the history that a report tells.
+pub(crate) fn retold<D: Draws>(
+    alloc: Global,
+    script: &Script,
+    draws: &D,
+    text: &[u8],
+) -> Result<Vec<u8>, Fail>
+    requires { D.shape draws.now ≡ script.now.shape }
+{
+    let Ok(history) = parse_history(alloc, &script.shape, text) else {
+        return Err(Fail::from("a history"));
+    };
+    let mut told = Vec::new(alloc);
+    report(alloc, script, draws, &history, &mut told)?;
+    Ok(told)
 }

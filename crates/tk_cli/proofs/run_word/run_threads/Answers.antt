@@ -19,11 +19,11 @@ use Rattle.tk_cli.proofs.run_word.run_threads.Goals as goal
 
 pub returns-in-Err : goal.returns-in-Err
 returns-in-Err g c =
-    early request.Run run-reads c.without.result _ _
+    early (request.Run c.args.crew.now.workers) (run-reads c.args.crew.now.workers) c.without.result _ _
     (record { source = c.ready.ensures.counts; sink = omega arith; taps = omega arith })
     c.in-Err.status c.without.ensures.status c.without.ensures.nothing c.in-Err.ensures.taken
     (record { held = refl; faults = refl }) (record { tap = λ j. refl; faults = refl })
-    (c.in-Err.ensures.stopped request.Run tt)
+    (c.in-Err.ensures.stopped (request.Run c.args.crew.now.workers) tt)
 
 pub returns-in-Err-threads_by : goal.returns-in-Err-threads_by
 returns-in-Err-threads_by g c =
@@ -37,7 +37,7 @@ returns-in-Err-threads_by g c =
     let came = as-input left left' c.in-Ok.input.0 c.in-Ok.input.1 ready
     (λ (S : Script) (b : WordBook). CameAbout S b refused tap tap')
     c.in-Err-threads_by.ensures.run in
-    run-early request.Run run-reads c.without-in-Err-threads_by.result _ _
+    run-early (request.Run c.args.crew.now.workers) (run-reads c.args.crew.now.workers) c.without-in-Err-threads_by.result _ _
     (record {
       source = c.ready.ensures.counts;
       sink = omega arith;
@@ -49,7 +49,7 @@ returns-in-Err-threads_by g c =
     (record {
       input = ready.input;
       history = came.history;
-      due = run-due left left' c.in-Ok.input.0 c.in-Ok.input.1 ready came.history came.legal;
+      due = run-due left left' c.in-Ok.input.0 c.in-Ok.input.1 ready c.args.crew.now.workers came.history came.legal;
       taps = record { gained = came.taps.err; others = came.taps.others };
     })
     c.in-Err-threads_by.ensures.rose
@@ -75,15 +75,15 @@ returns g c =
     (g.K.Sink.faults c.args.sink.now) tap (g.T.Taps.faults c.args.taps.now) in
     let new = outside left' (g.S.Source.faults c.ready.new.source) (g.K.Sink.held c.tell.new.sink)
     (g.K.Sink.faults c.tell.new.sink) tap' (g.T.Taps.faults c.threads_by.new.taps) in
-    run-told request.Run run-reads e old new
+    run-told (request.Run c.args.crew.now.workers) (run-reads c.args.crew.now.workers) e old new
     (record {
       source = c.ready.ensures.counts;
       sink = c.tell.ensures.counts;
       taps = c.threads_by.ensures.counts;
     })
     c.in-Ok.input c.in-Ok.ensures.taken (λ no. no) (outcome_text o)
-    (told request.Run e old new input H (outcome_text o) o (Some ran.1)
-    (run-due left left' c.in-Ok.input.0 c.in-Ok.input.1 ready H came.legal)
+    (told (request.Run c.args.crew.now.workers) e old new input H (outcome_text o) o (Some ran.1)
+    (run-due left left' c.in-Ok.input.0 c.in-Ok.input.1 ready c.args.crew.now.workers H came.legal)
     (record { gained = came.taps.ok; others = came.taps.others })
     (record {
       gained = fronts-of_all input.first.shape.servers (seen_in input H) tap tap' came.taps.ok;

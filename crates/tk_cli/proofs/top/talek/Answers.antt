@@ -5,7 +5,9 @@ use Rattle.tk_cli.specs.Endings.{Ends}
 use Rattle.tk_cli.specs.Outside.{outside}
 use Rattle.tk_cli.proofs.EndingLaws.{usage-is, ends-as}
 use Rattle.tk_cli.proofs.WordLaws.{text-ends, view-reads, mirror-reads, plain-view, plain-mirror}
-use Rattle.tk_cli.proofs.WordLaws.{handle-ends, usage-ends}
+use Rattle.tk_cli.proofs.WordLaws.{text-written, usage-ends}
+use Rattle.tk_cli.proofs.WordLaws.{handle-reads_nothing, make-reads_nothing, tally-reads_nothing}
+use Rattle.tk_cli.proofs.RequestLaws.{crew-of}
 use Rattle.tk_cli.proofs.top.talek.Goals as goal
 
 pub returns-in-Serial : goal.returns-in-Serial
@@ -20,11 +22,15 @@ returns-in-Serial g c =
 pub returns-in-Run : goal.returns-in-Run
 returns-in-Run g c =
     let words = c.args.words.now in
+    let q = request.Run c.in-Run.workers in
     let ends = c.run_threads.ensures in
     record {
-      usage = usage-is words request.Run c.run_threads.result _ _ c.in-Run.ensures ends;
-      ends = ends-as words request.Run c.run_threads.result _ _ c.in-Run.ensures ends;
+      usage = usage-is words q c.run_threads.result _ _ c.in-Run.ensures ends;
+      ends = ends-as words q c.run_threads.result _ _ c.in-Run.ensures ends;
     }
+
+pub run_threads-requires : goal.run_threads-requires
+run_threads-requires g c = crew-of c.args.words.now c.in-Run.workers c.in-Run.ensures
 
 pub returns-in-View : goal.returns-in-View
 returns-in-View g c =
@@ -89,7 +95,7 @@ returns-in-Handle g c =
     let q = request.Handle c.in-Handle.id c.in-Handle.root in
     let e = c.answer-in-Handle.result in
     let told = c.answer-in-Handle.ensures in
-    let ends = handle-ends c.in-Handle.id c.in-Handle.root (λ line. line.items) e
+    let ends = text-written q (handle-reads_nothing c.in-Handle.id c.in-Handle.root) (λ text. text.items) e
     (g.S.Source.left c.args.source.now) (g.S.Source.faults c.args.source.now)
     (g.K.Sink.held c.args.sink.now) (g.K.Sink.held c.answer-in-Handle.new.sink)
     (g.K.Sink.faults c.args.sink.now) (g.K.Sink.faults c.answer-in-Handle.new.sink)
@@ -99,6 +105,42 @@ returns-in-Handle g c =
     record {
       usage = usage-is words q e _ _ c.in-Handle.ensures ends;
       ends = ends-as words q e _ _ c.in-Handle.ensures ends;
+    }
+
+pub returns-in-Make : goal.returns-in-Make
+returns-in-Make g c =
+    let words = c.args.words.now in
+    let q = request.Make c.in-Make.number in
+    let e = c.answer-in-Make.result in
+    let told = c.answer-in-Make.ensures in
+    let ends = text-written q (make-reads_nothing c.in-Make.number) (λ text. text.items) e
+    (g.S.Source.left c.args.source.now) (g.S.Source.faults c.args.source.now)
+    (g.K.Sink.held c.args.sink.now) (g.K.Sink.held c.answer-in-Make.new.sink)
+    (g.K.Sink.faults c.args.sink.now) (g.K.Sink.faults c.answer-in-Make.new.sink)
+    (g.T.Taps.tap c.args.taps.now) (g.T.Taps.faults c.args.taps.now) told.counts told.nothing
+    c.make_text.result c.make_text.ensures.text c.make_text.ensures.memory told.puts
+    told.status told.quiet in
+    record {
+      usage = usage-is words q e _ _ c.in-Make.ensures ends;
+      ends = ends-as words q e _ _ c.in-Make.ensures ends;
+    }
+
+pub returns-in-Tally : goal.returns-in-Tally
+returns-in-Tally g c =
+    let words = c.args.words.now in
+    let q = request.Tally c.in-Tally.number in
+    let e = c.answer-in-Tally.result in
+    let told = c.answer-in-Tally.ensures in
+    let ends = text-written q (tally-reads_nothing c.in-Tally.number) (λ text. text.items) e
+    (g.S.Source.left c.args.source.now) (g.S.Source.faults c.args.source.now)
+    (g.K.Sink.held c.args.sink.now) (g.K.Sink.held c.answer-in-Tally.new.sink)
+    (g.K.Sink.faults c.args.sink.now) (g.K.Sink.faults c.answer-in-Tally.new.sink)
+    (g.T.Taps.tap c.args.taps.now) (g.T.Taps.faults c.args.taps.now) told.counts told.nothing
+    c.tally_text.result c.tally_text.ensures.text c.tally_text.ensures.memory told.puts
+    told.status told.quiet in
+    record {
+      usage = usage-is words q e _ _ c.in-Tally.ensures ends;
+      ends = ends-as words q e _ _ c.in-Tally.ensures ends;
     }
 
 pub returns-in-Nothing : goal.returns-in-Nothing
