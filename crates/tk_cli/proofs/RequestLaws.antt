@@ -30,14 +30,15 @@ nothing-alone words Nothing nothing asks = refl
 
 -- ---- words that differ
 
--- no two of the words weigh the same
+-- of the words with as many behind them no two weigh the same
 weight : List ℕ → ℕ
 weight [] = 0
 weight (x ∷ xs) = x + length xs
 
-apart : {X : Type 0} (a b : List ℕ) → (weight a ≡ weight b → ⊥) → (w : List ℕ) → w ≡ a → w ≡ b →
-    X
-apart a b differ w x y = absurd (differ (ap weight (sym x ∙ y)))
+apart : {X : Type 0} (a b : List ℕ) (m n : ℕ) → weight a ≡ m → weight b ≡ n → (m ≡ n → ⊥) →
+    (w : List ℕ) → w ≡ a → w ≡ b → X
+apart a b m n weighs weighs' differ w x y =
+    absurd (differ (sym weighs ∙ ap weight (sym x ∙ y) ∙ weighs'))
 
 -- ---- numbers
 
@@ -64,10 +65,13 @@ no_words (Make n) r a b = absurd a
 no_words (Tally n) r a b = absurd a
 
 one_word : (w : List ℕ) (q r : Request) → Asks (w ∷ []) q → Asks (w ∷ []) r → q ≡ r
+unfolding weight
 one_word w Nothing r a b = nothing-alone (w ∷ []) r a b
 one_word w Serial Serial a b = refl
-one_word w Serial (Run n) a b = apart (codes "serial") (codes "run") (λ e. omega (arith, e)) w a b.0
-one_word w (Run n) Serial a b = apart (codes "run") (codes "serial") (λ e. omega (arith, e)) w a.0 b
+one_word w Serial (Run n) a b =
+    apart (codes "serial") (codes "run") 120 116 refl refl (λ e. omega (arith, e)) w a b.0
+one_word w (Run n) Serial a b =
+    apart (codes "run") (codes "serial") 116 120 refl refl (λ e. omega (arith, e)) w a.0 b
 one_word w (Run m) (Run n) a b = ap (λ k. Run k) (a.1 ∙ sym b.1)
 one_word w (View j) r a b = absurd a
 one_word w (Mirror h) r a b = absurd a
@@ -82,51 +86,52 @@ one_word w q (Make n) a b = absurd b
 one_word w q (Tally n) a b = absurd b
 
 two_words : (w n : List ℕ) (q r : Request) → Asks (w ∷ n ∷ []) q → Asks (w ∷ n ∷ []) r → q ≡ r
+unfolding weight
 two_words w n Nothing r a b = nothing-alone (w ∷ n ∷ []) r a b
 two_words w n (Run j) (Run k) a b = ap (λ m. Run m) (one_crew j k n a.1 b.1)
 two_words w n (Run j) (View k) a b =
-    apart (codes "run") (codes "view") (λ e. omega (arith, e)) w a.0 b.0
+    apart (codes "run") (codes "view") 116 121 refl refl (λ e. omega (arith, e)) w a.0 b.0
 two_words w n (Run j) (Mirror k) a b =
-    apart (codes "run") (codes "mirror") (λ e. omega (arith, e)) w a.0 b.0
+    apart (codes "run") (codes "mirror") 116 114 refl refl (λ e. omega (arith, e)) w a.0 b.0
 two_words w n (Run j) (Make k) a b =
-    apart (codes "run") (codes "make") (λ e. omega (arith, e)) w a.0 b.0
+    apart (codes "run") (codes "make") 116 112 refl refl (λ e. omega (arith, e)) w a.0 b.0
 two_words w n (Run j) (Tally k) a b =
-    apart (codes "run") (codes "tally") (λ e. omega (arith, e)) w a.0 b.0
+    apart (codes "run") (codes "tally") 116 120 refl refl (λ e. omega (arith, e)) w a.0 b.0
 two_words w n (View j) (Run k) a b =
-    apart (codes "view") (codes "run") (λ e. omega (arith, e)) w a.0 b.0
+    apart (codes "view") (codes "run") 121 116 refl refl (λ e. omega (arith, e)) w a.0 b.0
 two_words w n (View j) (View k) a b = ap (λ m. View m) (one_small j k n a.1 b.1)
 two_words w n (View j) (Mirror k) a b =
-    apart (codes "view") (codes "mirror") (λ e. omega (arith, e)) w a.0 b.0
+    apart (codes "view") (codes "mirror") 121 114 refl refl (λ e. omega (arith, e)) w a.0 b.0
 two_words w n (View j) (Make k) a b =
-    apart (codes "view") (codes "make") (λ e. omega (arith, e)) w a.0 b.0
+    apart (codes "view") (codes "make") 121 112 refl refl (λ e. omega (arith, e)) w a.0 b.0
 two_words w n (View j) (Tally k) a b =
-    apart (codes "view") (codes "tally") (λ e. omega (arith, e)) w a.0 b.0
+    apart (codes "view") (codes "tally") 121 120 refl refl (λ e. omega (arith, e)) w a.0 b.0
 two_words w n (Mirror j) (Run k) a b =
-    apart (codes "mirror") (codes "run") (λ e. omega (arith, e)) w a.0 b.0
+    apart (codes "mirror") (codes "run") 114 116 refl refl (λ e. omega (arith, e)) w a.0 b.0
 two_words w n (Mirror j) (View k) a b =
-    apart (codes "mirror") (codes "view") (λ e. omega (arith, e)) w a.0 b.0
+    apart (codes "mirror") (codes "view") 114 121 refl refl (λ e. omega (arith, e)) w a.0 b.0
 two_words w n (Mirror j) (Mirror k) a b = ap (λ m. Mirror m) (one_small j k n a.1 b.1)
 two_words w n (Mirror j) (Make k) a b =
-    apart (codes "mirror") (codes "make") (λ e. omega (arith, e)) w a.0 b.0
+    apart (codes "mirror") (codes "make") 114 112 refl refl (λ e. omega (arith, e)) w a.0 b.0
 two_words w n (Mirror j) (Tally k) a b =
-    apart (codes "mirror") (codes "tally") (λ e. omega (arith, e)) w a.0 b.0
+    apart (codes "mirror") (codes "tally") 114 120 refl refl (λ e. omega (arith, e)) w a.0 b.0
 two_words w n (Make j) (Run k) a b =
-    apart (codes "make") (codes "run") (λ e. omega (arith, e)) w a.0 b.0
+    apart (codes "make") (codes "run") 112 116 refl refl (λ e. omega (arith, e)) w a.0 b.0
 two_words w n (Make j) (View k) a b =
-    apart (codes "make") (codes "view") (λ e. omega (arith, e)) w a.0 b.0
+    apart (codes "make") (codes "view") 112 121 refl refl (λ e. omega (arith, e)) w a.0 b.0
 two_words w n (Make j) (Mirror k) a b =
-    apart (codes "make") (codes "mirror") (λ e. omega (arith, e)) w a.0 b.0
+    apart (codes "make") (codes "mirror") 112 114 refl refl (λ e. omega (arith, e)) w a.0 b.0
 two_words w n (Make j) (Make k) a b = ap (λ m. Make m) (one_long j k n a.1 b.1)
 two_words w n (Make j) (Tally k) a b =
-    apart (codes "make") (codes "tally") (λ e. omega (arith, e)) w a.0 b.0
+    apart (codes "make") (codes "tally") 112 120 refl refl (λ e. omega (arith, e)) w a.0 b.0
 two_words w n (Tally j) (Run k) a b =
-    apart (codes "tally") (codes "run") (λ e. omega (arith, e)) w a.0 b.0
+    apart (codes "tally") (codes "run") 120 116 refl refl (λ e. omega (arith, e)) w a.0 b.0
 two_words w n (Tally j) (View k) a b =
-    apart (codes "tally") (codes "view") (λ e. omega (arith, e)) w a.0 b.0
+    apart (codes "tally") (codes "view") 120 121 refl refl (λ e. omega (arith, e)) w a.0 b.0
 two_words w n (Tally j) (Mirror k) a b =
-    apart (codes "tally") (codes "mirror") (λ e. omega (arith, e)) w a.0 b.0
+    apart (codes "tally") (codes "mirror") 120 114 refl refl (λ e. omega (arith, e)) w a.0 b.0
 two_words w n (Tally j) (Make k) a b =
-    apart (codes "tally") (codes "make") (λ e. omega (arith, e)) w a.0 b.0
+    apart (codes "tally") (codes "make") 120 112 refl refl (λ e. omega (arith, e)) w a.0 b.0
 two_words w n (Tally j) (Tally k) a b = ap (λ m. Tally m) (one_long j k n a.1 b.1)
 two_words w n Serial r a b = absurd a
 two_words w n (Handle id root) r a b = absurd a

@@ -29,8 +29,9 @@ returns-in-Run g c =
       ends = ends-as words q c.run_threads.result _ _ c.in-Run.ensures ends;
     }
 
-pub run_threads-requires : goal.run_threads-requires
-run_threads-requires g c = crew-of c.args.words.now c.in-Run.workers c.in-Run.ensures
+pub run_threads-requires-clause-workers : goal.run_threads-requires-clause-workers
+run_threads-requires-clause-workers g c κs within =
+    crew-of c.args.words.now c.in-Run.workers c.in-Run.ensures
 
 pub returns-in-View : goal.returns-in-View
 returns-in-View g c =

@@ -1,0 +1,13 @@
+-- The text is what was printed.
+use Rattle.std.proofs.Common.{◌∙◌, ◌++◌, ap, ℕ, List}
+use Rattle.tk_script.specs.Printing.{printed}
+use Rattle.tk_cli.proofs.make_word.printed_script.Goals as goal
+
+pub returns : goal.returns
+returns c =
+    record {
+      script = c.in_ok-script.script;
+      made = c.in_ok-script.ensures;
+      is = c.in_ok-print.ensures.ok
+          ∙ ap (λ (xs : List ℕ). xs ++ printed c.in_ok-script.script) c.new-text.ensures.items;
+    }
