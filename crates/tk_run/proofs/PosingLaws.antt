@@ -10,6 +10,7 @@ use Rattle.tk_words.specs.Words.{WordBook}
 use Rattle.tk_frames.specs.declared.read_frame.ReadFrame.{ReadFrame}
 use Rattle.tk_frames.specs.Ranges.{IsRead}
 use Rattle.tk_frames.specs.Spelling.{read_frame}
+use Rattle.tk_client.specs.Asked.{frame_with}
 use Rattle.tk_report.specs.Exchange.{read_at}
 use Rattle.tk_cluster.specs.declared.set.EpochSet.{EpochSet}
 use Rattle.tk_cluster.specs.Refusals.{IsAsked}
@@ -17,7 +18,7 @@ use Rattle.tk_cluster.specs.Refusals.{IsAsked}
 -- all reads of a client in a turn name one epoch
 reads-named : (S : Script) (b : WordBook) (H : History) (g c : ℕ) (js : List ℕ) →
     AllByRecursion (λ (r : ReadFrame). r.epoch ≡ epoch_at H g c) (map (read_at S b H g c) js)
-unfolding read_at
+unfolding read_at frame_with
 reads-named S b H g c [] = tt
 reads-named S b H g c (j ∷ js) = (refl, reads-named S b H g c js)
 

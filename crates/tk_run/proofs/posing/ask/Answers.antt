@@ -25,7 +25,7 @@ returns g c =
     let n = client.number in
     let set = arc_value talk.set in
     let epoch = c.number-epoch.result in
-    let marks = c.filter-filter.result.now in
+    let marks = c.filter.result.now in
     let target = target_over (words_of shape book) marks epoch client in
     let same : c.as_ref-set.result.now ≡ set = c.as_ref-set.ensures in
     let number : epoch ≡ set.number =
@@ -52,7 +52,7 @@ returns g c =
           in
           let due : epoch ≡ epoch_at H talk.turn n = number ∙ may.stands.number in
           let shows : Shows S book H talk.turn n marks = λ hits.
-          c.filter-filter.ensures.shows S.shape E here hits
+          c.filter.ensures.shows S.shape E here hits
           ∙ ap (λ (R : List Record). is_shown S.shape R hits)
           (ap (before E) (ap (λ (s : EpochSet). s.number) same ∙ may.stands.number)
           ∙ all-made S book H talk.turn may.legal may.turn_in n may.client_in)

@@ -17,16 +17,16 @@ returns-in_err-history-clause-err g c =
     on_err _ c.from_residual.result
     (fronts-none S.shape.servers seen (g.T.Taps.tap c.args.taps.now))
 
-pub returns-in_err-take_turns-clause-err : goal.returns-in_err-take_turns-clause-err
-returns-in_err-take_turns-clause-err g c =
+pub returns-in_err-clients-clause-err : goal.returns-in_err-clients-clause-err
+returns-in_err-clients-clause-err g c =
     let S = c.args.script.now in
     let book = g.D.Draws.book c.args.draws.now in
     let old = g.T.Taps.tap c.args.taps.now in
     let new = g.T.Taps.tap c.take_turns.new.taps in
-    on_err _ c.from_residual-in_err-take_turns.result
+    on_err _ c.from_residual-in_err-clients.result
     (subst (λ (h : History). TapsGainFronts S.shape.servers
     (λ (j : ℕ). bytes_of (exchange S book h j)) old new)
-    c.in_ok-history.ensures.serial c.in_err-take_turns.ensures.err)
+    c.in_ok-history.ensures.serial c.in_err-clients.ensures.err)
 
 pub returns-in_err-outcome_of-clause-err : goal.returns-in_err-outcome_of-clause-err
 returns-in_err-outcome_of-clause-err g c =
@@ -38,4 +38,14 @@ returns-in_err-outcome_of-clause-err g c =
     on_err _ c.from_residual-in_err-outcome_of.result
     (fronts-of_all S.shape.servers (seen (serial_history S.shape)) old new
     (subst (λ (H : History). TapsGain S.shape.servers (seen H) old new)
-    c.in_ok-history.ensures.serial c.in_ok-take_turns.ensures.ok))
+    c.in_ok-history.ensures.serial c.in_ok-clients.ensures.ok))
+
+pub returns-clause-ok : goal.returns-clause-ok
+returns-clause-ok g c =
+    let S = c.args.script.now in
+    let book = g.D.Draws.book c.args.draws.now in
+    let old = g.T.Taps.tap c.args.taps.now in
+    let new = g.T.Taps.tap c.take_turns.new.taps in
+    let seen = λ (H : History) (j : ℕ). bytes_of (exchange S book H j) in
+    subst (λ (H : History). TapsGain S.shape.servers (seen H) old new)
+    c.in_ok-history.ensures.serial c.in_ok-clients.ensures.ok

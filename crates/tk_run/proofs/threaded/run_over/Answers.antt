@@ -116,8 +116,8 @@ returns-in_err-history-clause-run g c =
     taps.others
 
 -- the clients at the end are those of the history that came about
-pub outcome_of-outcome-requires-legal : goal.outcome_of-outcome-requires-legal
-outcome_of-outcome-requires-legal g c =
+pub outcome_of-requires-clause-legal : goal.outcome_of-requires-clause-legal
+outcome_of-requires-clause-legal g c =
     let S = c.args.scene.now.script.now in
     let book = g.D.Draws.book c.args.scene.now.draws.now in
     let now = c.run_turns-ran.new.course in
@@ -126,8 +126,8 @@ outcome_of-outcome-requires-legal g c =
     subst (IsLegal S.shape) (sym c.in_ok-history.ensures)
     (course_legal S book K now.group now.passes.items now.herald.publisher course)
 
-pub outcome_of-outcome-requires-clients : goal.outcome_of-outcome-requires-clients
-outcome_of-outcome-requires-clients g c =
+pub outcome_of-requires-clause-clients : goal.outcome_of-requires-clause-clients
+outcome_of-requires-clause-clients g c =
     let S = c.args.scene.now.script.now in
     let book = g.D.Draws.book c.args.scene.now.draws.now in
     let now = c.run_turns-ran.new.course in
