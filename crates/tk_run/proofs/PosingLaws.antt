@@ -18,7 +18,7 @@ use Rattle.tk_cluster.specs.Refusals.{IsAsked}
 -- all reads of a client in a turn name one epoch
 reads-named : (S : Script) (b : WordBook) (H : History) (g c : ℕ) (js : List ℕ) →
     AllByRecursion (λ (r : ReadFrame). r.epoch ≡ epoch_at H g c) (map (read_at S b H g c) js)
-unfolding read_at frame_with
+unfolding frame_with read_at
 reads-named S b H g c [] = tt
 reads-named S b H g c (j ∷ js) = (refl, reads-named S b H g c js)
 

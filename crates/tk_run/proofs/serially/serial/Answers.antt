@@ -39,13 +39,3 @@ returns-in_err-outcome_of-clause-err g c =
     (fronts-of_all S.shape.servers (seen (serial_history S.shape)) old new
     (subst (λ (H : History). TapsGain S.shape.servers (seen H) old new)
     c.in_ok-history.ensures.serial c.in_ok-clients.ensures.ok))
-
-pub returns-clause-ok : goal.returns-clause-ok
-returns-clause-ok g c =
-    let S = c.args.script.now in
-    let book = g.D.Draws.book c.args.draws.now in
-    let old = g.T.Taps.tap c.args.taps.now in
-    let new = g.T.Taps.tap c.take_turns.new.taps in
-    let seen = λ (H : History) (j : ℕ). bytes_of (exchange S book H j) in
-    subst (λ (H : History). TapsGain S.shape.servers (seen H) old new)
-    c.in_ok-history.ensures.serial c.in_ok-clients.ensures.ok

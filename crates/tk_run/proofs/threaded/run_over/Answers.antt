@@ -117,7 +117,7 @@ returns-in_err-history-clause-run g c =
 
 -- the clients at the end are those of the history that came about
 pub outcome_of-requires-clause-legal : goal.outcome_of-requires-clause-legal
-outcome_of-requires-clause-legal g c =
+outcome_of-requires-clause-legal g c κs within =
     let S = c.args.scene.now.script.now in
     let book = g.D.Draws.book c.args.scene.now.draws.now in
     let now = c.run_turns-ran.new.course in
@@ -127,7 +127,7 @@ outcome_of-requires-clause-legal g c =
     (course_legal S book K now.group now.passes.items now.herald.publisher course)
 
 pub outcome_of-requires-clause-clients : goal.outcome_of-requires-clause-clients
-outcome_of-requires-clause-clients g c =
+outcome_of-requires-clause-clients g c κs within =
     let S = c.args.scene.now.script.now in
     let book = g.D.Draws.book c.args.scene.now.draws.now in
     let now = c.run_turns-ran.new.course in
