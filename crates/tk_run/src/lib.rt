@@ -26,8 +26,6 @@ mod tapping;
 mod telling;
 #[cfg(test)]
 mod tests;
-#[cfg(test)]
-mod thread_tests;
 mod threaded;
 mod ticks;
 mod turns;
