@@ -1,0 +1,12 @@
+-- Servers that have applied the same entries.
+use Rattle.std.specs.Prelude.{◌≡◌, ℕ, ◌<◌, List, length, slice_index_or}
+use Rattle.tk_shape.specs.declared.shape.Shape.{Shape}
+use Rattle.tk_frames.specs.declared.entry.Placed.{Placed}
+use Rattle.tk_replica.specs.Replica.{ReplicaView, StandsFor}
+
+-- as many as the shape has, and each stands for these entries
+pub record AreServers (shape : Shape) (E : List Placed) (servers : List ReplicaView)
+    : Type 0 where
+  pub counted : length servers ≡ shape.servers
+  pub each : (i : ℕ) (d : ReplicaView) → i < length servers →
+      StandsFor shape E (slice_index_or servers i d)

@@ -1,0 +1,103 @@
+use std::alloc::{AllocError, AllocFailed};
+use std::io;
+use tk_client::{SayError, TakeError};
+use tk_frames::FrameError;
+use tk_replica::{PinError, ServeError};
+use tk_shape::{Memory, ShapeError};
+
+/// Why no text comes.
+#[derive(Debug, Drop)]
+pub enum Fault {
+    /// Numbers that are no shape.
+    Shape(ShapeError),
+    /// A text that the client may not say.
+    Say(SayError),
+    /// Bytes that are no frame of their kind.
+    Frame(FrameError),
+    /// An entry that isn't the next one of a server that has applied so many.
+    NotNext { applied: u64 },
+    /// An epoch that the first server doesn't keep.
+    Pin(PinError),
+    /// A read that a server doesn't answer.
+    Serve(ServeError),
+    /// Replies that the client refuses.
+    Take(TakeError),
+    /// What is printed can't be written.
+    Output(io::Error),
+    Memory,
+}
+
+impl From<ShapeError> for Fault {
+    fn from(error: ShapeError) -> Fault {
+        Fault::Shape(error)
+    }
+}
+
+impl From<SayError> for Fault {
+    fn from(error: SayError) -> Fault {
+        match error {
+            SayError::Memory => Fault::Memory,
+            error => Fault::Say(error),
+        }
+    }
+}
+
+impl From<FrameError> for Fault {
+    fn from(error: FrameError) -> Fault {
+        match error {
+            FrameError::Memory => Fault::Memory,
+            error => Fault::Frame(error),
+        }
+    }
+}
+
+impl From<PinError> for Fault {
+    fn from(error: PinError) -> Fault {
+        match error {
+            PinError::Memory => Fault::Memory,
+            error => Fault::Pin(error),
+        }
+    }
+}
+
+impl From<ServeError> for Fault {
+    fn from(error: ServeError) -> Fault {
+        match error {
+            ServeError::Memory => Fault::Memory,
+            error => Fault::Serve(error),
+        }
+    }
+}
+
+impl From<TakeError> for Fault {
+    fn from(error: TakeError) -> Fault {
+        match error {
+            TakeError::Memory => Fault::Memory,
+            error => Fault::Take(error),
+        }
+    }
+}
+
+impl From<io::Error> for Fault {
+    fn from(error: io::Error) -> Fault {
+        Fault::Output(error)
+    }
+}
+
+impl From<Memory> for Fault {
+    fn from(_e: Memory) -> Fault {
+        Fault::Memory
+    }
+}
+
+impl From<AllocError> for Fault {
+    fn from(_e: AllocError) -> Fault {
+        Fault::Memory
+    }
+}
+
+impl<T: Drop> From<AllocFailed<T>> for Fault {
+    fn from(_e: AllocFailed<T>) -> Fault {
+        Fault::Memory
+    }
+}

@@ -1,0 +1,110 @@
+//! What a client does in a turn: it writes once, and it reads once. Here it is the only one, and
+//! each turn closes a phase, so that turn g has the entries 2 * g + 1, its write, and 2 * g + 2, the
+//! mark of epoch g + 1.
+ghost use Rattle.std.specs.Prelude.{◌≡◌, ◌+◌, ◌<◌, ◌≤◌, ◌++◌, ◌∷◌, [], List, length, None, OnOk};
+ghost use Rattle.std.specs.Option.{ForSome};
+ghost use Rattle.tk_shape.specs.declared.shape.Shape.{Shape};
+ghost use Rattle.tk_shape.specs.Lengths.{turn_count};
+ghost use Rattle.tk_frames.specs.declared.entry.Placed.{Placed};
+ghost use Rattle.tk_client.specs.Writing.{first_waiting};
+ghost use Rattle.embed.specs.Servers.{AreServers};
+ghost use Rattle.embed.specs.Turns.{written, record_of, mark_of, with_turn, after_read};
+ghost use Rattle.embed.specs.Turns.{after_turn};
+
+use crate::fault::Fault;
+use crate::order::{mark_frame, record_frame};
+use crate::servers::{answers, take_all};
+use std::alloc::Global;
+use tk_client::Client;
+use tk_replica::ReplicaState;
+use tk_words::Draws;
+
+/// The client writes, and each server takes the record of it.
+fn write<D: Draws>(
+    alloc: Global,
+    draws: &D,
+    turn: u32,
+    client: &mut Client,
+    servers: &mut [ReplicaState],
+) -> Result<(), Fault>
+    requires one_shape { D.shape draws.now ≡ client.old.shape }
+    requires one_tick { client.old.shape.ticks ≡ 1 }
+    requires turn_in { turn < turn_count client.old.shape }
+    requires number_in { ForSome (first_waiting client.old.writing)
+        (λ y. y.number < turn_count client.old.shape) }
+    ensures client { OnOk result (client.new ≡ written client.old) }
+    ensures servers { (E : List Placed) → AreServers client.old.shape E servers.old
+        → OnOk result (AreServers client.old.shape
+        (E ++ record_of (D.book draws.now) turn client.old ∷ []) servers.new) }
+{
+    let shape = *client.shape();
+    let mut frame = Vec::new(alloc);
+    client.write_frame(alloc, draws, turn, &mut frame)?;
+    let position = 2 * u64::from(turn) + 1;
+    let record = record_frame(alloc, &shape, position, frame.as_slice())?;
+    take_all(alloc, servers, record.as_slice())
+}
+
+/// Each server takes the mark.
+fn mark(alloc: Global, turn: u32, servers: &mut [ReplicaState]) -> Result<(), Fault>
+    requires { turn < 2 ^ 32 - 1 }
+    ensures { (shape : Shape) (E : List Placed)
+        → AreServers shape E servers.old → turn < shape.phases
+        → OnOk result (AreServers shape (E ++ mark_of turn ∷ []) servers.new) }
+{
+    let position = 2 * u64::from(turn) + 2;
+    let mark = mark_frame(alloc, position, turn + 1)?;
+    take_all(alloc, servers, mark.as_slice())
+}
+
+/// The client reads over an epoch: it asks each server, and takes the replies. Which numbers are
+/// worth reading it learns from the filter of the first server's epoch.
+fn read<D: Draws>(
+    alloc: Global,
+    draws: &D,
+    turn: u32,
+    epoch: u32,
+    client: &mut Client,
+    servers: &[ReplicaState],
+) -> Result<(), Fault>
+    requires one_shape { D.shape draws.now ≡ client.old.shape }
+    requires closed { client.old.read ≡ None }
+    requires turn_in { turn < turn_count client.old.shape }
+    requires epoch_in { epoch ≤ client.old.shape.phases }
+    requires counted { length servers.now ≡ client.old.shape.servers }
+    ensures { (E : List Placed) → AreServers client.old.shape E servers.now
+        → OnOk result (client.new ≡ after_read (D.book draws.now) E turn epoch client.old) }
+{
+    let shown = servers[0].pin(epoch)?;
+    let mut frames = Vec::new(alloc);
+    client.read_frames(alloc, draws, turn, epoch, shown.filter(), &mut frames)?;
+    let replies = answers(alloc, servers, frames.as_slice())?;
+    client.take_replies(alloc, draws, replies.as_slice())?;
+    Ok(())
+}
+
+/// A turn: the write, the mark, and the read over the mark's epoch.
+pub fn take_turn<D: Draws>(
+    alloc: Global,
+    draws: &D,
+    turn: u32,
+    client: &mut Client,
+    servers: &mut [ReplicaState],
+) -> Result<(), Fault>
+    requires one_shape { D.shape draws.now ≡ client.old.shape }
+    requires one_tick { client.old.shape.ticks ≡ 1 }
+    requires closed { client.old.read ≡ None }
+    requires turn_in { turn < turn_count client.old.shape }
+    requires number_in { ForSome (first_waiting client.old.writing)
+        (λ y. y.number < turn_count client.old.shape) }
+    requires counted { length servers.old ≡ client.old.shape.servers }
+    ensures servers { (E : List Placed) → AreServers client.old.shape E servers.old
+        → OnOk result (AreServers client.old.shape
+        (with_turn (D.book draws.now) turn client.old E) servers.new) }
+    ensures client { (E : List Placed) → AreServers client.old.shape E servers.old
+        → OnOk result (client.new ≡ after_turn (D.book draws.now) turn E client.old) }
+{
+    write(alloc, draws, turn, client, servers)?;
+    mark(alloc, turn, servers)?;
+    read(alloc, draws, turn, turn + 1, client, servers)
+}
