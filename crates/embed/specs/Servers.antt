@@ -1,5 +1,5 @@
 -- Servers that have applied the same entries.
-use Rattle.std.specs.Prelude.{◌≡◌, ℕ, ◌<◌, List, length, slice_index_or}
+use Rattle.std.specs.Prelude.{◌≡◌, List, length, All}
 use Rattle.tk_shape.specs.declared.shape.Shape.{Shape}
 use Rattle.tk_frames.specs.declared.entry.Placed.{Placed}
 use Rattle.tk_replica.specs.Replica.{ReplicaView, StandsFor}
@@ -8,5 +8,4 @@ use Rattle.tk_replica.specs.Replica.{ReplicaView, StandsFor}
 pub record AreServers (shape : Shape) (E : List Placed) (servers : List ReplicaView)
     : Type 0 where
   pub counted : length servers ≡ shape.servers
-  pub each : (i : ℕ) (d : ReplicaView) → i < length servers →
-      StandsFor shape E (slice_index_or servers i d)
+  pub each : All (StandsFor shape E) servers

@@ -11,7 +11,8 @@ use Rattle.tk_replica.specs.Replies.{reply_bytes}
 use Rattle.tk_client.specs.Writing.{first_waiting, after_write, with_text}
 use Rattle.tk_client.specs.Writes.{write_of}
 use Rattle.tk_client.specs.Asked.{asked}
-use Rattle.tk_client.specs.Client.{ClientState, Target, new_client, target_over, opened}
+use Rattle.tk_client.specs.declared.target.Target.{Target}
+use Rattle.tk_client.specs.Client.{ClientState, new_client, target_over, opened}
 use Rattle.tk_client.specs.Client.{after_replies}
 
 -- ---- what is written
@@ -40,23 +41,23 @@ with_turn b g s E = (E ++ record_of b g s ∷ []) ++ mark_of g ∷ []
 
 -- what the client's read over epoch e of these entries is for
 abbrev pub target_in : WordBook → List Placed → ℕ → ClientState → Option Target
-target_in b E e s =
-    target_over (words_of s.shape b) (filter_of s.shape (before E e)) e s
+target_in b E e s = target_over (words_of s.shape b) (filter_of s.shape (before E e)) e s
 
 -- the replies to its read in turn g over epoch e, by servers that have these entries
-abbrev pub replies_to : WordBook → List Placed → ℕ → ℕ → ClientState → List (List ℕ)
-replies_to b E g e s =
+abbrev pub replies_to : WordBook → ℕ → ℕ → List Placed → ClientState → List (List ℕ)
+replies_to b g e E s =
     map (reply_bytes s.shape E)
     (map read_frame (asked s.shape b g s.number e (target_in b E e s)))
 
--- the client after these replies
-unfoldable pub after_read : WordBook → List Placed → ℕ → ℕ → ClientState → ClientState
-after_read b E g e s =
-    after_replies (words_of s.shape b) (replies_to b E g e s) (opened g e (target_in b E e s) s)
+-- the client after the replies to its read in turn g, which is over the epoch of the turn's mark
+unfoldable pub after_read : WordBook → ℕ → List Placed → ClientState → ClientState
+after_read b g E s =
+    after_replies (words_of s.shape b) (replies_to b g (g + 1) E s)
+    (opened g (g + 1) (target_in b E (g + 1) s) s)
 
 -- the client after turn g, where servers had these entries before it
 unfoldable pub after_turn : WordBook → ℕ → List Placed → ClientState → ClientState
-after_turn b g E s = after_read b (with_turn b g s E) g (g + 1) (written s)
+after_turn b g E s = after_read b g (with_turn b g s E) (written s)
 
 -- ---- a client that talks with itself
 

@@ -1,7 +1,7 @@
 //! What a client does in a turn: it writes once, and it reads once. Here it is the only one, and
 //! each turn closes a phase, so that turn g has the entries 2 * g + 1, its write, and 2 * g + 2, the
 //! mark of epoch g + 1.
-ghost use Rattle.std.specs.Prelude.{◌≡◌, ◌+◌, ◌<◌, ◌≤◌, ◌++◌, ◌∷◌, [], List, length, None, OnOk};
+ghost use Rattle.std.specs.Prelude.{◌≡◌, ◌+◌, ◌^◌, ◌<◌, ◌++◌, ◌∷◌, [], List, length, None, OnOk};
 ghost use Rattle.std.specs.Option.{ForSome};
 ghost use Rattle.tk_shape.specs.declared.shape.Shape.{Shape};
 ghost use Rattle.tk_shape.specs.Lengths.{turn_count};
@@ -47,7 +47,7 @@ fn write<D: Draws>(
 
 /// Each server takes the mark.
 fn mark(alloc: Global, turn: u32, servers: &mut [ReplicaState]) -> Result<(), Fault>
-    requires { turn < 2 ^ 32 - 1 }
+    requires { turn + 1 < 2 ^ 32 }
     ensures { (shape : Shape) (E : List Placed)
         → AreServers shape E servers.old → turn < shape.phases
         → OnOk result (AreServers shape (E ++ mark_of turn ∷ []) servers.new) }
@@ -57,24 +57,25 @@ fn mark(alloc: Global, turn: u32, servers: &mut [ReplicaState]) -> Result<(), Fa
     take_all(alloc, servers, mark.as_slice())
 }
 
-/// The client reads over an epoch: it asks each server, and takes the replies. Which numbers are
-/// worth reading it learns from the filter of the first server's epoch.
+/// The client reads over the epoch of the turn's mark: it asks each server, and takes the replies.
+/// Which numbers are worth reading it learns from the filter of that epoch, as the first server
+/// keeps it.
 fn read<D: Draws>(
     alloc: Global,
     draws: &D,
     turn: u32,
-    epoch: u32,
     client: &mut Client,
     servers: &[ReplicaState],
 ) -> Result<(), Fault>
     requires one_shape { D.shape draws.now ≡ client.old.shape }
+    requires one_tick { client.old.shape.ticks ≡ 1 }
     requires closed { client.old.read ≡ None }
     requires turn_in { turn < turn_count client.old.shape }
-    requires epoch_in { epoch ≤ client.old.shape.phases }
     requires counted { length servers.now ≡ client.old.shape.servers }
     ensures { (E : List Placed) → AreServers client.old.shape E servers.now
-        → OnOk result (client.new ≡ after_read (D.book draws.now) E turn epoch client.old) }
+        → OnOk result (client.new ≡ after_read (D.book draws.now) turn E client.old) }
 {
+    let epoch = turn + 1;
     let shown = servers[0].pin(epoch)?;
     let mut frames = Vec::new(alloc);
     client.read_frames(alloc, draws, turn, epoch, shown.filter(), &mut frames)?;
@@ -106,5 +107,6 @@ pub fn take_turn<D: Draws>(
 {
     write(alloc, draws, turn, client, servers)?;
     mark(alloc, turn, servers)?;
-    read(alloc, draws, turn, turn + 1, client, servers)
+    read(alloc, draws, turn, client, servers)?;
+    Ok(())
 }

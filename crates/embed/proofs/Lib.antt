@@ -1,0 +1,4 @@
+pub mod Changes
+pub mod ServerLaws
+pub mod TurnLaws
+pub mod ReadLaws
