@@ -1,3 +1,5 @@
+ghost use Rattle.std.specs.Prelude.{◌≡◌};
+
 use std::alloc::{AllocError, AllocFailed};
 use std::io;
 use tk_client::{SayError, TakeError};
@@ -43,6 +45,11 @@ impl From<SayError> for Fault {
 }
 
 impl From<FrameError> for Fault {
+    ghost use Rattle.tk_frames.specs.declared.fault.FrameError.TheVariants as frames;
+    ghost use Rattle.embed.specs.declared.fault.Fault.TheVariants as faults;
+
+    ghost from_gives = { λ f e. f ≡ frames.Memory → e ≡ faults.Memory };
+
     fn from(error: FrameError) -> Fault {
         match error {
             FrameError::Memory => Fault::Memory,
@@ -85,6 +92,10 @@ impl From<io::Error> for Fault {
 }
 
 impl From<Memory> for Fault {
+    ghost use Rattle.embed.specs.declared.fault.Fault.TheVariants as faults;
+
+    ghost from_gives = { λ _ e. e ≡ faults.Memory };
+
     fn from(_e: Memory) -> Fault {
         Fault::Memory
     }

@@ -1,10 +1,10 @@
 //! What servers do: take the entries of the order, and answer reads. Entries, reads and replies
 //! are frames, so that the bytes may come and go over any wire.
-ghost use Rattle.std.specs.Prelude.{◌≡◌, ◌+◌, ◌++◌, ◌∷◌, [], List, length, map, true, IfOk, OnOk};
-ghost use Rattle.std.specs.Prelude.{OnErr};
+ghost use Rattle.std.specs.Prelude.{◌≡◌, ◌+◌, ◌++◌, ◌∷◌, [], List, length, map, true, IfOk};
+ghost use Rattle.std.specs.Prelude.{IfErr, OnOk, OnErr};
 ghost use Rattle.tk_shape.specs.declared.shape.Shape.{Shape};
 ghost use Rattle.tk_frames.specs.declared.entry.Placed.{Placed};
-ghost use Rattle.tk_frames.specs.InOrder.{IsNextAt};
+ghost use Rattle.tk_frames.specs.InOrder.{IsNextAt, IsNext};
 ghost use Rattle.tk_frames.specs.Ranges.{IsPlaced};
 ghost use Rattle.tk_frames.specs.Spelling.{placed_frame};
 ghost use Rattle.tk_replica.specs.Replica.{StandsFor};
@@ -31,8 +31,10 @@ pub fn open_servers(alloc: Global, shape: &Shape) -> Result<Vec<ReplicaState>, M
 /// Whether an entry is the next one for a server.
 fn is_next(server: &ReplicaState, placed: &Placed) -> bool
     requires { IsPlaced server.now.shape placed.now }
-    ensures { result ≡ true → IsNextAt server.now.shape (server.now.applied + 1)
+    ensures next { result ≡ true → IsNextAt server.now.shape (server.now.applied + 1)
         (server.now.last + 1) placed.now }
+    ensures due { IsNextAt server.now.shape (server.now.applied + 1)
+        (server.now.last + 1) placed.now → result ≡ true }
 {
     if placed.position - 1 != server.applied() {
         return false;
@@ -43,12 +45,15 @@ fn is_next(server: &ReplicaState, placed: &Placed) -> bool
     }
 }
 
-/// A server takes the frame of its next entry, a record or a mark. Any other bytes are refused, and
-/// change nothing.
+/// A server takes the frame of its next entry, a record or a mark, unless memory runs out. Any other
+/// bytes are refused, and what is refused changes nothing.
 pub fn take(alloc: Global, server: &mut ReplicaState, frame: &[u8]) -> Result<(), Fault>
     ensures taken { (shape : Shape) (E : List Placed) (p : Placed)
         → StandsFor shape E server.old → IsPlaced shape p → frame.now ≡ placed_frame p
         → OnOk result (StandsFor shape (E ++ p ∷ []) server.new) }
+    ensures due { (shape : Shape) (E : List Placed) (p : Placed)
+        → StandsFor shape E server.old → IsNext shape E p → frame.now ≡ placed_frame p
+        → IfErr result (λ e. e ≡ Fault.Memory) }
     ensures kept { OnErr result (server.new ≡ server.old) }
 {
     let placed = decode_placed(alloc, &server.shape(), frame)?;
