@@ -2,3 +2,4 @@ pub mod Changes
 pub mod ServerLaws
 pub mod TurnLaws
 pub mod ReadLaws
+pub mod FaultLaws

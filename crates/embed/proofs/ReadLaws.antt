@@ -10,8 +10,8 @@ use Rattle.tk_client.specs.Asked.{asked}
 use Rattle.tk_client.specs.Client.{ClientState, target_over, opened, after_replies}
 use Rattle.embed.specs.Turns.{after_read}
 
--- where a filter is that of the epoch, the read is opened and asked by it, and its replies are those
--- of servers that have the entries
+-- where a filter is that of the epoch, the read is opened and asked by it, and its replies are
+-- those of servers that have the entries
 pub read-is : (b : WordBook) (g : ℕ) (E : List Placed) (s mid new : ClientState)
     (marks : List Bool) (frames replies : List (List ℕ)) →
     marks ≡ filter_of s.shape (before E (g + 1)) →

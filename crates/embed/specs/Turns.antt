@@ -1,10 +1,11 @@
 -- What a turn of a client leaves, to the servers and to the client.
-use Rattle.std.specs.Prelude.{ℕ, ◌+◌, ◌*◌, List, [], ◌∷◌, ◌++◌, map, Option}
+use Rattle.std.specs.Prelude.{◌≡◌, ℕ, ◌+◌, ◌*◌, List, [], ◌∷◌, ◌++◌, length, map, Option}
 use Rattle.tk_shape.specs.declared.shape.Shape.{Shape}
 use Rattle.tk_words.specs.Words.{WordBook, words_of}
 use Rattle.tk_frames.specs.declared.entry.Placed.{Placed}
 use Rattle.tk_frames.specs.declared.entry.Entry.TheVariants.{Write, Mark}
 use Rattle.tk_frames.specs.Order.{before}
+use Rattle.tk_frames.specs.InOrder.{mark_count}
 use Rattle.tk_frames.specs.Spelling.{read_frame}
 use Rattle.tk_replica.specs.Epochs.{filter_of}
 use Rattle.tk_replica.specs.Replies.{reply_bytes}
@@ -28,6 +29,11 @@ record_of b g s =
 -- the mark that closes turn g
 abbrev pub mark_of : ℕ → Placed
 mark_of g = record { position = 2 * g + 2; entry = Mark (g + 1) }
+
+-- these entries came before turn g: a record and a mark in each turn
+pub record IsTurn (g : ℕ) (E : List Placed) : Type 0 where
+  pub entries : length E ≡ 2 * g
+  pub marks : mark_count E ≡ g
 
 -- the client after its write
 abbrev pub written : ClientState → ClientState

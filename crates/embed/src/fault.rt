@@ -36,6 +36,10 @@ impl From<ShapeError> for Fault {
 }
 
 impl From<SayError> for Fault {
+    ghost use Rattle.embed.specs.Faults.{IsTalkFault};
+
+    ghost from_gives = { λ _ e. IsTalkFault e };
+
     fn from(error: SayError) -> Fault {
         match error {
             SayError::Memory => Fault::Memory,
@@ -59,6 +63,10 @@ impl From<FrameError> for Fault {
 }
 
 impl From<PinError> for Fault {
+    ghost use Rattle.embed.specs.Faults.{IsReadFault};
+
+    ghost from_gives = { λ _ e. IsReadFault e };
+
     fn from(error: PinError) -> Fault {
         match error {
             PinError::Memory => Fault::Memory,
@@ -68,6 +76,10 @@ impl From<PinError> for Fault {
 }
 
 impl From<ServeError> for Fault {
+    ghost use Rattle.embed.specs.Faults.{IsReadFault};
+
+    ghost from_gives = { λ _ e. IsReadFault e };
+
     fn from(error: ServeError) -> Fault {
         match error {
             ServeError::Memory => Fault::Memory,
@@ -77,6 +89,10 @@ impl From<ServeError> for Fault {
 }
 
 impl From<TakeError> for Fault {
+    ghost use Rattle.embed.specs.Faults.{IsReadFault};
+
+    ghost from_gives = { λ _ e. IsReadFault e };
+
     fn from(error: TakeError) -> Fault {
         match error {
             TakeError::Memory => Fault::Memory,
@@ -102,12 +118,20 @@ impl From<Memory> for Fault {
 }
 
 impl From<AllocError> for Fault {
+    ghost use Rattle.embed.specs.declared.fault.Fault.TheVariants as faults;
+
+    ghost from_gives = { λ _ e. e ≡ faults.Memory };
+
     fn from(_e: AllocError) -> Fault {
         Fault::Memory
     }
 }
 
 impl<T: Drop> From<AllocFailed<T>> for Fault {
+    ghost use Rattle.embed.specs.declared.fault.Fault.TheVariants as faults;
+
+    ghost from_gives = { λ _ e. e ≡ faults.Memory };
+
     fn from(_e: AllocFailed<T>) -> Fault {
         Fault::Memory
     }

@@ -1,5 +1,5 @@
 //! What gives writes and marks their positions: for each the frame that all servers take.
-ghost use Rattle.std.specs.Prelude.{◌≡◌, IfOk};
+ghost use Rattle.std.specs.Prelude.{◌≡◌, IfOk, IfErr};
 ghost use Rattle.tk_frames.specs.declared.entry.Entry.TheVariants.{Write, Mark};
 ghost use Rattle.tk_frames.specs.declared.write_frame.WriteFrame.{WriteFrame};
 ghost use Rattle.tk_frames.specs.Ranges.{IsWrite};
@@ -17,8 +17,10 @@ pub fn record_frame(
     position: u64,
     frame: &[u8],
 ) -> Result<Vec<u8>, Fault>
-    ensures { (w : WriteFrame) → IsWrite shape.now w → frame.now ≡ write_frame w
+    ensures record { (w : WriteFrame) → IsWrite shape.now w → frame.now ≡ write_frame w
         → IfOk result (λ out. out.items ≡ entry_frame position (Write w)) }
+    ensures due { (w : WriteFrame) → IsWrite shape.now w → frame.now ≡ write_frame w
+        → IfErr result (λ e. e ≡ Fault.Memory) }
 {
     let write = decode_write(alloc, shape, frame)?;
     let mut out = Vec::new(alloc);

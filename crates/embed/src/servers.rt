@@ -9,6 +9,7 @@ ghost use Rattle.tk_frames.specs.Ranges.{IsPlaced};
 ghost use Rattle.tk_frames.specs.Spelling.{placed_frame};
 ghost use Rattle.tk_replica.specs.Replica.{StandsFor};
 ghost use Rattle.tk_replica.specs.Replies.{reply_bytes};
+ghost use Rattle.embed.specs.Faults.{IsReadFault};
 ghost use Rattle.embed.specs.Servers.{AreServers};
 
 use crate::fault::Fault;
@@ -45,8 +46,8 @@ fn is_next(server: &ReplicaState, placed: &Placed) -> bool
     }
 }
 
-/// A server takes the frame of its next entry, a record or a mark, unless memory runs out. Any other
-/// bytes are refused, and what is refused changes nothing.
+/// A server takes the frame of its next entry, a record or a mark, unless memory runs out. It
+/// refuses any other bytes, and what it refuses changes nothing.
 pub fn take(alloc: Global, server: &mut ReplicaState, frame: &[u8]) -> Result<(), Fault>
     ensures taken { (shape : Shape) (E : List Placed) (p : Placed)
         → StandsFor shape E server.old → IsPlaced shape p → frame.now ≡ placed_frame p
@@ -66,11 +67,14 @@ pub fn take(alloc: Global, server: &mut ReplicaState, frame: &[u8]) -> Result<()
     Ok(())
 }
 
-/// Each server takes the frame of the next entry.
+/// Each server takes the frame of the next entry, unless memory runs out.
 pub fn take_all(alloc: Global, servers: &mut [ReplicaState], frame: &[u8]) -> Result<(), Fault>
-    ensures { (shape : Shape) (E : List Placed) (p : Placed)
+    ensures taken { (shape : Shape) (E : List Placed) (p : Placed)
         → AreServers shape E servers.old → IsPlaced shape p → frame.now ≡ placed_frame p
         → OnOk result (AreServers shape (E ++ p ∷ []) servers.new) }
+    ensures due { (shape : Shape) (E : List Placed) (p : Placed)
+        → AreServers shape E servers.old → IsNext shape E p → frame.now ≡ placed_frame p
+        → IfErr result (λ e. e ≡ Fault.Memory) }
 {
     for server in servers.iter_mut() {
         take(alloc, server, frame)?;
@@ -88,6 +92,7 @@ pub fn answers(
     ensures counted { IfOk result (λ replies. length replies.items ≡ length frames.now) }
     ensures replies { (shape : Shape) (E : List Placed) → AreServers shape E servers.now
         → IfOk result (λ replies. replies.items ≡ map (reply_bytes shape E) frames.now) }
+    ensures fault { IfErr result IsReadFault }
 {
     let mut replies = Vec::new(alloc);
     for (i, server) in servers.iter().enumerate() {

@@ -1,4 +1,5 @@
-ghost use Rattle.std.specs.Prelude.{◌≡◌, ◌∷◌, [], IfOk};
+ghost use Rattle.std.specs.Prelude.{◌≡◌, [], IfOk, IfErr};
+ghost use Rattle.embed.specs.Faults.{IsTalkFault};
 ghost use Rattle.embed.specs.Turns.{after_turn, with_said, new_writer};
 
 use crate::fault::Fault;
@@ -14,8 +15,9 @@ use tk_words::Draws;
 pub fn talk<D: Draws>(alloc: Global, shape: &Shape, draws: &D, text: &[u8]) -> Result<Client, Fault>
     requires one_shape { D.shape draws.now ≡ shape.now }
     requires one_tick { shape.now.ticks ≡ 1 }
-    ensures { IfOk result (λ client. client
+    ensures client { IfOk result (λ client. client
         ≡ after_turn (D.book draws.now) 0 [] (with_said text.now (new_writer shape.now))) }
+    ensures fault { IfErr result IsTalkFault }
 {
     let mut servers = open_servers(alloc, shape)?;
     let mut client = Client::open(alloc, shape, 0, &[0], &[0])?;

@@ -1,15 +1,18 @@
 //! What a client does in a turn: it writes once, and it reads once. Here it is the only one, and
-//! each turn closes a phase, so that turn g has the entries 2 * g + 1, its write, and 2 * g + 2, the
-//! mark of epoch g + 1.
-ghost use Rattle.std.specs.Prelude.{◌≡◌, ◌+◌, ◌^◌, ◌<◌, ◌++◌, ◌∷◌, [], List, length, None, OnOk};
+//! each turn closes a phase, so that turn g has the entries 2 * g + 1, its write, and 2 * g + 2,
+//! the mark of epoch g + 1.
+ghost use Rattle.std.specs.Prelude.{◌≡◌, ◌+◌, ◌^◌, ◌<◌, ◌++◌, ◌∷◌, [], List, length, None};
+ghost use Rattle.std.specs.Prelude.{IfErr, OnOk};
 ghost use Rattle.std.specs.Option.{ForSome};
 ghost use Rattle.tk_shape.specs.declared.shape.Shape.{Shape};
 ghost use Rattle.tk_shape.specs.Lengths.{turn_count};
 ghost use Rattle.tk_frames.specs.declared.entry.Placed.{Placed};
 ghost use Rattle.tk_client.specs.Writing.{first_waiting};
+ghost use Rattle.tk_frames.specs.InOrder.{IsNext};
+ghost use Rattle.embed.specs.Faults.{IsReadFault};
 ghost use Rattle.embed.specs.Servers.{AreServers};
 ghost use Rattle.embed.specs.Turns.{written, record_of, mark_of, with_turn, after_read};
-ghost use Rattle.embed.specs.Turns.{after_turn};
+ghost use Rattle.embed.specs.Turns.{IsTurn, after_turn};
 
 use crate::fault::Fault;
 use crate::order::{mark_frame, record_frame};
@@ -36,6 +39,8 @@ fn write<D: Draws>(
     ensures servers { (E : List Placed) → AreServers client.old.shape E servers.old
         → OnOk result (AreServers client.old.shape
         (E ++ record_of (D.book draws.now) turn client.old ∷ []) servers.new) }
+    ensures due { (E : List Placed) → AreServers client.old.shape E servers.old
+        → IsTurn turn E → IfErr result (λ e. e ≡ Fault.Memory) }
 {
     let shape = *client.shape();
     let mut frame = Vec::new(alloc);
@@ -48,9 +53,12 @@ fn write<D: Draws>(
 /// Each server takes the mark.
 fn mark(alloc: Global, turn: u32, servers: &mut [ReplicaState]) -> Result<(), Fault>
     requires { turn + 1 < 2 ^ 32 }
-    ensures { (shape : Shape) (E : List Placed)
+    ensures servers { (shape : Shape) (E : List Placed)
         → AreServers shape E servers.old → turn < shape.phases
         → OnOk result (AreServers shape (E ++ mark_of turn ∷ []) servers.new) }
+    ensures due { (shape : Shape) (E : List Placed)
+        → AreServers shape E servers.old → IsNext shape E (mark_of turn)
+        → IfErr result (λ e. e ≡ Fault.Memory) }
 {
     let position = 2 * u64::from(turn) + 2;
     let mark = mark_frame(alloc, position, turn + 1)?;
@@ -72,8 +80,9 @@ fn read<D: Draws>(
     requires closed { client.old.read ≡ None }
     requires turn_in { turn < turn_count client.old.shape }
     requires counted { length servers.now ≡ client.old.shape.servers }
-    ensures { (E : List Placed) → AreServers client.old.shape E servers.now
+    ensures client { (E : List Placed) → AreServers client.old.shape E servers.now
         → OnOk result (client.new ≡ after_read (D.book draws.now) turn E client.old) }
+    ensures fault { IfErr result IsReadFault }
 {
     let epoch = turn + 1;
     let shown = servers[0].pin(epoch)?;
@@ -104,6 +113,8 @@ pub fn take_turn<D: Draws>(
         (with_turn (D.book draws.now) turn client.old E) servers.new) }
     ensures client { (E : List Placed) → AreServers client.old.shape E servers.old
         → OnOk result (client.new ≡ after_turn (D.book draws.now) turn E client.old) }
+    ensures fault { (E : List Placed) → AreServers client.old.shape E servers.old
+        → IsTurn turn E → IfErr result IsReadFault }
 {
     write(alloc, draws, turn, client, servers)?;
     mark(alloc, turn, servers)?;

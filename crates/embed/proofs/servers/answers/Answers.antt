@@ -30,7 +30,8 @@ loop-i-preserved c =
           ∙ ap (reply_bytes shape E) (c.as_slice.ensures ∙ c.index-frames-i.is)
           in
           pushed
-          ∙ ap (λ (rs : List (List ℕ)). rs ++ c.in_ok-serve.field-0 ∷ []) (so_far.replies shape E are)
+          ∙ ap (λ (rs : List (List ℕ)). rs ++ c.in_ok-serve.field-0 ∷ [])
+          (so_far.replies shape E are)
           ∙ ap (λ (r : List ℕ). map (reply_bytes shape E) (take i frames) ++ r ∷ []) said
           ∙ sym (map-next (reply_bytes shape E) frames i frame within);
     }

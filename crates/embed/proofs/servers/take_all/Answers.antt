@@ -13,7 +13,7 @@ loop-server-preserved c =
     c.loop-server.servers c.take.new.server c.server-item.result c.loop-server-test.true
     c.in_ok-take.ensures.taken c.loop-server.invariant
 
-pub returns : goal.returns
-returns c = λ shape E p are in_range spelled.
+pub returns-clause-taken : goal.returns-clause-taken
+returns-clause-taken c = λ shape E p are in_range spelled.
     all_take c.args.frame.now c.loop-server.server-index c.args.servers.now c.loop-server.servers
     shape E p (omega (arith, c.loop-server-test.false)) c.loop-server.invariant are in_range spelled

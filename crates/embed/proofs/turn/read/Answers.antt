@@ -9,8 +9,8 @@ use Rattle.tk_client.specs.Client.{target_over}
 use Rattle.embed.proofs.ReadLaws.{read-is}
 use Rattle.embed.proofs.turn.read.Goals as goal
 
-pub returns : goal.returns
-returns g c = λ E are.
+pub returns-clause-client : goal.returns-clause-client
+returns-clause-client g c = λ E are.
     let s = c.args.client.now in
     let book = g.D.Draws.book c.args.draws.now in
     let turn = c.args.turn in
