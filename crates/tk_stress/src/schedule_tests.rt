@@ -171,8 +171,6 @@ const RUNS: u64 = 200;
 fn seeded_schedules(rt: HostRuntime) -> Result<(), Fail> {
     let alloc = rt.alloc();
     for (words, input, came) in GROUPS {
-        let mut before = Vec::new(alloc);
-        let mut alike = true;
         for seed in 0..RUNS {
             let gate = Spinning::new(seed);
             let (status, written) = ran(&rt, words, input, &gate)?;
@@ -180,10 +178,7 @@ fn seeded_schedules(rt: HostRuntime) -> Result<(), Fail> {
             assert_eq!(rt; gate.came.load(SeqCst), came, "with seed {seed}");
             let told = retold(alloc, input, written.as_slice())?;
             assert_eq!(rt; written, told, "with seed {seed}");
-            alike = alike && (seed == 0 || written == before);
-            before = written;
         }
-        assert!(rt; !alike);
     }
     Ok(())
 }

@@ -3,6 +3,10 @@
 #![tactic(auto)]
 
 #[cfg(test)]
+mod crowd_tests;
+#[cfg(test)]
+mod gate_tests;
+#[cfg(test)]
 mod group_tests;
 #[cfg(test)]
 mod run_tests;
