@@ -1,9 +1,10 @@
 //! What servers do: take the entries of the order, and answer reads. Entries, reads and replies
 //! are frames, so that the bytes may come and go over any wire.
 ghost use Rattle.std.specs.Prelude.{◌≡◌, ◌+◌, ◌++◌, ◌∷◌, [], List, length, map, true, IfOk};
-ghost use Rattle.std.specs.Prelude.{IfErr, OnOk, OnErr};
+ghost use Rattle.std.specs.Prelude.{None, IfErr, OnOk, OnErr};
 ghost use Rattle.tk_shape.specs.declared.shape.Shape.{Shape};
 ghost use Rattle.tk_frames.specs.declared.entry.Placed.{Placed};
+ghost use Rattle.tk_frames.specs.Faults.{first_fault, placed_checks};
 ghost use Rattle.tk_frames.specs.InOrder.{IsNextAt, IsNext};
 ghost use Rattle.tk_frames.specs.Ranges.{IsPlaced};
 ghost use Rattle.tk_frames.specs.Spelling.{placed_frame};
@@ -49,6 +50,7 @@ fn is_next(server: &ReplicaState, placed: &Placed) -> bool
 /// A server takes the frame of its next entry, a record or a mark, unless memory runs out. It
 /// refuses any other bytes, and what it refuses changes nothing.
 pub fn take(alloc: Global, server: &mut ReplicaState, frame: &[u8]) -> Result<(), Fault>
+    ensures whole { OnOk result (first_fault (placed_checks server.old.shape frame.now) ≡ None) }
     ensures taken { (shape : Shape) (E : List Placed) (p : Placed)
         → StandsFor shape E server.old → IsPlaced shape p → frame.now ≡ placed_frame p
         → OnOk result (StandsFor shape (E ++ p ∷ []) server.new) }
