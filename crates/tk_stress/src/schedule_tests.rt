@@ -1,5 +1,6 @@
 use crate::testing::{ONE_TEXT, words_of};
 use std::alloc::Global;
+use std::process::Abort;
 use std::sync::Wait;
 use std::sync::atomic::AtomicU64;
 use std::sync::atomic::Ordering::SeqCst;
@@ -156,29 +157,40 @@ fn told<D: Draws>(alloc: Global, script: &Script, draws: &D, text: &[u8]) -> Res
     Ok(told)
 }
 
-/// The words and the input of each group, and how often its clients and its publisher come to the
-/// gate: in each turn twice.
-const GROUPS: [(&[&str], &[u8], u64); 3] = [
-    (&["run"], ONE_TEXT, 12),
-    (&["run", "2"], THREE_CLIENTS, 24),
-    (&["run"], FIVE_CLIENTS, 48),
-];
-
 /// How many runs each group has.
 const RUNS: u64 = 200;
 
-#[test]
-fn seeded_schedules(rt: HostRuntime) -> Result<(), Fail> {
+/// Runs a group's input with a schedule for each seed. Its clients and its publisher come to the gate
+/// so often, in each turn twice.
+fn run_by_seeds<R: AllocGlobal + Threads + Wait + Sync + Abort>(
+    rt: &R,
+    words: &[&str],
+    input: &[u8],
+    came: u64,
+) -> Result<(), Fail> {
     let alloc = rt.alloc();
-    for (words, input, came) in GROUPS {
-        for seed in 0..RUNS {
-            let gate = Spinning::new(seed);
-            let (status, written) = ran(&rt, words, input, &gate)?;
-            assert_eq!(rt; status, Status::Done, "with seed {seed}");
-            assert_eq!(rt; gate.came.load(SeqCst), came, "with seed {seed}");
-            let told = retold(alloc, input, written.as_slice())?;
-            assert_eq!(rt; written, told, "with seed {seed}");
-        }
+    for seed in 0..RUNS {
+        let gate = Spinning::new(seed);
+        let (status, written) = ran(rt, words, input, &gate)?;
+        assert_eq!(rt; status, Status::Done, "with seed {seed}");
+        assert_eq!(rt; gate.came.load(SeqCst), came, "with seed {seed}");
+        let told = retold(alloc, input, written.as_slice())?;
+        assert_eq!(rt; written, told, "with seed {seed}");
     }
     Ok(())
+}
+
+#[test]
+fn two_clients_by_seeds(rt: HostRuntime) -> Result<(), Fail> {
+    run_by_seeds(&rt, &["run"], ONE_TEXT, 12)
+}
+
+#[test]
+fn three_clients_by_seeds(rt: HostRuntime) -> Result<(), Fail> {
+    run_by_seeds(&rt, &["run", "2"], THREE_CLIENTS, 24)
+}
+
+#[test]
+fn five_clients_by_seeds(rt: HostRuntime) -> Result<(), Fail> {
+    run_by_seeds(&rt, &["run"], FIVE_CLIENTS, 48)
 }
