@@ -1,3 +1,5 @@
+ghost use Rattle.std.specs.Prelude.{◌≡◌};
+
 use crate::testing::{ONE_TEXT, words_of};
 use std::alloc::Global;
 use std::process::Abort;
