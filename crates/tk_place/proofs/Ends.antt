@@ -1,8 +1,8 @@
 -- Where a search ends: one place of the queue at a time, and level by level.
-use Rattle.std.proofs.Common.{◌≡◌, ℕ, zero, suc, ◌+◌, ◌-◌, ◌<◌, ◌≤◌, List, [], ◌∷◌, ◌++◌, length, Bool, true, false, cond, refl, ap, ap₂, sym, ◌∙◌, arith, append_assoc, append-nil, length-append, flat_map, find, position, is_some, is_none, IsSome, ltb, ltb-false, true≢false, Option, Some, None, All, drop, get_or}
+use Rattle.std.proofs.Common.{◌≡◌, ℕ, zero, suc, ◌+◌, ◌-◌, ◌<◌, ◌≤◌, List, [], ◌∷◌, ◌++◌, length, Bool, true, false, cond, refl, ap, ap₂, sym, ◌∙◌, arith, append_assoc, append-nil, length-append, flat_map, find, position, is_some, is_none, IsSome, ltb, ltb-false, true≢false, Option, Some, None, All, drop, get_or, map, subst}
 use Rattle.std.specs.List.{position_or_len}
 use Rattle.std.specs.Option.{option_or}
-use Rattle.std.proofs.lemmas.List.{drop_more, drop_all, drop-append-le, get_or_append_left}
+use Rattle.std.proofs.lemmas.List.{drop_more, drop_all, drop-append-le, get_or_append_left, get_or-map, length-map}
 use Rattle.std.proofs.lemmas.List.Elements.{All-nil, All-head, All-tail, All-get_or}
 use Rattle.std.proofs.lemmas.List.Folds.{find-append}
 use Rattle.std.proofs.lemmas.List.Sums.{fails_before_first}
@@ -90,6 +90,13 @@ pub slots_below : (n : ℕ) (T : Others) (b : ℕ) → All (All (IsBelow n)) T �
 slots_below n [] b h = All-nil (IsBelow n)
 slots_below n (s ∷ T) zero h = All-head (All (IsBelow n)) s T h
 slots_below n (s ∷ T) (suc b) h = slots_below n T b (All-tail (All (IsBelow n)) s T h)
+
+-- of entries that are all below
+pub all_below : (n : ℕ) (others : List ℕ) → All (IsBelow n) (map (λ b. Some b) others) → All (λ b. b < n) others
+all_below n others h k d low =
+    let at : get_or (map (λ (b : ℕ). Some b) others) k None ≡ Some (get_or others k d) =
+    get_or-map (λ (b : ℕ). Some b) others k d None low in
+    subst (IsBelow n) at (h k None (omega (arith, length-map others (λ (b : ℕ). Some b), low)))
 
 names_below : (n : ℕ) (T : Others) (places : List Reached) → All (All (IsBelow n)) T → AllOf (λ p. p.bucket < n) (names T places)
 names_below n T [] h = tt
@@ -203,22 +210,20 @@ searching_out T new places k searching l =
 -- ---- with the slots of a full bucket one by one
 
 -- So many slots of a place's bucket were gone through: with what the others name, the queue is as it is to be in the end.
-pub record IsAdding (T : Others) (old : List Reached) (k : ℕ) (i : ℕ) (places : List Reached) : Type 0 where
+pub record IsAdding (slots : List (Option ℕ)) (old : List Reached) (k : ℕ) (i : ℕ) (places : List Reached) : Type 0 where
   pub within : length old ≤ length places
   pub place : place_at places k ≡ place_at old k
-  pub rest : places ++ not_before places (named_in (place_at old k) i (drop i (slots_of T (place_at old k).bucket))) ≡
-      old ++ not_before old (named_by T (place_at old k))
+  pub rest : places ++ not_before places (named_in (place_at old k) i (drop i slots)) ≡
+      old ++ not_before old (named_in (place_at old k) 0 slots)
 
-pub adding_on : (T : Others) (old : List Reached) (k i : ℕ) (places : List Reached) (other : ℕ) → IsAdding T old k i places → k < length old →
-    slot_at T (place_at old k).bucket i ≡ Some other →
-    IsAdding T old k (i + 1) (places ++ not_before places (reached_by places other (Some (record { place = k; slot = i })) ∷ []))
-adding_on T old k i places other adding l filled =
+pub adding_on : (slots : List (Option ℕ)) (old : List Reached) (k i : ℕ) (places : List Reached) (other : ℕ) → IsAdding slots old k i places →
+    k < length old → i < length slots → get_or slots i None ≡ Some other →
+    IsAdding slots old k (i + 1) (places ++ not_before places (reached_by places other (Some (record { place = k; slot = i })) ∷ []))
+adding_on slots old k i places other adding l some filled =
     let p = place_at old k in
-    let slots = slots_of T p.bucket in
     let x : Reached = record { bucket = other; through = (p.bucket, i) ∷ p.through } in
     let new = reached_by places other (Some (record { place = k; slot = i })) in
     let same : new ≡ x = ap (λ (p : Reached). let r : Reached = record { bucket = other; through = (p.bucket, i) ∷ p.through } in r) adding.place in
-    let some : i < length slots = filled_within slots i other filled in
     let rest : drop i slots ≡ Some other ∷ drop (i + 1) slots = drop_more slots i None some ∙ ap (λ s. s ∷ drop (i + 1) slots) filled in
     let more = not_before places (new ∷ []) in
     record {
@@ -230,11 +235,14 @@ adding_on T old k i places other adding l filled =
           ∙ ap (λ ss. places ++ not_before places (named_in p i ss)) (sym rest)
           ∙ adding.rest;
     }
-  where
-    filled_within : (slots : List (Option ℕ)) (i other : ℕ) → get_or slots i None ≡ Some other → i < length slots
-    filled_within [] i other e = absurd cc
-    filled_within (s ∷ slots) zero other e = omega arith
-    filled_within (s ∷ slots) (suc i) other e = omega (arith, filled_within slots i other e)
+
+-- all slots were gone through
+pub adding_done : (slots : List (Option ℕ)) (old : List Reached) (k i : ℕ) (places : List Reached) → IsAdding slots old k i places →
+    length slots ≤ i → places ≡ old ++ not_before old (named_in (place_at old k) 0 slots)
+adding_done slots old k i places adding all =
+    sym (append-nil places)
+    ∙ ap (λ ss. places ++ not_before places (named_in (place_at old k) i ss)) (sym (drop_all i slots all))
+    ∙ adding.rest
 
 -- ---- full buckets
 

@@ -1,15 +1,19 @@
 -- A search ends at the first place with an empty slot, wherever it stands in the queue.
 use Rattle.std.proofs.Common.{◌≡◌, ℕ, zero, suc, ◌+◌, ◌-◌, ◌<◌, ◌≤◌, List, [], ◌∷◌, ◌++◌, length, drop}
 use Rattle.std.proofs.Common.{get_or, true, false, is_some, inl, inr, ap, sym, subst, ◌∙◌, arith}
-use Rattle.std.specs.Prelude.{Some, None}
+use Rattle.std.proofs.Common.{cond, refl, is_none}
+use Rattle.std.specs.Prelude.{Option, Some, None}
+use Rattle.std.specs.List.{list_all}
+use Rattle.std.proofs.lemmas.Bool.{and_parts}
 use Rattle.std.proofs.lemmas.Bool.{cases_lt}
-use Rattle.std.proofs.lemmas.List.{get_or_append_left, get_or-drop, length-append, length-drop}
-use Rattle.tk_place.specs.Place.{Others, Reached, lowest_empty, not_before}
+use Rattle.std.proofs.lemmas.List.{get_or_append_left, get_or-append_right, get_or-drop, length-append, length-drop}
+use Rattle.tk_place.specs.Place.{Others, Reached, slots_of, lowest_empty, has_bucket, named_in, not_before}
+use Rattle.tk_place.specs.Table.{IsTable, is_other_full, leads_to_full}
 use Rattle.tk_place.specs.Search.{IsEnd, AreFull, IsFirst}
 use Rattle.tk_place.specs.Views.{place_at}
 use Rattle.tk_place.specs.declared.search.End.{End}
-use Rattle.tk_place.proofs.Reaching.{few_distinct}
-use Rattle.tk_place.proofs.Ends.{IsSearching, end_from, ends_here, goes_on, has_room, named_by}
+use Rattle.tk_place.proofs.Reaching.{few_distinct, AllOf}
+use Rattle.tk_place.proofs.Ends.{IsSearching, searching_on, end_from, ends_here, goes_on, has_room, named_by}
 
 ends_later : (T : Others) (n j : ℕ) (before places : List Reached) (d : Reached) →
     j < length places → j < n → ((i : ℕ) → i < j → has_room T (get_or places i d) ≡ false) →
@@ -72,16 +76,6 @@ pub full_joined : (T : Others) (places : List Reached) (tried : ℕ) → AreFull
 full_joined T places tried before now k low high =
     elim (cases_lt k tried) [ inl old ↦ before k low old | inr new ↦ now k new high ]
 
--- one more that is full
-pub full_more : (T : Others) (places : List Reached) (from k : ℕ) → AreFull T places from k →
-    lowest_empty T (place_at places k).bucket ≡ None → AreFull T places from (k + 1)
-full_more T places from k before here m low high =
-    elim (cases_lt m k) [
-      | inl old ↦ before m low old
-      | inr new ↦ subst (λ n. lowest_empty T (place_at places n).bucket ≡ None)
-          (omega (arith, new, high)) here
-    ]
-
 -- what was full is so when more places have come
 pub full_stays : (T : Others) (places more later : List Reached) → later ≡ places ++ more →
     AreFull T places 0 (length places) → AreFull T later 0 (length places)
@@ -90,3 +84,78 @@ full_stays T places more later made full k low high =
     (ap (λ (p : Reached). lowest_empty T p.bucket)
     (get_or_append_left places more (record { bucket = 0; through = [] }) k high)
     ∙ full k low high)
+
+-- ---- what full buckets lead to
+
+abbrev IsFullAt : Others → Reached → Type 0
+IsFullAt T p = lowest_empty T p.bucket ≡ None
+
+-- what a bucket's entries name is full where its slots pass the test
+named_full : (T : Others) (from : Reached) (i : ℕ) (slots : List (Option ℕ)) →
+    list_all (is_other_full T) slots ≡ true → AllOf (IsFullAt T) (named_in from i slots)
+named_full T from i [] all = tt
+named_full T from i (None ∷ slots) all = named_full T from (i + 1) slots all
+named_full T from i (Some b ∷ slots) all =
+    let parts = and_parts (is_none (lowest_empty T b)) (list_all (is_other_full T) slots) all in
+    (none_of (lowest_empty T b) parts.0, named_full T from (i + 1) slots parts.1)
+  where
+    none_of : (o : Option ℕ) → is_none o ≡ true → o ≡ None
+    none_of None e = refl
+    none_of (Some x) e = absurd cc
+
+-- what is new among them, too
+new_of : (P : Reached → Type 0) (before ps : List Reached) → AllOf P ps → AllOf P (not_before before ps)
+new_of P before [] each = tt
+new_of P before (p ∷ ps) each =
+    elim (has_bucket before p.bucket) as (λ s.
+    AllOf P (cond s (not_before before ps) (p ∷ not_before (p ∷ before) ps))) [
+      | true ↦ new_of P before ps each.1
+      | false ↦ (each.0, new_of P (p ∷ before) ps each.1)
+    ]
+
+each_of : (P : Reached → Type 0) (ps : List Reached) (k : ℕ) (d : Reached) → AllOf P ps →
+    k < length ps → P (get_or ps k d)
+each_of P [] k d each low = absurd (omega (arith, low))
+each_of P (p ∷ ps) zero d each low = each.0
+each_of P (p ∷ ps) (suc k) d each low = each_of P ps k d each.1 (omega (arith, low))
+
+-- what comes behind is full where the entries lead to full buckets
+pub full_behind : (T : Others) (places later : List Reached) (from : Reached) →
+    later ≡ places ++ not_before places (named_by T from) →
+    leads_to_full T from.bucket ≡ true → AreFull T later (length places) (length later)
+full_behind T places later from made all k low high =
+    let next = not_before places (named_by T from) in
+    let nowhere : Reached = record { bucket = 0; through = [] } in
+    let long = ap length made ∙ length-append places next in
+    let at : place_at later k ≡ get_or next (k - length places) nowhere =
+    ap (λ ps. place_at ps k) made ∙ get_or-append_right places next (length places) k nowhere refl low in
+    subst (IsFullAt T) (sym at)
+    (each_of (IsFullAt T) next (k - length places) nowhere
+    (new_of (IsFullAt T) places (named_by T from)
+    (named_full T from 0 (slots_of T from.bucket) all))
+    (omega (arith, low, high, long)))
+
+-- What holds once the others of the bucket at a place were queued, where all places so far are full.
+pub record IsStep (T : Others) (new : ℕ × ℕ) (places later : List Reached) (k : ℕ) : Type 0 where
+  pub searching : IsSearching T new later (k + 1)
+  pub longer : length places ≤ length later
+  pub before : AreFull T later 0 (length places)
+  pub behind : leads_to_full T (place_at later k).bucket ≡ true → AreFull T later (length places) (length later)
+
+pub stepped : (T : Others) (depth : ℕ) (new : ℕ × ℕ) (places later : List Reached) (k : ℕ) → IsTable depth T →
+    IsSearching T new places k → k < length places → AreFull T places 0 (length places) →
+    later ≡ places ++ not_before places (named_by T (place_at places k)) → IsStep T new places later k
+stepped T depth new places later k table searching low full made =
+    let from = place_at places k in
+    let next = not_before places (named_by T from) in
+    let stays : place_at later k ≡ from =
+    ap (λ ps. place_at ps k) made
+    ∙ get_or_append_left places next (record { bucket = 0; through = [] }) k low in
+    record {
+      searching = subst (λ ps. IsSearching T new ps (k + 1)) (sym made)
+          (searching_on T depth new places k table searching low (full k (omega arith) low));
+      longer = omega (arith, ap length made, length-append places next);
+      before = full_stays T places next later made full;
+      behind = λ all. full_behind T places later from made
+          (ap (λ (p : Reached). leads_to_full T p.bucket) (sym stays) ∙ all);
+    }

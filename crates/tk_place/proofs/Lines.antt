@@ -1,6 +1,6 @@
 -- The places that a queue has.
 use Rattle.std.proofs.Common.{◌≡◌, ℕ, zero, suc, ◌+◌, ◌<◌, List, [], ◌∷◌, ◌++◌, length, Bool, true, false, ◌||◌, ◌==◌, get_or, set, take, refl, ap, sym, ◌∙◌, arith, length-set, IfSome, Option, Some, None, subst, add-zero, eqb-true, get_or-set_same, get_or-set_other, length-take-le, true≢false, eq-eqb}
-use Rattle.std.proofs.lemmas.List.{length_push, get_or_push, get_or_append_left, take_more_set, get_or-take}
+use Rattle.std.proofs.lemmas.List.{take-set, length_push, get_or_push, get_or_append_left, take_more_set, get_or-take}
 use Rattle.tk_place.specs.Place.{Reached, has_bucket}
 use Rattle.tk_place.specs.Queue.{AreDistinct, AreLinked, IsLine}
 use Rattle.tk_place.specs.Views.{place_at, reached_by, places_from}
@@ -83,6 +83,19 @@ module _ (rooms : List Queued) (len : ℕ) (seen : List Bool) (n : ℕ) (line : 
       let read = (read_of_line k q l e).place in
       let below = below_of_distinct n places k line.distinct (omega (arith, length-places)) in
       omega (arith, ap (λ (p : Reached). p.bucket) read)
+
+  -- what is written behind the last place changes nothing
+  pub line_beyond : (q : Queued) → IsLine (set rooms len q) len seen n
+  line_beyond q =
+      let same : take len rooms ≡ take len (set rooms len q) = sym (take-set rooms len q) in
+      record {
+        room = length-set rooms len q ∙ line.room;
+        marks = line.marks;
+        within = line.within;
+        linked = subst (AreLinked 0) same line.linked;
+        distinct = subst (λ qs. AreDistinct n (places_from [] qs)) same line.distinct;
+        marked = λ b l. line.marked b l ∙ ap (λ qs. has_bucket (places_from [] qs) b) same;
+      }
 
   module _ (q : Queued) (below : q.bucket < n) (earlier : IfSome q.link (λ link. link.place < len)) (unseen : has_bucket places q.bucket ≡ false) where
     abbrev pub more_places : List Reached

@@ -24,9 +24,10 @@ abbrev pub AreLinked : ℕ → List Queued → Type 0
 AreLinked k [] = Unit {0}
 AreLinked k (q ∷ qs) = IfSome q.link (λ link. link.place < k) × AreLinked (k + 1) qs
 
--- What is kept of the rooms of a queue for n buckets, of which so many are taken, and of the marks of buckets.
+-- What is kept of the rooms of a queue for n buckets, of which so many are taken, and of the marks of buckets. One room
+-- is left when all buckets are queued.
 pub record IsLine (rooms : List Queued) (len : ℕ) (seen : List Bool) (n : ℕ) : Type 0 where
-  pub room : length rooms ≡ n
+  pub room : length rooms ≡ n + 1
   pub marks : length seen ≡ n
   pub within : len ≤ n
   pub linked : AreLinked 0 (take len rooms)
@@ -34,9 +35,12 @@ pub record IsLine (rooms : List Queued) (len : ℕ) (seen : List Bool) (n : ℕ)
   pub marked : (b : ℕ) → b < n
       → slice_index_or seen b false ≡ has_bucket (places_from [] (take len rooms)) b
 
--- The buckets that are queued have the stamp of this search, and none has one to come.
-pub record IsQueue (q : Inside) : Type 0 where
-  pub few : vec_len q.stamps < 2 ^ 32
-  pub line :
-      IsLine q.places.items q.len (marks_of q.stamp q.stamps.items) (vec_len q.stamps)
-  pub past : All (λ s. s ≤ q.stamp) q.stamps.items
+-- The buckets that are queued have this stamp, and none has one to come.
+pub record IsStamped (rooms : List Queued) (len : ℕ) (stamps : List ℕ) (stamp n : ℕ) : Type 0 where
+  pub few : n < 2 ^ 32
+  pub line : IsLine rooms len (marks_of stamp stamps) n
+  pub past : All (λ s. s ≤ stamp) stamps
+
+-- the stamp is that of this search
+abbrev pub IsQueue : Inside → Type 0
+IsQueue q = IsStamped q.places.items q.len q.stamps.items q.stamp (vec_len q.stamps)

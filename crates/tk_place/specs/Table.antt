@@ -1,6 +1,7 @@
 -- What a table has to be, so that it can be searched.
-use Rattle.std.specs.Prelude.{◌≡◌, ℕ, ◌<◌, length, slice_index_or, Option, None, IfSome, All}
-use Rattle.tk_place.specs.Place.{Others, slots_of}
+use Rattle.std.specs.Prelude.{◌≡◌, ℕ, ◌<◌, Bool, true, length, slice_index_or, Option, Some, None, is_none, IfSome, All}
+use Rattle.std.specs.List.{list_all}
+use Rattle.tk_place.specs.Place.{Others, slots_of, lowest_empty}
 
 -- what a slot has, which is nothing outside the table
 abbrev pub slot_at : Others → ℕ → ℕ → Option ℕ
@@ -15,3 +16,12 @@ pub record IsTable (depth : ℕ) (T : Others) : Type 0 where
   pub some : 0 < depth
   pub sized : All (λ slots. length slots ≡ depth) T
   pub named : All (λ slots. All (IsBelow (length T)) slots) T
+
+-- the other bucket of a slot's entry is full
+abbrev pub is_other_full : Others → Option ℕ → Bool
+is_other_full T None = true
+is_other_full T (Some other) = is_none (lowest_empty T other)
+
+-- the other bucket of each entry in a bucket is full
+abbrev pub leads_to_full : Others → ℕ → Bool
+leads_to_full T bucket = list_all (is_other_full T) (slots_of T bucket)

@@ -1,6 +1,7 @@
-ghost use Rattle.std.specs.Prelude.{◌≡◌, ◌^◌, ◌<◌, ◌≤◌, ◌++◌, ◌∷◌, [], length, IfOk, IfSome};
-ghost use Rattle.tk_place.specs.Place.{not_before};
-ghost use Rattle.tk_place.specs.Views.{place_at, through_of, reached_by};
+ghost use Rattle.std.specs.Prelude.{◌≡◌, ◌^◌, ◌<◌, ◌≤◌, ◌++◌, ◌∷◌, [], length, map, take, All, Some, IfOk, IfSome};
+ghost use Rattle.tk_place.specs.Place.{not_before, named_in};
+ghost use Rattle.tk_place.specs.Queue.{IsStamped};
+ghost use Rattle.tk_place.specs.Views.{place_at, through_of, reached_by, places_from};
 
 use crate::Memory;
 use std::alloc::Global;
@@ -21,7 +22,8 @@ pub struct Queued {
 }
 
 /// The buckets in the order in which they were reached, each once. A bucket has the stamp of the
-/// last search that reached it, so that the next one has nothing to clear.
+/// last search that reached it, so that the next one has nothing to clear. There is room for one
+/// more than there are buckets, since each that is met is written behind the last, be it new or not.
 #[derive(Drop)]
 pub struct Queue {
     places: Vec<Queued>,
@@ -42,6 +44,51 @@ impl Model for Queue {
     ghost invariant = { IsQueue };
 }
 
+/// Writes a bucket behind those that are queued, and queues it if it is new. It asks that by no branch, since none could
+/// be foretold.
+fn take_place(places: &mut [Queued], stamps: &mut [u32], len: u32, stamp: u32, place: Queued) -> u32
+    requires stamped { IsStamped places.old len stamps.old stamp (length stamps.old) }
+    requires bucket { place.bucket < length stamps.old }
+    requires link { IfSome place.link (λ link. link.place < len) }
+    ensures stamped { IsStamped places.new result stamps.new stamp (length stamps.old) }
+    ensures places { let old = places_from [] (take len places.old) in
+        let reached = reached_by old place.bucket place.link in
+        places_from [] (take result places.new) ≡ old ++ not_before old (reached ∷ []) }
+{
+    let is_new = stamps[place.bucket as usize] != stamp;
+    stamps[place.bucket as usize] = stamp;
+    places[len as usize] = place;
+    len + u32::from(is_new)
+}
+
+/// Queues each of these buckets that is new, as one that an entry in the bucket at a place names.
+fn take_each(
+    places: &mut [Queued],
+    stamps: &mut [u32],
+    len: u32,
+    stamp: u32,
+    others: &[u32],
+    depth: u32,
+    place: u32,
+) -> u32
+    requires stamped { IsStamped places.old len stamps.old stamp (length stamps.old) }
+    requires depth { depth ≡ length others.now }
+    requires others { All (λ b. b < length stamps.old) others.now }
+    requires place { place < len }
+    ensures stamped { IsStamped places.new result stamps.new stamp (length stamps.old) }
+    ensures places { let old = places_from [] (take len places.old) in
+        let named = named_in (place_at old place) 0 (map (λ b. Some b) others.now) in
+        places_from [] (take result places.new) ≡ old ++ not_before old named }
+{
+    let mut taken = len;
+    for slot in 0..depth {
+        let bucket = others[slot as usize];
+        let link = Some(Link { place, slot });
+        taken = take_place(places, stamps, taken, stamp, Queued { bucket, link });
+    }
+    taken
+}
+
 impl Queue {
     /// An empty queue with room for each of so many buckets.
     pub fn new(alloc: Global, buckets: u32) -> Result<Queue, Memory>
@@ -53,7 +100,7 @@ impl Queue {
             link: None,
         };
         Ok(Queue {
-            places: vec![in alloc; nowhere; buckets as usize]?,
+            places: vec![in alloc; nowhere; buckets as usize + 1]?,
             len: 0,
             stamps: vec![in alloc; 0u32; buckets as usize]?,
             stamp: 1,
@@ -112,11 +159,35 @@ impl Queue {
             let place = reached_by old bucket link in
             self.new.places ≡ old ++ not_before old (place ∷ []) }
     {
-        if self.stamps[bucket as usize] == self.stamp {
-            return;
-        }
-        self.stamps[bucket as usize] = self.stamp;
-        self.places[self.len as usize] = Queued { bucket, link };
-        self.len += 1;
+        let place = Queued { bucket, link };
+        self.len = take_place(
+            &mut self.places,
+            &mut self.stamps,
+            self.len,
+            self.stamp,
+            place,
+        );
+    }
+
+    /// Queues each of so many buckets that was never in the queue: those that the entries in the bucket at a place name.
+    pub fn add_each(&mut self, others: &[u32], depth: u32, place: u32)
+        requires depth { depth ≡ length others.now }
+        requires others { All (λ b. b < self.old.buckets) others.now }
+        requires place { place < length self.old.places }
+        ensures buckets { self.new.buckets ≡ self.old.buckets }
+        ensures places { let old = self.old.places in
+            let named = named_in (place_at old place) 0 (map (λ b. Some b) others.now) in
+            self.new.places ≡ old ++ not_before old named }
+    {
+        let stamp = self.stamp;
+        self.len = take_each(
+            &mut self.places,
+            &mut self.stamps,
+            self.len,
+            stamp,
+            others,
+            depth,
+            place,
+        );
     }
 }

@@ -1,12 +1,12 @@
-ghost use Rattle.std.specs.Prelude.{◌≡◌, ◌<◌, ◌≤◌, ◌+◌, ◌↔◌, ◌++◌, ◌∷◌, [], false, length, map, take, MatchOption, Some, None};
+ghost use Rattle.std.specs.Prelude.{◌≡◌, ◌<◌, ◌≤◌, ◌+◌, ◌↔◌, ◌++◌, ◌∷◌, [], true, false, length, map, take, MatchOption, Some, None};
 ghost use Rattle.tk_place.specs.Place.{fit, lowest_empty, slots_of, named_in, not_before, search_end};
 ghost use Rattle.tk_place.specs.Pairs.{pairs_with, HasPlacement};
 ghost use Rattle.tk_place.specs.Chain.{IsAnswer, AreMoves, IsBlocked};
 ghost use Rattle.tk_place.specs.Search.{IsEnd, AreFull, IsFirst};
-ghost use Rattle.tk_place.specs.Table.{IsTable};
+ghost use Rattle.tk_place.specs.Table.{IsTable, leads_to_full};
 ghost use Rattle.tk_place.specs.Views.{place_at, spot_of};
 
-use crate::queue::{Link, Queue};
+use crate::queue::Queue;
 use crate::{Scratch, Slots, Step};
 
 /// What a search found.
@@ -72,14 +72,16 @@ fn search<V: Slots>(slots: &V, new: (u32, u32), queue: &mut Queue) -> Option<End
     queue.add(new.0, None);
     queue.add(new.1, None);
     let depth = slots.depth();
+    if let Some(end) = first_with_room(slots, queue, 0) {
+        return Some(end);
+    }
     let mut place = 0;
-    let mut tried = 0;
     while place < queue.len() {
-        if let Some(end) = first_with_room(slots, queue, tried) {
+        let tried = queue.len();
+        add_others(slots, depth, place, queue);
+        if let Some(end) = first_behind(slots, queue, place, tried) {
             return Some(end);
         }
-        tried = queue.len();
-        add_others(slots, depth, place, queue);
         place += 1;
     }
     None
@@ -104,6 +106,28 @@ fn first_with_room<V: Slots>(slots: &V, queue: &Queue, from: u32) -> Option<End>
     None
 }
 
+/// The first place from one on whose bucket has an empty slot, where only what the entries in the full bucket at a place
+/// name comes from there on. It mostly finds by one look that none has.
+fn first_behind<V: Slots>(slots: &V, queue: &Queue, place: u32, from: u32) -> Option<End>
+    requires size { queue.now.buckets ≡ length (V.others slots.now) }
+    requires place { place < length queue.now.places }
+    requires full { let at = place_at queue.now.places place in
+        lowest_empty (V.others slots.now) at.bucket ≡ None }
+    requires from { from ≤ length queue.now.places }
+    requires behind { let T = V.others slots.now in
+        let places = queue.now.places in
+        leads_to_full T (place_at places place).bucket ≡ true
+        → AreFull T places from (length places) }
+    ensures { let T = V.others slots.now in
+        let places = queue.now.places in
+        MatchOption result (AreFull T places from (length places)) (IsFirst T places from) }
+{
+    if slots.leads_to_full(queue.bucket(place)) {
+        return None;
+    }
+    first_with_room(slots, queue, from)
+}
+
 /// Queues the other buckets of the entries in a full bucket, in slot order.
 fn add_others<V: Slots>(slots: &V, depth: u32, place: u32, queue: &mut Queue)
     requires depth { depth ≡ V.depth slots.now }
@@ -119,10 +143,7 @@ fn add_others<V: Slots>(slots: &V, depth: u32, place: u32, queue: &mut Queue)
         queue.new.places ≡ old ++ not_before old (named_in from 0 (slots_of T from.bucket)) }
 {
     let bucket = queue.bucket(place);
-    for slot in 0..depth {
-        let other = slots.other(bucket, slot);
-        queue.add(other, Some(Link { place, slot }));
-    }
+    queue.add_each(slots.others(bucket), depth, place);
 }
 
 /// Writes the steps to an end of the search, and says how many they are.

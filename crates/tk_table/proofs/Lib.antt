@@ -25,6 +25,7 @@ pub mod Windows
 pub mod Expiring
 pub mod Emptying
 pub mod Rows
+pub mod Used
 pub mod Runs
 pub mod Knowing
 pub mod Grids

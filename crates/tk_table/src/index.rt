@@ -1,8 +1,8 @@
 //! What a search sees of a table, in one run.
-ghost use Rattle.std.specs.Prelude.{◌≡◌, ◌<◌, ◌≤◌, length, replicate, Some, None, IfOk, IsSome};
-ghost use Rattle.std.specs.Prelude.{position, is_none};
+ghost use Rattle.std.specs.Prelude.{◌≡◌, ◌+◌, ◌*◌, ◌<◌, ◌≤◌, not, length, map, take, drop, replicate};
+ghost use Rattle.std.specs.Prelude.{position, All, Some, None, IfOk};
 ghost use Rattle.tk_place.specs.Place.{slots_of, lowest_empty};
-ghost use Rattle.tk_place.specs.Table.{slot_at};
+ghost use Rattle.tk_place.specs.Table.{IsBelow, leads_to_full};
 ghost use Rattle.tk_table.specs.Rows.{with_other};
 
 use crate::Memory;
@@ -11,31 +11,43 @@ use std::marker::Model;
 use tk_bucket::Step2;
 
 /// For each slot of each bucket the other bucket of its entry, if it has one. They lie one bucket
-/// after the other, so that a search reads few bytes that lie together.
+/// after the other, so that a search reads few bytes that lie together; and it reads one byte to
+/// tell whether a bucket has an empty slot.
 #[derive(Debug, Drop)]
 pub(crate) struct Index {
     buckets: u32,
     depth: u32,
-    run: Vec<Option<u32>>,
+    others: Vec<u32>,
+    used: Vec<bool>,
+    full: Vec<bool>,
 }
 
 impl Model for Index {
-    ghost use Rattle.std.specs.Prelude.{length};
     ghost use Rattle.tk_place.specs.Place.{Others};
-    ghost use Rattle.tk_table.specs.Rows.{rows, IsRun};
+    ghost use Rattle.tk_table.specs.Rows.{rows, slots_in, IsIndex};
 
     ghost Value = { Others };
 
-    ghost view = { λ x. rows x.buckets x.depth x.run.items };
+    ghost view = { λ x. rows x.buckets x.depth (slots_in x.others.items x.used.items) };
 
-    ghost invariant = { λ x. IsRun x.buckets x.depth (length x.run.items) };
+    ghost invariant = { λ x. IsIndex x.buckets x.depth x.others.items x.used.items x.full.items };
 }
 
-/// The lowest of these slots that is empty.
-fn first_empty(slots: &[Option<u32>]) -> Option<usize>
-    ensures { result ≡ position is_none slots.now }
+/// The part of a run that is a bucket's.
+fn part<T>(run: &[T], bucket: u32, depth: u32) -> &[T]
+    requires within { bucket * depth + depth ≤ length run.now }
+    requires small { length run.now ≤ 131072 }
+    ensures { result.now ≡ take depth (drop (bucket * depth) run.now) }
 {
-    slots.iter().position(|other| other.is_none())
+    let start = bucket as usize * depth as usize;
+    &run[start..start + depth as usize]
+}
+
+/// The lowest of these slots that is not in use.
+fn first_empty(used: &[bool]) -> Option<usize>
+    ensures { result ≡ position (λ is_used. not is_used) used.now }
+{
+    used.iter().position(|is_used| !*is_used)
 }
 
 impl Index {
@@ -45,22 +57,14 @@ impl Index {
         requires depth { depth ≤ 8 }
         ensures { IfOk result (λ x. x ≡ replicate buckets (replicate depth None)) }
     {
+        let slots = buckets as usize * depth as usize;
         Ok(Index {
             buckets,
             depth,
-            run: vec![in alloc; None; buckets as usize * depth as usize]?,
+            others: vec![in alloc; 0u32; slots]?,
+            used: vec![in alloc; false; slots]?,
+            full: vec![in alloc; depth == 0; buckets as usize]?,
         })
-    }
-
-    /// The slots of a bucket.
-    fn row(&self, bucket: u32) -> &[Option<u32>]
-        requires { bucket < length self.now }
-        ensures slots { result.now ≡ slots_of self.now bucket }
-        ensures few { length result.now ≤ 8 }
-    {
-        let depth = self.depth as usize;
-        let start = bucket as usize * depth;
-        &self.run[start..start + depth]
     }
 
     /// The lowest empty slot of a bucket.
@@ -68,18 +72,36 @@ impl Index {
         requires { bucket < length self.now }
         ensures { result ≡ lowest_empty self.now bucket }
     {
-        match first_empty(self.row(bucket)) {
+        if self.full[bucket as usize] {
+            return None;
+        }
+        match first_empty(part(&self.used, bucket, self.depth)) {
             Some(slot) => Some(slot as u32),
             None => None,
         }
     }
 
-    /// The other bucket of the entry in a slot.
-    pub fn other(&self, bucket: u32, slot: u32) -> u32
-        requires { IsSome (slot_at self.now bucket slot) }
-        ensures { slot_at self.now bucket slot ≡ Some result }
+    /// The other buckets of the entries in a full bucket.
+    pub fn others(&self, bucket: u32) -> &[u32]
+        requires within { bucket < length self.now }
+        requires full { lowest_empty self.now bucket ≡ None }
+        ensures { slots_of self.now bucket ≡ map (λ other. Some other) result.now }
     {
-        self.row(bucket)[slot as usize].unwrap()
+        part(&self.others, bucket, self.depth)
+    }
+
+    /// Whether the other bucket of each entry in a full bucket is full, too.
+    pub fn leads_to_full(&self, bucket: u32) -> bool
+        requires within { bucket < length self.now }
+        requires full { lowest_empty self.now bucket ≡ None }
+        requires named { All (IsBelow (length self.now)) (slots_of self.now bucket) }
+        ensures { result ≡ leads_to_full self.now bucket }
+    {
+        let mut all = true;
+        for other in self.others(bucket).iter() {
+            all &= self.full[*other as usize];
+        }
+        all
     }
 
     /// Says what other bucket the entry in a slot has, if it has one.
@@ -88,7 +110,10 @@ impl Index {
         requires slot { at.slot < length (slots_of self.old at.bucket) }
         ensures { self.new ≡ with_other self.old (at.bucket, at.slot) other }
     {
-        let start = at.bucket as usize * self.depth as usize;
-        self.run[start + at.slot as usize] = other;
+        let place = at.bucket as usize * self.depth as usize + at.slot as usize;
+        self.others[place] = other.unwrap_or(0);
+        self.used[place] = other.is_some();
+        let empty = first_empty(part(&self.used, at.bucket, self.depth));
+        self.full[at.bucket as usize] = empty.is_none();
     }
 }

@@ -1,8 +1,8 @@
 //! Buckets with an index of what a search sees of them.
-ghost use Rattle.std.specs.Prelude.{◌≡◌, ◌≢◌, ◌<◌, ◌≤◌, ◌==◌, cond, length, Some, IsTrue, IfOk};
-ghost use Rattle.std.specs.Prelude.{IsSome};
-ghost use Rattle.tk_place.specs.Place.{lowest_empty};
-ghost use Rattle.tk_place.specs.Table.{slot_at as other_at};
+ghost use Rattle.std.specs.Prelude.{◌≡◌, ◌≢◌, ◌<◌, ◌≤◌, ◌==◌, cond, length, map, None, Some, IsTrue, IfOk};
+ghost use Rattle.std.specs.Prelude.{All};
+ghost use Rattle.tk_place.specs.Place.{slots_of, lowest_empty};
+ghost use Rattle.tk_place.specs.Table.{IsBelow, leads_to_full};
 ghost use Rattle.tk_bucket.specs.Sizes.{IsSizes, bucket_len};
 ghost use Rattle.tk_bucket.specs.Table.{IsSized, empty_table, empty_slot, is_empty};
 ghost use Rattle.tk_bucket.specs.Table.{slot_at, with_slot, with_moved};
@@ -84,12 +84,25 @@ impl Indexed {
         self.index.free(bucket)
     }
 
-    /// The other bucket of the entry in a slot.
-    pub fn other(&self, bucket: u32, slot: u32) -> u32
-        requires { IsSome (other_at (others_from 0 self.now.contents.table) bucket slot) }
-        ensures { other_at (others_from 0 self.now.contents.table) bucket slot ≡ Some result }
+    /// The other buckets of the entries in a full bucket.
+    pub fn others(&self, bucket: u32) -> &[u32]
+        requires within { bucket < length (others_from 0 self.now.contents.table) }
+        requires full { lowest_empty (others_from 0 self.now.contents.table) bucket ≡ None }
+        ensures { let T = others_from 0 self.now.contents.table in
+            slots_of T bucket ≡ map (λ other. Some other) result.now }
     {
-        self.index.other(bucket, slot)
+        self.index.others(bucket)
+    }
+
+    /// Whether the other bucket of each entry in a full bucket is full, too.
+    pub fn leads_to_full(&self, bucket: u32) -> bool
+        requires within { bucket < length (others_from 0 self.now.contents.table) }
+        requires full { lowest_empty (others_from 0 self.now.contents.table) bucket ≡ None }
+        requires named { let T = others_from 0 self.now.contents.table in
+            All (IsBelow (length T)) (slots_of T bucket) }
+        ensures { result ≡ leads_to_full (others_from 0 self.now.contents.table) bucket }
+    {
+        self.index.leads_to_full(bucket)
     }
 
     /// What a search would see of the entry in a slot, where it lay in this bucket.

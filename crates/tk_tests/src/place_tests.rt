@@ -31,8 +31,13 @@ impl Slots for Single {
         }
     }
 
-    fn other(&self, bucket: u32, _slot: u32) -> u32 {
-        self.others[bucket as usize]
+    fn others(&self, bucket: u32) -> &[u32] {
+        let slot = bucket as usize;
+        &self.others[slot..slot + 1]
+    }
+
+    fn leads_to_full(&self, bucket: u32) -> bool {
+        self.free(self.others[bucket as usize]).is_none()
     }
 }
 

@@ -1,9 +1,16 @@
-use Rattle.std.proofs.Common.{◌+◌, sym, ap, ◌∙◌, arith, subst, length}
-use Rattle.std.proofs.lemmas.List.{length-append}
+use Rattle.std.proofs.Common.{sym, ◌∙◌, arith, subst, length}
 use Rattle.tk_place.specs.Search.{AreFull}
-use Rattle.tk_place.proofs.Ends.{IsSearching, first_added, searching_first, searching_on, searching_out}
-use Rattle.tk_place.proofs.Later.{searching_ends_later, full_joined, full_stays}
+use Rattle.tk_place.proofs.Ends.{IsSearching, first_added, searching_first, searching_out}
+use Rattle.tk_place.proofs.Later.{searching_ends_later, full_joined, stepped}
 use Rattle.tk_place.proofs.search.search.Goals as goal
+
+pub returns-in-Some-clause-found : goal.returns-in-Some-clause-found
+returns-in-Some-clause-found g c =
+    let T = g.V.Slots.others c.args.slots.now in
+    let so_far =
+    subst (λ ps. IsSearching T c.args.new ps 0) (sym (first_added _ _ _ c.args.new c.clear.ensures.places c.add.ensures.places c.add-2.ensures.places))
+    (searching_first T _ c.args.new c.depth-depth.ensures.table c.requires.first c.requires.second) in
+    searching_ends_later _ _ _ _ _ _ so_far (omega arith) (λ k low high. absurd (omega (arith, high))) c.in-Some.ensures
 
 pub loop-place-init : goal.loop-place-init
 loop-place-init g c =
@@ -11,34 +18,41 @@ loop-place-init g c =
       c.add-2.ensures.buckets ∙ c.add.ensures.buckets ∙ c.clear.ensures.buckets ∙ c.requires.size,
       subst (λ ps. IsSearching T c.args.new ps 0) (sym (first_added _ _ _ c.args.new c.clear.ensures.places c.add.ensures.places c.add-2.ensures.places))
           (searching_first T _ c.args.new c.depth-depth.ensures.table c.requires.first c.requires.second),
-      omega arith,
-      omega arith,
-      λ k low high. absurd (omega (arith, high)),
+      c.in_default.ensures,
     )
 
-pub returns-in-Some-clause-found : goal.returns-in-Some-clause-found
-returns-in-Some-clause-found g c =
+pub first_behind-requires-clause-behind : goal.first_behind-requires-clause-behind
+first_behind-requires-clause-behind g c =
+    let T = g.V.Slots.others c.args.slots.now in
     let so_far = c.loop-place.invariant in
-    searching_ends_later _ _ _ _ _ _ so_far.1 so_far.2 so_far.4 c.in-Some.ensures
+    let later = c.add_others.new.queue.places in
+    let step = stepped T _ c.args.new c.loop-place.queue.places later c.loop-place.place
+    c.depth-depth.ensures.table so_far.1 (omega (arith, c.len.ensures.len)) so_far.2 c.add_others.ensures.places in
+    λ all. subst (λ n. AreFull T later n (length later)) (sym c.len-tried.ensures.len) (step.behind all)
+
+pub returns-in-Some-first_behind-clause-found : goal.returns-in-Some-first_behind-clause-found
+returns-in-Some-first_behind-clause-found g c =
+    let T = g.V.Slots.others c.args.slots.now in
+    let so_far = c.loop-place.invariant in
+    let later = c.add_others.new.queue.places in
+    let step = stepped T _ c.args.new c.loop-place.queue.places later c.loop-place.place
+    c.depth-depth.ensures.table so_far.1 (omega (arith, c.len.ensures.len)) so_far.2 c.add_others.ensures.places in
+    let tried = c.len-tried.ensures.len in
+    searching_ends_later _ _ _ _ c.len-tried.result _ step.searching (omega (arith, tried, c.len.ensures.len))
+    (subst (AreFull T later 0) (sym tried) step.before) c.in-Some-first_behind.ensures
 
 pub loop-place-preserved : goal.loop-place-preserved
 loop-place-preserved g c =
     let T = g.V.Slots.others c.args.slots.now in
     let so_far = c.loop-place.invariant in
-    let places = c.loop-place.queue.places in
-    let long = c.len.ensures.len in
-    let tried = c.len-tried.ensures.len in
-    let full : AreFull T places 0 (length places) =
-    full_joined T places c.loop-place.tried so_far.4 c.in_default.ensures in
-    let more = ap length c.add_others.ensures.places ∙ length-append places _ in (
+    let later = c.add_others.new.queue.places in
+    let step = stepped T _ c.args.new c.loop-place.queue.places later c.loop-place.place
+    c.depth-depth.ensures.table so_far.1 (omega (arith, c.len.ensures.len)) so_far.2 c.add_others.ensures.places in
+    let tried = c.len-tried.ensures.len in (
       c.add_others.ensures.size ∙ so_far.0,
-      subst (λ ps. IsSearching T c.args.new ps (c.loop-place.place + 1)) (sym c.add_others.ensures.places)
-          (searching_on _ _ _ _ _ c.depth-depth.ensures.table so_far.1 (omega (arith, long))
-          (full c.loop-place.place (omega arith) (omega (arith, long)))),
-      omega (arith, long, tried),
-      omega (arith, tried, more),
-      λ k low high. full_stays T places _ _ c.add_others.ensures.places full k low
-          (omega (arith, high, tried)),
+      step.searching,
+      full_joined T later c.len-tried.result (subst (AreFull T later 0) (sym tried) step.before)
+          c.in_default-first_behind.ensures,
     )
 
 pub returns-clause-found : goal.returns-clause-found

@@ -1,4 +1,4 @@
-use Rattle.std.proofs.Common.{◌≡◌, ◌≤◌, length, ◌-◌}
+use Rattle.std.proofs.Common.{◌≡◌, length, ◌-◌}
 use Rattle.tk_place.specs.Search.{AreFull}
 use Rattle.tk_place.proofs.Ends.{IsSearching}
 use Rattle.tk_place.proofs.search.search.Given as goal
@@ -8,9 +8,7 @@ invariant-loop-place g l =
     let T = g.V.Slots.others l.slots in
     (l.queue.buckets ≡ length T)
     × IsSearching T l.fn.new l.queue.places l.place
-    × (l.place ≤ l.tried)
-    × (l.tried ≤ length l.queue.places)
-    × AreFull T l.queue.places 0 l.tried
+    × AreFull T l.queue.places 0 (length l.queue.places)
 
 abbrev pub decreases-loop-place : goal.decreases-loop-place
 decreases-loop-place g l = length (g.V.Slots.others l.slots) - l.place

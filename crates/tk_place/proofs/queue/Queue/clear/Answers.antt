@@ -1,4 +1,4 @@
-use Rattle.std.proofs.Common.{◌+◌, ◌<◌, ◌≤◌, arith, refl, vec_len}
+use Rattle.std.proofs.Common.{◌+◌, ◌<◌, ◌≤◌, arith, vec_len}
 use Rattle.std.specs.Prelude.{◌==◌}
 use Rattle.std.proofs.lemmas.List.{length-map}
 use Rattle.std.proofs.lemmas.List.Elements.{All-weaker}
@@ -15,13 +15,13 @@ invariant_of-self c =
     let before = c.self.inside.stamps.ok.0 in
     let after = c.fill.new.self.ok.0 in
     let len = c.fill.ensures.len in
-    queue_begun _ (omega (arith, few, len)) (omega (arith, room, len)) (omega (arith, after)) refl
+    queue_begun _ _ _ _ (omega (arith, few, len)) (omega (arith, room, len)) (omega (arith, after))
     (zeros_below _ (vec_len c.self.inside.stamps) 1 (c.fill.ensures.items (λ y same. same))
     (omega arith))
 
 pub invariant_of-self-2 : goal.invariant_of-self-2
 invariant_of-self-2 c =
-    queue_begun _ c.self.invariant.few c.self.invariant.line.room
-    (omega (arith, c.self.inside.stamps.ok.0)) refl
+    queue_begun _ _ _ _ c.self.invariant.few c.self.invariant.line.room
+    (omega (arith, c.self.inside.stamps.ok.0))
     (All-weaker (λ s. s ≤ c.self.inside.stamp) (λ s. s < c.self.inside.stamp + 1)
     (λ s low. omega (arith, low)) c.self.inside.stamps.items c.self.invariant.past)
