@@ -1,6 +1,6 @@
-ghost use Rattle.std.specs.Prelude.{◌≡◌, ◌<◌, ℕ, length, map, Some, None};
+ghost use Rattle.std.specs.Prelude.{◌≡◌, ◌<◌, ℕ, length, map, Some, None, IsSome};
 ghost use Rattle.tk_place.specs.Place.{Others, slots_of, lowest_empty};
-ghost use Rattle.tk_place.specs.Table.{leads_to_full, IsTable};
+ghost use Rattle.tk_place.specs.Table.{slot_at, leads_to_full, IsTable};
 
 /// A table as the search sees it: buckets of slots, each empty or with an entry that could also lie in one other
 /// bucket.
@@ -24,6 +24,11 @@ pub trait Slots {
     fn free(&self, bucket: u32) -> Option<u32>
         requires { bucket < length (others self.now) }
         ensures { result ≡ lowest_empty (others self.now) bucket };
+
+    /// The other bucket of the entry in a slot.
+    fn other(&self, bucket: u32, slot: u32) -> u32
+        requires { IsSome (slot_at (others self.now) bucket slot) }
+        ensures { slot_at (others self.now) bucket slot ≡ Some result };
 
     /// The other buckets of the entries in a full bucket, in slot order.
     fn others(&self, bucket: u32) -> &[u32]

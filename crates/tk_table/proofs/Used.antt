@@ -2,14 +2,14 @@
 use Rattle.std.proofs.Common.{◌≡◌, ℕ, zero, suc, ◌+◌, ◌*◌, ◌<◌, ◌≤◌, refl, ap, ap₂, sym, ◌∙◌, arith, Bool}
 use Rattle.std.proofs.Common.{true, false, not, cond, List, [], ◌∷◌, length, take, drop, set, map}
 use Rattle.std.proofs.Common.{get_or, replicate, All, subst, is_some, is_none, position, nat_lt, ltb-false}
-use Rattle.std.specs.Prelude.{◌==◌, Option, Some, None, unwrap_or}
+use Rattle.std.specs.Prelude.{◌==◌, Option, Some, None, IsSome, unwrap_or}
 use Rattle.std.specs.List.{list_all, prefix_len, position_or_len}
 use Rattle.std.proofs.lemmas.List.Folds.{list_all-map}
 use Rattle.std.proofs.lemmas.List.Sums.{prefix_len-le-length}
 use Rattle.std.proofs.lemmas.List.{length-map, length-drop, length-set, length-replicate, get_or-map, get_or-set_same, map-set}
 use Rattle.std.proofs.lemmas.Bool.{ne_eqb, lt-ltb}
 use Rattle.tk_place.specs.Place.{Others, slots_of, lowest_empty}
-use Rattle.tk_place.specs.Table.{IsBelow, is_other_full, leads_to_full}
+use Rattle.tk_place.specs.Table.{slot_at, IsBelow, is_other_full, leads_to_full}
 use Rattle.tk_table.specs.Rows.{rows, with_other, IsRun, IsIndex, slots_in, is_full}
 use Rattle.tk_table.proofs.Rows.{length-rows, row_at, rows-set, rows-empty, length-row, within_run}
 
@@ -90,6 +90,17 @@ all_used (o ∷ others) [] e all = absurd (omega (arith, e))
 all_used (o ∷ others) (true ∷ used) e all =
     ap (λ rest. Some o ∷ rest) (all_used others used (omega (arith, e)) (omega (arith, all)))
 all_used (o ∷ others) (false ∷ used) e all = absurd (omega (arith, all))
+
+-- a slot that is in use has its entry's other bucket
+pub some_in : (others : List ℕ) (used : List Bool) (i d : ℕ) →
+    IsSome (get_or (slots_in others used) i None) →
+    (i < length others) × (get_or (slots_in others used) i None ≡ Some (get_or others i d))
+some_in [] used i d is = absurd (cc is)
+some_in (o ∷ others) [] i d is = absurd (cc is)
+some_in (o ∷ others) (true ∷ used) zero d is = (omega arith, refl)
+some_in (o ∷ others) (false ∷ used) zero d is = absurd (cc is)
+some_in (o ∷ others) (u ∷ used) (suc i) d is =
+    let rest = some_in others used i d is in (omega (arith, rest.0), rest.1)
 
 -- all slots that are full have their entries' other buckets
 pub full-slots_in : (others : List ℕ) (used : List Bool) → length used ≡ length others →
@@ -222,6 +233,17 @@ module _ (buckets depth : ℕ) (others : List ℕ) (used marks : List Bool)
   free_at b low =
       unused_at buckets depth others used index.beside b (low_at b low)
       ∙ ap (λ T. lowest_empty T b) is
+
+  -- the other bucket of the entry in a slot
+  pub other_at : (b i d : ℕ) → b < length now → IsSome (slot_at now b i) →
+      let part = take depth (drop (b * depth) others) in
+      (i < length part) × (slot_at now b i ≡ Some (get_or part i d))
+  other_at b i d low some =
+      let same = ap (λ T. slots_of T b) (sym is)
+      ∙ cut buckets depth others used index.beside b (low_at b low) in
+      let found = some_in (take depth (drop (b * depth) others)) (take depth (drop (b * depth) used))
+      i d (subst (λ ss. IsSome (get_or ss i None)) same some) in
+      (found.0, ap (λ ss. get_or ss i None) same ∙ found.1)
 
   -- the slots of a full bucket
   pub others_at : (b : ℕ) → b < length now → lowest_empty now b ≡ None →

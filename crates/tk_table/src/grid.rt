@@ -117,6 +117,10 @@ impl Slots for Grid {
         self.buckets.free(bucket)
     }
 
+    fn other(&self, bucket: u32, slot: u32) -> u32 {
+        self.buckets.other(bucket, slot)
+    }
+
     fn others(&self, bucket: u32) -> &[u32] {
         self.buckets.others(bucket)
     }

@@ -1,8 +1,8 @@
 //! What a search sees of a table, in one run.
 ghost use Rattle.std.specs.Prelude.{◌≡◌, ◌+◌, ◌*◌, ◌<◌, ◌≤◌, not, length, map, take, drop, replicate};
-ghost use Rattle.std.specs.Prelude.{position, All, Some, None, IfOk};
+ghost use Rattle.std.specs.Prelude.{position, All, Some, None, IfOk, IsSome};
 ghost use Rattle.tk_place.specs.Place.{slots_of, lowest_empty};
-ghost use Rattle.tk_place.specs.Table.{IsBelow, leads_to_full};
+ghost use Rattle.tk_place.specs.Table.{slot_at, IsBelow, leads_to_full};
 ghost use Rattle.tk_table.specs.Rows.{with_other};
 
 use crate::Memory;
@@ -79,6 +79,14 @@ impl Index {
             Some(slot) => Some(slot as u32),
             None => None,
         }
+    }
+
+    /// The other bucket of the entry in a slot.
+    pub fn other(&self, bucket: u32, slot: u32) -> u32
+        requires { IsSome (slot_at self.now bucket slot) }
+        ensures { slot_at self.now bucket slot ≡ Some result }
+    {
+        part(&self.others, bucket, self.depth)[slot as usize]
     }
 
     /// The other buckets of the entries in a full bucket.

@@ -1,8 +1,8 @@
 //! Buckets with an index of what a search sees of them.
 ghost use Rattle.std.specs.Prelude.{◌≡◌, ◌≢◌, ◌<◌, ◌≤◌, ◌==◌, cond, length, map, None, Some, IsTrue, IfOk};
-ghost use Rattle.std.specs.Prelude.{All};
+ghost use Rattle.std.specs.Prelude.{All, IsSome};
 ghost use Rattle.tk_place.specs.Place.{slots_of, lowest_empty};
-ghost use Rattle.tk_place.specs.Table.{IsBelow, leads_to_full};
+ghost use Rattle.tk_place.specs.Table.{slot_at as other_at, IsBelow, leads_to_full};
 ghost use Rattle.tk_bucket.specs.Sizes.{IsSizes, bucket_len};
 ghost use Rattle.tk_bucket.specs.Table.{IsSized, empty_table, empty_slot, is_empty};
 ghost use Rattle.tk_bucket.specs.Table.{slot_at, with_slot, with_moved};
@@ -82,6 +82,14 @@ impl Indexed {
         ensures { result ≡ lowest_empty (others_from 0 self.now.contents.table) bucket }
     {
         self.index.free(bucket)
+    }
+
+    /// The other bucket of the entry in a slot.
+    pub fn other(&self, bucket: u32, slot: u32) -> u32
+        requires { IsSome (other_at (others_from 0 self.now.contents.table) bucket slot) }
+        ensures { other_at (others_from 0 self.now.contents.table) bucket slot ≡ Some result }
+    {
+        self.index.other(bucket, slot)
     }
 
     /// The other buckets of the entries in a full bucket.

@@ -31,6 +31,10 @@ impl Slots for Single {
         }
     }
 
+    fn other(&self, bucket: u32, _slot: u32) -> u32 {
+        self.others[bucket as usize]
+    }
+
     fn others(&self, bucket: u32) -> &[u32] {
         let slot = bucket as usize;
         &self.others[slot..slot + 1]
