@@ -4,7 +4,8 @@ ghost use Rattle.tk_run.specs.Ticks.{AllBy, Done};
 
 use std::alloc::AllocGlobal;
 use std::sync::Wait;
-use std::thread::{Threads, join_mut};
+use std::thread::Threads;
+use tk_join::join_mut;
 
 /// What acts once in a turn, and answers whether it could.
 pub(crate) trait Actor<X: Sync>: Send {
