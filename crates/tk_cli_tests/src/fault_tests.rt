@@ -1,6 +1,6 @@
-use crate::Status;
 use crate::testing::{ONE_TEXT, REPORT, joined, run_tapped, source_of, taps_of};
 use std::test::Fail;
+use tk_cli::Status;
 use tk_io::{MemSink, MemSource};
 use tk_script::Cause;
 

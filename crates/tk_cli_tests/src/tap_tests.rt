@@ -1,8 +1,8 @@
-use crate::Status;
 use crate::report_tests::LARGER_REPORT;
 use crate::testing::{ONE_TEXT, REPORT, run_tapped, source_of, taps_of};
 use std::alloc::{AllocError, Global};
 use std::test::Fail;
+use tk_cli::Status;
 use tk_io::MemSink;
 
 /// What the first server sees of the run of one text, in hexadecimal: in each of two turns two records and a mark, and

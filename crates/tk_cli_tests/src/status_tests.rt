@@ -1,5 +1,5 @@
-use crate::{Status, status_line};
 use std::test::Fail;
+use tk_cli::{Status, status_line};
 use tk_script::Cause;
 use tk_shape::Field;
 

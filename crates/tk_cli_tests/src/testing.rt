@@ -1,8 +1,8 @@
 //! What the tests of the top call share.
-use crate::{Status, talek};
 use std::alloc::{AllocError, Global};
 use std::sync::Wait;
 use std::thread::Threads;
+use tk_cli::{Status, talek};
 use tk_io::{MemSink, MemSource, MemTaps, OpenGate};
 use tk_shape::{Bytes, Memory};
 

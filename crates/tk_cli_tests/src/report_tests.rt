@@ -1,6 +1,6 @@
 use crate::testing::{ONE_TEXT, REPORT, joined, run_serially};
-use crate::{Status, honest_serial_runs};
 use std::test::Fail;
+use tk_cli::{Status, honest_serial_runs};
 
 /// The front of a script of two clients, one log and two turns, up to what is said.
 const FRONT: &[u8] = b"talek 1

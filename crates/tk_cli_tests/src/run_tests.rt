@@ -1,8 +1,8 @@
-use crate::{RunError, serial};
 use std::test::Fail;
 use tk_client::Client;
 use tk_io::MemTaps;
 use tk_report::{parse_history, print_outcome, report};
+use tk_run::{RunError, serial};
 use tk_script::{Form, Input, parse};
 use tk_words::Book;
 

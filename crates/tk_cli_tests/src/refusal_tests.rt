@@ -1,9 +1,9 @@
 use crate::testing::{ONE_TEXT, run, source_of};
-use crate::{INPUT_LIMIT, Status};
 use std::alloc::{AllocError, Global};
 use std::sync::Wait;
 use std::test::Fail;
 use std::thread::Threads;
+use tk_cli::{INPUT_LIMIT, Status};
 use tk_io::MemSink;
 use tk_script::Cause;
 use tk_shape::{Field, Memory};
