@@ -17,6 +17,3 @@ pub use publisher::{Publisher, open};
 pub use reader::Reader;
 pub use share::{Listed, Share};
 pub use told::Told;
-
-#[cfg(test)]
-mod tests;

@@ -21,16 +21,3 @@ pub use ended::Ended;
 pub use laws::{completeness, honest_serial_runs};
 pub use status::{Status, status_line};
 pub use top::{INPUT_LIMIT, talek};
-
-#[cfg(test)]
-mod fault_tests;
-#[cfg(test)]
-mod refusal_tests;
-#[cfg(test)]
-mod report_tests;
-#[cfg(test)]
-mod status_tests;
-#[cfg(test)]
-mod tap_tests;
-#[cfg(test)]
-mod testing;

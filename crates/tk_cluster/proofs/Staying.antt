@@ -19,23 +19,6 @@ pub each_self : (xs : List Passing) → Each Stays xs xs
 each_self [] = tt
 each_self (a ∷ xs) = (stays_self a, each_self xs)
 
-pub each_two : (xs rest more : List Passing) (a b c d : Passing) → xs ≡ a ∷ rest →
-    rest ≡ b ∷ more → Stays a c → Stays b d → Each Stays xs (c ∷ d ∷ more)
-each_two xs rest more a b c d one two first second =
-    subst (λ ys. Each Stays ys (c ∷ d ∷ more)) (sym one)
-    (subst (λ ys. Each Stays (a ∷ ys) (c ∷ d ∷ more)) (sym two)
-    (first, (second, each_self more)))
-
--- the first two passes are of the board
-pub board_first : (board : TableId) (xs ys : List Passing) (x : Passing) → xs ≡ x ∷ ys →
-    All (λ a. a.reads.board ≡ board) xs → x.reads.board ≡ board
-board_first board xs ys x is all = (subst (All (λ a. a.reads.board ≡ board)) is all) 0 x (omega arith)
-
-pub board_second : (board : TableId) (xs ys zs : List Passing) (x y : Passing) → xs ≡ x ∷ ys →
-    ys ≡ y ∷ zs → All (λ a. a.reads.board ≡ board) xs → y.reads.board ≡ board
-board_second board xs ys zs x y is next all =
-    (subst (All (λ a. a.reads.board ≡ board)) (is ∙ ap (λ ws. x ∷ ws) next) all) 1 y (omega arith)
-
 pub met_stays : (L : List Placed) (xs ys : List Passing) → Each (MeetsAt L) xs ys → Each Stays xs ys
 met_stays L [] [] h = tt
 met_stays L (a ∷ xs) (b ∷ ys) h =
@@ -123,9 +106,3 @@ opened_once shape p xs o =
       of_board = fresh_board p.board o.first 0 shape.clients;
       apart = fresh_apart p.board o.first 0 shape.clients;
     })
-
--- and where the publisher stays that of its board
-pub once_on : (shape : Shape) (board now : TableId) (xs ys : List Passing) → now ≡ board →
-    Each Stays xs ys → AllOnce shape board xs → AllOnce shape now ys
-once_on shape board now xs ys same h once =
-    subst (λ b. AllOnce shape b ys) (sym same) (once_stays shape board xs ys h once)

@@ -7,8 +7,6 @@ mod close;
 mod cluster;
 mod error;
 mod hold;
-#[cfg(test)]
-mod hold_tests;
 mod many;
 mod meet;
 mod open;
@@ -16,12 +14,6 @@ mod pass;
 mod publisher;
 mod servers;
 mod set;
-#[cfg(test)]
-mod set_tests;
-#[cfg(test)]
-mod testing;
-#[cfg(test)]
-mod thread_tests;
 
 pub use close::Closed;
 pub use cluster::Cluster;

@@ -31,4 +31,11 @@ impl EpochSet {
     {
         self.number
     }
+
+    /// How many servers it has an epoch of.
+    pub fn servers(&self) -> u32
+        ensures { result ≡ self.now.shape.servers }
+    {
+        self.shape.servers
+    }
 }

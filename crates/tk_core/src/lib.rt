@@ -13,6 +13,3 @@ pub use laws::{epochs_are_read, events_make_orders, events_may_come, servers_rea
 pub use reply::Reply;
 pub use tk_shape::Memory;
 pub use world::World;
-
-#[cfg(test)]
-mod tests;

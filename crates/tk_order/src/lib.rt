@@ -14,6 +14,3 @@ pub use journal::Journal;
 pub use order::Order;
 pub use rule::Naming;
 pub use seat::OrderSeat;
-
-#[cfg(test)]
-mod tests;

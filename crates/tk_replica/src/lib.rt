@@ -22,6 +22,3 @@ pub use laws::kept_from_floor_to_last;
 pub use replica::Replica;
 pub use state::ReplicaState;
 pub use tk_shape::Memory;
-
-#[cfg(test)]
-mod tests;

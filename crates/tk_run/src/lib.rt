@@ -24,8 +24,6 @@ mod taking;
 mod talking;
 mod tapping;
 mod telling;
-#[cfg(test)]
-mod tests;
 mod threaded;
 mod ticks;
 mod turns;
