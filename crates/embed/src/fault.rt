@@ -30,15 +30,19 @@ pub enum Fault {
 }
 
 impl From<ShapeError> for Fault {
+    ghost use Rattle.embed.specs.declared.fault.Fault.TheVariants as faults;
+
+    ghost from_gives = { λ error fault. fault ≡ faults.Shape error };
+
     fn from(error: ShapeError) -> Fault {
         Fault::Shape(error)
     }
 }
 
 impl From<SayError> for Fault {
-    ghost use Rattle.embed.specs.Faults.{IsTalkFault};
+    ghost use Rattle.embed.specs.Faults.{told_say};
 
-    ghost from_gives = { λ _ e. IsTalkFault e };
+    ghost from_gives = { λ error fault. fault ≡ told_say error };
 
     fn from(error: SayError) -> Fault {
         match error {
@@ -49,10 +53,9 @@ impl From<SayError> for Fault {
 }
 
 impl From<FrameError> for Fault {
-    ghost use Rattle.tk_frames.specs.declared.fault.FrameError.TheVariants as frames;
-    ghost use Rattle.embed.specs.declared.fault.Fault.TheVariants as faults;
+    ghost use Rattle.embed.specs.Faults.{told_frame};
 
-    ghost from_gives = { λ f e. f ≡ frames.Memory → e ≡ faults.Memory };
+    ghost from_gives = { λ error fault. fault ≡ told_frame error };
 
     fn from(error: FrameError) -> Fault {
         match error {
@@ -63,9 +66,9 @@ impl From<FrameError> for Fault {
 }
 
 impl From<PinError> for Fault {
-    ghost use Rattle.embed.specs.Faults.{IsReadFault};
+    ghost use Rattle.embed.specs.Faults.{told_pin};
 
-    ghost from_gives = { λ _ e. IsReadFault e };
+    ghost from_gives = { λ error fault. fault ≡ told_pin error };
 
     fn from(error: PinError) -> Fault {
         match error {
@@ -76,9 +79,9 @@ impl From<PinError> for Fault {
 }
 
 impl From<ServeError> for Fault {
-    ghost use Rattle.embed.specs.Faults.{IsReadFault};
+    ghost use Rattle.embed.specs.Faults.{told_serve};
 
-    ghost from_gives = { λ _ e. IsReadFault e };
+    ghost from_gives = { λ error fault. fault ≡ told_serve error };
 
     fn from(error: ServeError) -> Fault {
         match error {
@@ -89,9 +92,9 @@ impl From<ServeError> for Fault {
 }
 
 impl From<TakeError> for Fault {
-    ghost use Rattle.embed.specs.Faults.{IsReadFault};
+    ghost use Rattle.embed.specs.Faults.{told_take};
 
-    ghost from_gives = { λ _ e. IsReadFault e };
+    ghost from_gives = { λ error fault. fault ≡ told_take error };
 
     fn from(error: TakeError) -> Fault {
         match error {
@@ -102,6 +105,10 @@ impl From<TakeError> for Fault {
 }
 
 impl From<io::Error> for Fault {
+    ghost use Rattle.embed.specs.declared.fault.Fault.TheVariants as faults;
+
+    ghost from_gives = { λ error fault. fault ≡ faults.Output error };
+
     fn from(error: io::Error) -> Fault {
         Fault::Output(error)
     }

@@ -1,4 +1,5 @@
 ghost use Rattle.std.specs.Prelude.{◌≡◌, [], IfOk, IfErr};
+ghost use Rattle.tk_client.specs.Saying.{fault_of};
 ghost use Rattle.embed.specs.Faults.{IsTalkFault};
 ghost use Rattle.embed.specs.Turns.{after_turn, with_said, new_writer};
 
@@ -17,7 +18,8 @@ pub fn talk<D: Draws>(alloc: Global, shape: &Shape, draws: &D, text: &[u8]) -> R
     requires one_tick { shape.now.ticks ≡ 1 }
     ensures client { IfOk result (λ client. client
         ≡ after_turn (D.book draws.now) 0 [] (with_said text.now (new_writer shape.now))) }
-    ensures fault { IfErr result IsTalkFault }
+    ensures fault { let logs = (new_writer shape.now).writing.logs in
+        IfErr result (IsTalkFault (fault_of shape.now logs 0 text.now)) }
 {
     let mut servers = open_servers(alloc, shape)?;
     let mut client = Client::open(alloc, shape, 0, &[0], &[0])?;

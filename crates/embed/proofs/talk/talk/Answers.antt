@@ -10,5 +10,5 @@ returns-in_err-take_turn-clause-fault g c =
     let out : c.from_residual-in_err-take_turn.result ≡ Err fault = search rules in
     let are : AreServers c.say.new.self.shape [] c.as_mut_slice.result.now = search rules in
     rw out
-    (reads-talk fault
+    (reads-talk _ fault
     (c.in_err-take_turn.ensures.fault [] are (record { entries = refl; marks = refl })))
