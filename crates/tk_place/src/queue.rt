@@ -44,8 +44,8 @@ impl Model for Queue {
     ghost invariant = { IsQueue };
 }
 
-/// Writes a bucket behind those that are queued, and queues it if it is new. It asks that by no branch, since none could
-/// be foretold.
+/// Writes a bucket behind those that are queued, and queues it if it is new. It asks that by no branch, since none
+/// could be foretold.
 fn take_place(places: &mut [Queued], stamps: &mut [u32], len: u32, stamp: u32, place: Queued) -> u32
     requires stamped { IsStamped places.old len stamps.old stamp (length stamps.old) }
     requires bucket { place.bucket < length stamps.old }
@@ -169,7 +169,7 @@ impl Queue {
         );
     }
 
-    /// Queues each of so many buckets that was never in the queue: those that the entries in the bucket at a place name.
+    /// Queues each of so many buckets that was never in the queue: those that the entries in a place's bucket name.
     pub fn add_each(&mut self, others: &[u32], depth: u32, place: u32)
         requires depth { depth ≡ length others.now }
         requires others { All (λ b. b < self.old.buckets) others.now }

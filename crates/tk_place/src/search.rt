@@ -106,8 +106,8 @@ fn first_with_room<V: Slots>(slots: &V, queue: &Queue, from: u32) -> Option<End>
     None
 }
 
-/// The first place from one on whose bucket has an empty slot, where only what the entries in the full bucket at a place
-/// name comes from there on. It mostly finds by one look that none has.
+/// The first place from one on whose bucket has an empty slot, where only what the entries in the full bucket at a
+/// place name comes from there on. It mostly finds by one look that none has.
 fn first_behind<V: Slots>(slots: &V, queue: &Queue, place: u32, from: u32) -> Option<End>
     requires size { queue.now.buckets ≡ length (V.others slots.now) }
     requires place { place < length queue.now.places }
