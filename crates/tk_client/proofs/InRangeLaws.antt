@@ -36,13 +36,13 @@ bucket_in shape n =
 pub pair-in_range : PairsAreInRange
 unfolding pair_of fresh_pair
 pair-in_range shape (keyed handles seeds) g c None =
-    record { first = bucket_in shape _; second = bucket_in shape _ }
+    (bucket_in shape _, bucket_in shape _)
 pair-in_range shape (keyed handles seeds) g c (Some t) =
-    record { first = bucket_in shape _; second = bucket_in shape _ }
+    (bucket_in shape _, bucket_in shape _)
 pair-in_range shape (drawn tape) g c None =
-    record { first = bucket_in shape _; second = bucket_in shape _ }
+    (bucket_in shape _, bucket_in shape _)
 pair-in_range shape (drawn tape) g c (Some t) =
-    record { first = bucket_in shape _; second = bucket_in shape _ }
+    (bucket_in shape _, bucket_in shape _)
 
 -- ---- the drawn vectors
 

@@ -48,8 +48,3 @@ pub record AreWhole (shape : Shape) (vectors : DrawnVectors) : Type 0 where
   pub second_each : length vectors.second ≡ shape.servers - 1
   pub first_sized : AllSized (vector_len shape) vectors.first
   pub second_sized : AllSized (vector_len shape) vectors.second
-
--- a pair of buckets of the table
-pub record IsPair (shape : Shape) (pair : ℕ × ℕ) : Type 0 where
-  pub first : pair.0 < shape.buckets
-  pub second : pair.1 < shape.buckets

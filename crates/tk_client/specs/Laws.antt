@@ -6,7 +6,7 @@ use Rattle.tk_shape.specs.Lengths.{turn_count}
 use Rattle.tk_words.specs.Words.{WordBook, IsBook, words_of, fresh_vectors}
 use Rattle.tk_frames.specs.Ranges.{IsRead}
 use Rattle.tk_client.specs.Reader.{Target}
-use Rattle.tk_client.specs.Asked.{pair_for, asked, AreWhole, IsPair}
+use Rattle.tk_client.specs.Asked.{pair_for, asked, AreWhole}
 
 -- whatever a read is for, its frames are in range where its client, turn and epoch are
 abbrev pub AskedAreInRange : Type 0
@@ -19,7 +19,8 @@ AskedAreInRange =
 abbrev pub PairsAreInRange : Type 0
 PairsAreInRange =
     (shape : Shape) (b : WordBook) (g c : ℕ) (t : Option Target) →
-    IsPair shape (pair_for (words_of shape b) g c t)
+    let pair = pair_for (words_of shape b) g c t in
+    (pair.0 < shape.buckets) × (pair.1 < shape.buckets)
 
 -- the vectors that are drawn for a read have a bit for each bucket
 abbrev pub VectorsAreWhole : Type 0

@@ -21,6 +21,7 @@ use Rattle.tk_frames.specs.Spelling.{reply_frame}
 use Rattle.tk_frames.specs.Order.{Record}
 use Rattle.tk_frames.specs.Slots.{slots_in, text_among}
 use Rattle.tk_table.specs.Ordered.{AreOrdered}
+use Rattle.tk_table.specs.Stands.{IsPair}
 use Rattle.tk_table.specs.Table.{layout}
 use Rattle.tk_bucket.specs.Bytes.{blocks_of}
 use Rattle.tk_table.specs.Laws.{IsStorable, block_at}
@@ -31,7 +32,7 @@ use Rattle.tk_client.specs.Reader.{at_epoch, after_read}
 use Rattle.tk_client.specs.Client.{ClientState, after_replies}
 use Rattle.tk_client.specs.Replies.{answer_in, frames_in, first_joined, second_joined}
 use Rattle.tk_client.proofs.Offers.{frames_in-spelled}
-use Rattle.tk_client.specs.Asked.{asked, AreWhole, IsPair, pair_for}
+use Rattle.tk_client.specs.Asked.{asked, AreWhole, pair_for}
 use Rattle.tk_schedule.specs.declared.history.History.{History}
 use Rattle.tk_schedule.specs.Schedule.{IsLegal, epoch_at}
 use Rattle.tk_shape.specs.Lengths.{turn_count}
@@ -102,7 +103,7 @@ text-taken shape b R g c e t reads replies first second o
     text_is
     ∙ ap₂ (λ (x y : List ℕ). text_among pair opens (slots_in shape x ++ slots_in shape y))
     first_block second_block
-    ∙ layout-as_read shape R pair opens ordered storable within.first within.second
+    ∙ layout-as_read shape R pair opens ordered storable within.0 within.1
 
 -- so the answer to a read is what is looked up for its target
 pub answer-taken : (shape : Shape) (b : WordBook) (R : List Record) (g c e : ℕ) (t : Option Target)

@@ -16,12 +16,13 @@ use Rattle.tk_words.specs.Words.{WordBook, words_of, fresh_vectors}
 use Rattle.tk_frames.specs.declared.reply_frame.ReplyFrame.{ReplyFrame}
 use Rattle.tk_frames.specs.Order.{Record}
 use Rattle.tk_bucket.specs.Table.{SlotTable}
+use Rattle.tk_table.specs.Stands.{IsPair}
 use Rattle.tk_table.specs.Table.{layout}
 use Rattle.tk_bucket.specs.Bytes.{blocks_of}
 use Rattle.tk_table.specs.Laws.{block_at}
 use Rattle.tk_client.specs.declared.target.Target.{Target}
 use Rattle.tk_table.specs.Replies.{reply_to}
-use Rattle.tk_client.specs.Asked.{frame_with, asked, AreWhole, IsPair, pair_for}
+use Rattle.tk_client.specs.Asked.{frame_with, asked, AreWhole, pair_for}
 use Rattle.tk_client.proofs.Offers.{vector_bits, length-shares}
 
 -- ---- what servers with equal blocks reply
@@ -124,8 +125,8 @@ replies_join shape b R g c e t whole are within =
     record {
       first =
           ap sum (firsts shape R g c e us vs js) ∙ ap sums (by_servers us shape.servers us_each)
-          ∙ answers_of shape R vectors.first pair.0 are whole.first_sized within.first;
+          ∙ answers_of shape R vectors.first pair.0 are whole.first_sized within.0;
       second =
           ap sum (seconds shape R g c e us vs js) ∙ ap sums (by_servers vs shape.servers vs_each)
-          ∙ answers_of shape R vectors.second pair.1 are whole.second_sized within.second;
+          ∙ answers_of shape R vectors.second pair.1 are whole.second_sized within.1;
     }
