@@ -41,3 +41,5 @@ pub mod ReadingLaws
 pub mod DisplacedLaws
 pub mod SaidLaws
 pub mod CountedLaws
+pub mod ListingLaws
+pub mod SendingsLaws

@@ -15,3 +15,4 @@ pub mod Turns
 pub mod Folds
 pub mod Displaced
 pub mod Counts
+pub mod Listings

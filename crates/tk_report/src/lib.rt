@@ -10,6 +10,7 @@ mod history_text;
 mod laws;
 mod left;
 mod line_kind;
+mod listing;
 mod log_text;
 mod opening;
 mod outcome;
@@ -21,6 +22,8 @@ mod report_lines;
 mod report_text;
 mod reporting;
 mod saying;
+mod sendings;
+mod sent;
 mod telling;
 mod writing;
 
@@ -30,6 +33,7 @@ pub use laws::{
     agreement, clear, delivered, ends, honest_passing_over, laid_out, marks, one_history,
     queues_send, records_are_shown, told,
 };
+pub use listing::all_sent;
 pub use opening::{open_clients, open_followers};
 pub use outcome::Outcome;
 pub use outcome_text::print_outcome;
@@ -38,6 +42,8 @@ pub use plan::Plan;
 pub use reading::read_turn;
 pub use reporting::report;
 pub use saying::{count_said, say_turn};
+pub use sendings::Sendings;
+pub use sent::Sent;
 pub use writing::{entry_of, write_turn};
 
 #[cfg(test)]
