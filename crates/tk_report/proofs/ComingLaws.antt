@@ -271,6 +271,18 @@ module _ (S : Script) (w : BookWords) (H : History) (g : ℕ) where
       ∙ ap₂ (λ (n k : ℕ). some ++ record { position = n; entry = entry_due write k x } ∷ [])
       at counted
 
+  -- and with those of the turns before
+  pub so_far-more : (i : ℕ) (d : Item) → i < length (order_at H g) →
+      placed_so_far S w H g (i + 1)
+      ≡ placed_so_far S w H g i
+      ++ next_placed (placed_so_far S w H g i)
+      (entry_due (write_at S w g) (mark_count (placed_so_far S w H g i) + 1)
+      (get_or (order_at H g) i d))
+      ∷ []
+  so_far-more i d within =
+      ap (λ (ps : List Placed). placed_before S w H g ++ ps) (in-more i d within)
+      ∙ sym (append_assoc (placed_before S w H g) (placed_in S w H g i) _)
+
   -- before any item there are none
   pub in-none : placed_in S w H g 0 ≡ []
   unfolding placed_in placed_from

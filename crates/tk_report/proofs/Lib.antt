@@ -41,5 +41,7 @@ pub mod ReadingLaws
 pub mod DisplacedLaws
 pub mod SaidLaws
 pub mod CountedLaws
+pub mod BlankLaws
 pub mod ListingLaws
 pub mod SendingsLaws
+pub mod PairLaws

@@ -183,7 +183,7 @@ positions-low p (x ∷ E) are =
     one position (Write w) R here later = (omega (arith, here), later)
     one position (Mark e) R here later = later
 
-one-mark : (shape : Shape) (g : ℕ) → marks_due shape g ≤ 1
+pub one-mark : (shape : Shape) (g : ℕ) → marks_due shape g ≤ 1
 one-mark shape g =
     elim (is_closing shape g) as (λ b. (if b then 1 else 0) ≤ 1) [
       | true ↦ omega arith
@@ -191,7 +191,7 @@ one-mark shape g =
     ]
 
 -- a turn has at most 65 entries
-entries-few : (shape : Shape) (write : ℕ → ℕ → WriteFrame) (H : History) (g : ℕ) →
+pub entries-few : (shape : Shape) (write : ℕ → ℕ → WriteFrame) (H : History) (g : ℕ) →
     IsLegal shape H → g ≤ turn_count shape → length (entries_before write H g) ≤ 65 * g
 unfolding entries_before
 entries-few shape write H zero legal within = omega arith

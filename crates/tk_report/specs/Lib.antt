@@ -16,3 +16,5 @@ pub mod Folds
 pub mod Displaced
 pub mod Counts
 pub mod Listings
+pub mod Rooms
+pub mod Blanks

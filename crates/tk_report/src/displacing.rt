@@ -1,36 +1,30 @@
-ghost use Rattle.std.specs.Prelude.{◌≡◌, ◌+◌, ◌<◌, IfOk, OnOk};
+ghost use Rattle.std.specs.Prelude.{◌≡◌, ◌+◌, ◌<◌, ◌++◌, ◌∷◌, [], List, ℕ, IfOk, IsTrue};
 ghost use Rattle.tk_shape.specs.Lengths.{turn_count};
-ghost use Rattle.tk_schedule.specs.Schedule.{IsLegal};
-ghost use Rattle.tk_schedule.specs.declared.history.History.{History};
-ghost use Rattle.tk_words.specs.Words.{WordBook, words_of};
-ghost use Rattle.tk_report.specs.Counts.{IsCountingBefore, HasCounted};
-ghost use Rattle.tk_report.specs.Clients.{AreClients, client_told, client_knowing, known_first};
+ghost use Rattle.tk_schedule.specs.Schedule.{IsLegal, is_within};
+ghost use Rattle.tk_words.specs.Words.{words_of};
+ghost use Rattle.tk_frames.specs.declared.entry.Placed.{Placed};
+ghost use Rattle.tk_frames.specs.Order.{records};
+ghost use Rattle.tk_table.specs.Ordered.{AreOrdered};
+ghost use Rattle.tk_report.specs.Counts.{HasCounted, MayCount};
 ghost use Rattle.tk_report.specs.Displaced.{displaced_count};
-ghost use Rattle.tk_report.specs.Turns.{placed_before};
+ghost use Rattle.tk_report.specs.Entries.{write_at};
+ghost use Rattle.tk_report.specs.Rooms.{IsRoom};
+ghost use Rattle.tk_report.specs.Turns.{placed_before, entry_due, next_placed};
 
 use crate::count::Count;
-use crate::opening::open_clients;
+use crate::listing::all_sent;
+use crate::pairs::Pairs;
 use crate::plan::Plan;
-use crate::saying::say_turn;
-use crate::writing::entry_of;
+use crate::room::Room;
 use std::alloc::Global;
-use tk_client::Client;
-use tk_schedule::History;
+use tk_schedule::{History, Item};
 use tk_script::Script;
 use tk_shape::Memory;
 use tk_words::Draws;
 
-/// A history as far as its writes were counted: how many texts were said, the clients that write,
-/// and the count.
-#[derive(Drop)]
-pub(crate) struct Counting {
-    pub said: usize,
-    pub clients: Vec<Client>,
-    pub count: Count,
-}
-
 /// How many writes of a run of a script are displaced when they come, where the history is this
-/// one: they aren't stored, since they have no placement beside those that are.
+/// one: they aren't stored, since they have no placement beside those that are. A write's buckets
+/// alone decide it, so that no text is sealed.
 pub fn displaced<D: Draws>(
     alloc: Global,
     script: &Script,
@@ -48,69 +42,63 @@ pub fn displaced<D: Draws>(
         draws,
         history,
     };
-    let mut counting = open_counting(alloc, script)?;
+    let sent = all_sent(alloc, script)?;
+    let pairs = Pairs {
+        plan: &plan,
+        sent: sent.as_slice(),
+    };
+    let mut room = Room::open(alloc, &script.shape)?;
+    let mut count = Count::open(alloc, &script.shape)?;
     'turns: for turn in 0..script.shape.turns() {
-        count_turn(alloc, &plan, turn, &mut counting)?;
+        count_turn(&pairs, turn, &mut room, &mut count);
     }
-    Ok(counting.count.displaced)
+    Ok(count.displaced)
 }
 
-/// A history before its first turn.
-fn open_counting(alloc: Global, script: &Script) -> Result<Counting, Memory>
-    ensures { (b : WordBook) (H : History) → IfOk result (IsCountingBefore script.now b H 0) }
+/// Counts each entry of a turn in the order of the history.
+fn count_turn<D: Draws>(pairs: &Pairs<D>, turn: u32, room: &mut Room, count: &mut Count)
+    requires turn_in { turn < turn_count pairs.now.plan.now.script.now.shape }
+    requires room { IsRoom pairs.now.plan.now.script.now.shape room.old }
+    requires count { let S = pairs.now.plan.now.script.now in
+        let words = words_of S.shape (D.book pairs.now.plan.now.draws.now) in
+        HasCounted S.shape (placed_before S words pairs.now.plan.now.history.now turn) count.old }
+    ensures room { IsRoom pairs.now.plan.now.script.now.shape room.new }
+    ensures count { let S = pairs.now.plan.now.script.now in
+        let words = words_of S.shape (D.book pairs.now.plan.now.draws.now) in
+        let H = pairs.now.plan.now.history.now in
+        HasCounted S.shape (placed_before S words H (turn + 1)) count.new }
 {
-    Ok(Counting {
-        said: 0,
-        clients: open_clients(alloc, script)?,
-        count: Count::open(alloc, &script.shape)?,
-    })
+    'entries: for item in pairs.plan.history.order(turn) {
+        count_entry(pairs, turn, item, room, count);
+    }
 }
 
-/// What happens in a turn: texts are said, and the clients write in the history's order.
-fn count_turn<D: Draws>(
-    alloc: Global,
-    plan: &Plan<D>,
+/// Counts the entry of an item: its client's write, or a mark.
+fn count_entry<D: Draws>(
+    pairs: &Pairs<D>,
     turn: u32,
-    counting: &mut Counting,
-) -> Result<(), Memory>
-    requires turn_in { turn < turn_count plan.now.script.now.shape }
-    requires counting { IsCountingBefore plan.now.script.now (D.book plan.now.draws.now)
-        plan.now.history.now turn counting.old }
-    ensures { OnOk result (IsCountingBefore plan.now.script.now (D.book plan.now.draws.now)
-        plan.now.history.now (turn + 1) counting.new) }
-{
-    let clients = counting.clients.as_mut_slice();
-    counting.said = say_turn(alloc, plan.script, turn, counting.said, clients)?;
-    count_writes(alloc, plan, turn, clients, &mut counting.count)?;
-    Ok(())
-}
-
-/// Counts each entry of a turn in the order of the history. Where memory runs out nothing is
-/// promised of clients and count.
-fn count_writes<D: Draws>(
-    alloc: Global,
-    plan: &Plan<D>,
-    turn: u32,
-    clients: &mut [Client],
+    item: &Item,
+    room: &mut Room,
     count: &mut Count,
-) -> Result<(), Memory>
-    requires turn_in { turn < turn_count plan.now.script.now.shape }
-    requires clients { let S = plan.now.script.now in
-        AreClients S.shape.clients (client_told S (known_first S) turn) clients.old }
-    requires count { let S = plan.now.script.now in
-        let words = words_of S.shape (D.book plan.now.draws.now) in
-        HasCounted S.shape (placed_before S words plan.now.history.now turn) count.old }
-    ensures clients { let S = plan.now.script.now in
-        OnOk result (AreClients S.shape.clients
-        (client_knowing S (known_first S) (turn + 1)) clients.new) }
-    ensures count { let S = plan.now.script.now in
-        let words = words_of S.shape (D.book plan.now.draws.now) in
-        OnOk result
-        (HasCounted S.shape (placed_before S words plan.now.history.now (turn + 1)) count.new) }
+)
+    requires turn_in { turn < turn_count pairs.now.plan.now.script.now.shape }
+    requires item { IsTrue (is_within pairs.now.plan.now.script.now.shape.clients item.now) }
+    requires room { IsRoom pairs.now.plan.now.script.now.shape room.old }
+    requires may { MayCount count.old }
+    requires one_shape { count.old.table.shape ≡ pairs.now.plan.now.script.now.shape }
+    ensures room { IsRoom pairs.now.plan.now.script.now.shape room.new }
+    ensures count { let S = pairs.now.plan.now.script.now in
+        let words = words_of S.shape (D.book pairs.now.plan.now.draws.now) in
+        (E : List Placed) (e : ℕ) → let entry = entry_due (write_at S words turn) e item.now in
+        HasCounted S.shape E count.old
+        → AreOrdered S.shape (records (E ++ next_placed E entry ∷ []))
+        → HasCounted S.shape (E ++ next_placed E entry ∷ []) count.new }
 {
-    'writes: for item in plan.history.order(turn) {
-        let entry = entry_of(alloc, plan, turn, item, clients)?;
-        count.take(&entry);
+    match item {
+        Item::Client(client) => {
+            let pair = pairs.of(turn, *client, room);
+            count.take(pair);
+        }
+        Item::Publish => count.pass(),
     }
-    Ok(())
 }
