@@ -1,24 +1,20 @@
 -- The cells of writes, exchanged one by one.
-use Rattle.std.proofs.Common.{◌≡◌, ◌∙◌, ap, ap₂, sym, refl, ℕ, ◌+◌, ◌<◌, List, ◌∷◌, [], ◌++◌}
-use Rattle.std.proofs.Common.{flat_map, map, length, get_or, find, Some, None}
+use Rattle.std.proofs.Common.{◌≡◌, ◌∙◌, ap, ap₂, sym, refl, ℕ, ◌+◌, List, ◌∷◌, [], ◌++◌}
+use Rattle.std.proofs.Common.{flat_map, length, find, None}
 use Rattle.std.proofs.Common.{zero-add, append_assoc, take, drop, ◌-◌, ◌*◌}
 use Rattle.std.specs.List.{range_with_len}
-use Rattle.std.specs.Prelude.{◌==◌, slice_get}
-use Rattle.std.proofs.lemmas.Option.{get_or_from_slice_get}
 use Rattle.std.proofs.lemmas.List.{flat_map_more, map-id}
-use Rattle.std.proofs.lemmas.List.FromFn.{map-range_with_len_more, get_or-map-range_with_len}
-use Rattle.std.proofs.lemmas.List.FromFn.{length-map-range_with_len}
+use Rattle.std.proofs.lemmas.List.FromFn.{map-range_with_len_more}
 use Rattle.tk_shape.specs.declared.shape.Shape.{Shape}
 use Rattle.tk_script.specs.declared.script.Script.{Script}
-use Rattle.tk_script.specs.Sent.{Sending, sent, sent_as, is_numbered, writer_of, blank_role}
-use Rattle.tk_script.specs.declared.role.Role.{Role}
+use Rattle.tk_script.specs.Sent.{sent_as, is_numbered, writer_of}
 use Rattle.tk_kernel.specs.Xor.{xor_bytes}
 use Rattle.tk_seal.specs.Seal.{plain}
 use Rattle.tk_words.specs.Words.{write_cell, keyed_cell, cell_pad, cell_tag}
 use Rattle.tk_privacy.specs.declared.way.Way.{Way}
 use Rattle.tk_privacy.specs.declared.way.Way.TheVariants.{Show, Regain}
 use Rattle.tk_privacy.specs.Privacy.{masked_cell, cells}
-use Rattle.tk_privacy.specs.Queue.{sent_by}
+use Rattle.tk_report.specs.Listings.{sent_by}
 use Rattle.tk_privacy.specs.Exchanging.{write_exchanged, keyed_exchanged}
 
 -- the numbers up to one are those below it and itself
@@ -37,24 +33,7 @@ next_cell f n old before new before_is new_is =
     ∙ flat_map_more f old (range_with_len 0 n) n
     ∙ ap (λ numbers. old ++ flat_map f numbers) (sym (numbers-more n))
 
--- what a client sends, among what each sends
-pub sent_of : (S : Script) (all : List (List Sending)) (c : ℕ) (d : List Sending) →
-    all ≡ map (sent_by S) (range_with_len 0 S.shape.clients) → c < S.shape.clients →
-    get_or all c d ≡ sent_by S c
-sent_of S all c d is low =
-    ap (λ (xs : List (List Sending)). get_or xs c d) is
-    ∙ get_or-map-range_with_len (sent_by S) 0 S.shape.clients c c d low (zero-add c)
-
-pub sent_each : (S : Script) (all : List (List Sending)) →
-    all ≡ map (sent_by S) (range_with_len 0 S.shape.clients) → length all ≡ S.shape.clients
-sent_each S all is = ap length is ∙ length-map-range_with_len (sent_by S) 0 S.shape.clients
-
 -- found in a client's list
-pub found_in : (S : Script) (g c : ℕ) → find (λ (y : Sending). y.turn == g) (sent_by S c)
-    ≡ sent S g c
-unfolding sent
-found_in S g c = refl
-
 pub found_as : (S : Script) (c log s : ℕ) → writer_of S log ≡ c →
     find (is_numbered log s) (sent_by S c) ≡ sent_as S log s
 unfolding sent_as
@@ -93,12 +72,6 @@ masked_parts shape text cell old words block pad tag masked one two three words_
     ∙ ap₂ (λ (front back : List ℕ). old ++ (front ++ back)) words_is
     (ap₂ (λ (front back : List ℕ). front ++ back)
     (masked_is ∙ ap (λ (p : List ℕ). xor_bytes p (plain (length p) text)) pad_cell) tag_cell)
-
--- the writer of a log, by its role
-pub writer-of : (S : Script) (log : ℕ) (role : Role) → slice_get S.roles log ≡ Some role →
-    writer_of S log ≡ role.writer
-writer-of S log role at =
-    ap (λ (r : Role). r.writer) (get_or_from_slice_get S.roles log role blank_role at)
 
 -- three parts, one behind the other
 pub three_parts : (none one two three a b c : List ℕ) → none ≡ [] → one ≡ none ++ a →

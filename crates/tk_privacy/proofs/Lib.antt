@@ -7,7 +7,6 @@ pub mod Seen
 pub mod PrivacyLaws
 pub mod Computing
 pub mod Mirrored
-pub mod QueueLaws
 pub mod ExchangingLaws
 pub mod HidingLaws
 pub mod StepsLaws

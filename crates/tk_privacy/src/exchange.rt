@@ -1,20 +1,19 @@
-ghost use Rattle.std.specs.Prelude.{◌≡◌, ◌<◌, ◌≤◌, ◌+◌, ◌==◌, ◌++◌, length, map, find};
+ghost use Rattle.std.specs.Prelude.{◌≡◌, ◌<◌, ◌≤◌, ◌+◌, ◌++◌, length, map, find};
 ghost use Rattle.std.specs.Prelude.{IsTrue, OnOk};
 ghost use Rattle.std.specs.List.{range_with_len};
 ghost use Rattle.std.specs.Option.{option_copied};
 ghost use Rattle.tk_shape.specs.Lengths.{turn_count, cell_len, tape_len};
 ghost use Rattle.tk_seal.specs.Texts.{is_allowed};
 ghost use Rattle.tk_script.specs.Sent.{sent, sent_as, is_numbered, writer_of};
+ghost use Rattle.tk_report.specs.Listings.{sent_by};
 ghost use Rattle.tk_privacy.specs.Privacy.{masked_cell};
-ghost use Rattle.tk_privacy.specs.Queue.{sent_by};
 ghost use Rattle.tk_privacy.specs.Exchanging.{write_exchanged, writes_of_turn, writes_exchanged};
 ghost use Rattle.tk_privacy.specs.Exchanging.{keyed_exchanged, numbers_of_log, keyeds_exchanged};
 
 use crate::cells::Cells;
-use crate::sendings::Sendings;
-use crate::sent::Sent;
 use crate::way::Way;
 use std::alloc::Global;
+use tk_report::{Sendings, Sent};
 use tk_script::Script;
 use tk_seal::mask;
 use tk_shape::{Memory, Shape};
@@ -25,7 +24,7 @@ use tk_shape::{Memory, Shape};
 pub(crate) struct Exchange<'a> {
     pub way: Way,
     pub script: &'a Script,
-    pub sent: &'a [Sendings],
+    pub sent: &'a [Sendings<'a>],
     pub cells: &'a Cells<'a>,
     ghost one_shape: { cells.now.shape.now ≡ script.now.shape },
     ghost all_sent: { sent.now ≡ map (sent_by script.now)
@@ -129,15 +128,15 @@ impl<'a> Exchange<'a> {
     }
 
     /// What a client sends in a turn.
-    fn sent_in(&self, turn: u32, client: u32) -> Option<&Sent>
+    fn sent_in(&self, turn: u32, client: u32) -> Option<&Sent<'a>>
         requires { client < self.now.script.now.shape.clients }
         ensures { option_copied result ≡ sent self.now.script.now turn client }
     {
-        in_turn(self.sent[client as usize].as_slice(), turn)
+        self.sent[client as usize].in_turn(turn)
     }
 
     /// What is sent as a number of a log, which this client writes.
-    fn sent_as(&self, writer: u32, log: u32, number: u32) -> Option<&Sent>
+    fn sent_as(&self, writer: u32, log: u32, number: u32) -> Option<&Sent<'a>>
         requires writer_in { writer < self.now.script.now.shape.clients }
         requires writes { writer_of self.now.script.now log ≡ writer }
         ensures { option_copied result ≡ sent_as self.now.script.now log number }
@@ -146,15 +145,8 @@ impl<'a> Exchange<'a> {
     }
 }
 
-/// What is sent in a turn.
-fn in_turn(sent: &[Sent], turn: u32) -> Option<&Sent>
-    ensures { option_copied result ≡ find (λ y. y.turn == turn) sent.now }
-{
-    sent.iter().find(|found| found.turn == turn)
-}
-
 /// What is sent as a number of a log.
-fn as_number(sent: &[Sent], log: u32, number: u32) -> Option<&Sent>
+fn as_number<'s, 'a>(sent: &'s [Sent<'a>], log: u32, number: u32) -> Option<&'s Sent<'a>>
     ensures { option_copied result ≡ find (is_numbered log number) sent.now }
 {
     sent.iter()

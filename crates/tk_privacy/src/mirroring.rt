@@ -7,12 +7,11 @@ ghost use Rattle.tk_privacy.specs.Steps.{AreLastReads};
 
 use crate::exchange::push;
 use crate::mirror_error::MirrorError;
-use crate::queue::all_sent;
 use crate::reads::all_reads;
 use crate::steps::Steps;
 use std::alloc::Global;
 use tk_frames::ReadFrame;
-use tk_report::Plan;
+use tk_report::{Plan, all_sent};
 use tk_schedule::History;
 use tk_script::Script;
 use tk_shape::Memory;

@@ -4,17 +4,17 @@ ghost use Rattle.std.specs.List.{range_with_len};
 ghost use Rattle.tk_shape.specs.Lengths.{tape_len, turn_count};
 ghost use Rattle.tk_schedule.specs.declared.history.History.{History};
 ghost use Rattle.tk_words.specs.Words.{write_cell, keyed_cell};
+ghost use Rattle.tk_report.specs.Listings.{sent_by};
 ghost use Rattle.tk_privacy.specs.Privacy.{tape_of, read_cell_changed, normal, regained};
-ghost use Rattle.tk_privacy.specs.Queue.{sent_by};
 ghost use Rattle.tk_privacy.specs.Steps.{AreLastReads, reads_changed};
 
 use crate::cells::Cells;
 use crate::exchange::{Exchange, push};
 use crate::hiding::Hiding;
-use crate::sendings::Sendings;
 use crate::way::Way;
 use std::alloc::Global;
 use tk_frames::ReadFrame;
+use tk_report::Sendings;
 use tk_script::Script;
 use tk_shape::Memory;
 
@@ -22,7 +22,7 @@ use tk_shape::Memory;
 #[derive(Drop)]
 pub(crate) struct Steps<'a> {
     pub script: &'a Script,
-    pub sent: &'a [Sendings],
+    pub sent: &'a [Sendings<'a>],
     pub hidden: u32,
     ghost all_sent: { sent.now ≡ map (sent_by script.now)
         (range_with_len 0 script.now.shape.clients) },

@@ -159,7 +159,7 @@ sent_each S all is =
     ∙ length-map-range_with_len (sent_by S) 0 S.shape.clients
 
 -- what it sends in a turn is found in its list
-pub found_in : (S : Script) (g c : ℕ) → find (λ (y : Sending). y.turn == g) (sent_by S c)
+found_in : (S : Script) (g c : ℕ) → find (λ (y : Sending). y.turn == g) (sent_by S c)
     ≡ sent S g c
 unfolding sent
 found_in S g c = refl

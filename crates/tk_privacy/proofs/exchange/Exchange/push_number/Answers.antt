@@ -11,7 +11,7 @@ use Rattle.tk_words.specs.Words.{write_cell}
 use Rattle.tk_privacy.specs.declared.way.Way.{Way}
 use Rattle.tk_privacy.specs.Privacy.{masked_cell}
 use Rattle.tk_privacy.specs.Exchanging.{keyed_exchanged}
-use Rattle.tk_privacy.proofs.ExchangingLaws.{writer-of}
+use Rattle.tk_report.proofs.Offers.{writer-of}
 use Rattle.tk_privacy.proofs.exchange.Exchange.push_number.Goals as goal
 
 pub write_cell-cell-requires-clause-turn_in : goal.write_cell-cell-requires-clause-turn_in

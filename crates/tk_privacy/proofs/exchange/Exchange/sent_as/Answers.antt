@@ -1,7 +1,8 @@
 -- It is found in the list of the log's writer.
 use Rattle.std.proofs.Common.{◌∙◌, ap, arith, List, find}
 use Rattle.tk_script.specs.Sent.{Sending, is_numbered}
-use Rattle.tk_privacy.proofs.ExchangingLaws.{sent_of, sent_each, found_as}
+use Rattle.tk_report.proofs.Offers.{sent_of, sent_each}
+use Rattle.tk_privacy.proofs.ExchangingLaws.{found_as}
 use Rattle.tk_privacy.proofs.exchange.Exchange.sent_as.Goals as goal
 
 pub bounds-self-writer : goal.bounds-self-writer
