@@ -1,8 +1,11 @@
 -- The reads of a turn of threads, of which some servers have replied.
 use Rattle.std.proofs.Common.{◌≡◌, refl, ap, sym, ◌∙◌, subst, arith}
 use Rattle.std.proofs.Common.{ℕ, ◌+◌, ◌<◌, ◌≤◌, List, [], ◌∷◌, ◌++◌, length, map, take, take_all, All}
+use Rattle.std.proofs.Common.{length-append}
 use Rattle.std.proofs.lemmas.List.{get_or_default, length-map}
-use Rattle.std.specs.Prelude.{slice_index_or}
+use Rattle.std.proofs.Math.Seq.{get_or-append_seam}
+use Rattle.std.specs.Prelude.{slice_index_or, Vec, Ok, IfOk}
+use Rattle.std.specs.Global.{Global}
 use Rattle.std.specs.Arc.{arc_value}
 use Rattle.tk_shape.specs.declared.shape.Shape.{Shape}
 use Rattle.tk_frames.specs.declared.entry.Placed.{Placed}
@@ -14,7 +17,7 @@ use Rattle.tk_run.specs.declared.talking.Reading.{Reading}
 use Rattle.tk_run.specs.Rows.{Frame}
 use Rattle.tk_run.specs.Reading.{EachAt}
 use Rattle.tk_run.specs.Answering.{MayAnswer, IsAnswered, AllStand, MayReply, AreGiven}
-use Rattle.tk_run.specs.Answering.{set_of, frame_of}
+use Rattle.tk_run.specs.Answering.{Replies, AllReply, set_of, frame_of}
 use Rattle.tk_run.proofs.Cuts.{map-next, take_none}
 use Rattle.tk_run.proofs.TalkAll.{map-at}
 
@@ -41,69 +44,78 @@ replied-none shape stand rs may k d low =
           ∙ ap (map (reply_bytes other E)) (sym (take_none (slice_index_or rs k d).talk.asked.items));
     }
 
--- the frames of the next server
-pub asked-inside : (shape : Shape) (stand : Shape → List Placed → Type 0) (n i : ℕ)
-    (old now : List Reading) → length now ≡ length old → All (MayAnswer shape) old →
-    EachAt (IsReplied stand n) old now → i < shape.servers →
-    All (λ r. i < length r.talk.asked.items) now
-asked-inside shape stand n i old now counted may so_far inside k d low =
-    let there : k < length old = omega (arith, low, counted) in
-    omega (arith, inside, ap length (so_far k d there).asked, (may k d there).counted)
+-- the frames of a server
+pub asked-inside : (shape : Shape) (i : ℕ) (rs : List Reading) → All (MayAnswer shape) rs →
+    i < shape.servers → All (λ r. i < length r.talk.asked.items) rs
+asked-inside shape i rs may inside k d low = omega (arith, inside, (may k d low).counted)
 
 -- they are reads of the sets
-pub replies-due : (shape : Shape) (stand : Shape → List Placed → Type 0) (n i : ℕ)
-    (old now : List Reading) (frames : List Frame) → length now ≡ length old →
-    All (MayAnswer shape) old → EachAt (IsReplied stand n) old now → i < shape.servers →
-    frames ≡ map (frame_of i) now → MayReply shape (i + 1) now frames
-replies-due shape stand n i old now frames counted may so_far inside frames_are =
-    let long : length frames ≡ length now =
-    ap length frames_are ∙ length-map now (frame_of i)
+pub replies-due : (shape : Shape) (i : ℕ) (rs : List Reading) (frames : List Frame) →
+    All (MayAnswer shape) rs → i < shape.servers → frames ≡ map (frame_of i) rs →
+    MayReply shape (i + 1) rs frames
+replies-due shape i rs frames may inside frames_are =
+    let long : length frames ≡ length rs =
+    ap length frames_are ∙ length-map rs (frame_of i)
     in
     record {
       low = omega arith;
       high = omega (arith, inside);
       counted = long;
-      same = λ k d low.
-          let there : k < length old = omega (arith, low, counted) in
-          ap (λ (e : EpochSet). e.shape) (ap arc_value (so_far k d there).set)
-          ∙ (may k d there).same;
+      same = λ k d low. (may k d low).same;
       asked = λ k d f low.
-          let here : k < length now = omega (arith, low, long) in
-          let there : k < length old = omega (arith, here, counted) in
-          let r = slice_index_or old k d in
-          let s = slice_index_or now k d in
-          let is = so_far k d there in
-          let answer = may k d there in
+          let here : k < length rs = omega (arith, low, long) in
+          let r = slice_index_or rs k d in
+          let answer = may k d here in
           let frame : slice_index_or frames k f ≡ frame_of i r =
           ap (λ (xs : List Frame). slice_index_or xs k f) frames_are
-          ∙ get_or_default (map (frame_of i) now) k f (frame_of i d)
-          (omega (arith, here, length-map now (frame_of i)))
-          ∙ map-at (frame_of i) now k d here
-          ∙ ap (λ (xs : List Frame). slice_index_or xs i []) is.asked
+          ∙ get_or_default (map (frame_of i) rs) k f (frame_of i d)
+          (omega (arith, here, length-map rs (frame_of i)))
+          ∙ map-at (frame_of i) rs k d here
           in
-          subst (λ (e : EpochSet). IsAsked e (slice_index_or frames k f)) (sym (ap arc_value is.set))
-          (subst (IsAsked (set_of r)) (sym frame)
-          (answer.asked i [] (omega (arith, inside, answer.counted))));
+          subst (IsAsked (set_of r)) (sym frame)
+          (answer.asked i [] (omega (arith, inside, answer.counted)));
     }
 
--- the sets are the same as before
-pub stand-now : (shape : Shape) (E : List Placed) (stand : Shape → List Placed → Type 0) (n : ℕ)
-    (old now : List Reading) → length now ≡ length old → EachAt (IsReplied stand n) old now →
-    AllStand old shape E → AllStand now shape E
-stand-now shape E stand n old now counted so_far stands k d low =
-    let there : k < length old = omega (arith, low, counted) in
-    subst (λ (e : EpochSet). Stands shape E e.number e) (sym (ap arc_value (so_far k d there).set))
-    (stands k d there)
+-- as many replies as there are reads
+pub replies-counted : (shape : Shape) (E : List Placed) (i : ℕ) (rs : List Reading)
+    (replies : List Frame) → replies ≡ map (reply_bytes shape E) (map (frame_of i) rs) →
+    length replies ≡ length rs
+replies-counted shape E i rs replies are =
+    ap length are ∙ length-map (map (frame_of i) rs) (reply_bytes shape E)
+    ∙ length-map rs (frame_of i)
+
+-- what the next server replied, where these before it are given
+module _ (shape : Shape) (rs : List Reading) (answers given rest : List Replies) (x : Replies)
+    (whole : given ++ x ∷ rest ≡ answers) where
+  pub server-inside : length answers ≡ shape.servers → length given < shape.servers
+  server-inside counted =
+      omega (arith, counted, ap length whole, length-append given (x ∷ rest))
+
+  pub server-replied : (replies : Vec Frame Global) → x ≡ Ok replies → AllReply rs answers →
+      (other : Shape) (E : List Placed) → AllStand rs other E →
+      replies.items ≡ map (reply_bytes other E) (map (frame_of (length given)) rs)
+  server-replied replies is all other E stands =
+      let i = length given in
+      let low : i < length answers =
+      omega (arith, ap length whole, length-append given (x ∷ rest))
+      in
+      let at : slice_index_or answers i x ≡ Ok replies =
+      ap (λ (xs : List Replies). slice_index_or xs i x) (sym whole)
+      ∙ get_or-append_seam given x rest x
+      ∙ is
+      in
+      subst (λ (r : Replies). IfOk r
+      (λ v. v.items ≡ map (reply_bytes other E) (map (frame_of i) rs))) at
+      (all i x low other E stands)
 
 -- one server more has replied
-pub replied-next : (shape : Shape) (i : ℕ) (old now new : List Reading) (frames replies : List Frame) →
+pub replied-next : (shape : Shape) (i : ℕ) (old now new : List Reading) (replies : List Frame) →
     length now ≡ length old → All (MayAnswer shape) old → i < shape.servers →
-    EachAt (IsReplied (AllStand old) i) old now → frames ≡ map (frame_of i) now →
-    ((other : Shape) (E : List Placed) → AllStand now other E →
-    replies ≡ map (reply_bytes other E) frames) →
+    EachAt (IsReplied (AllStand old) i) old now →
+    ((other : Shape) (E : List Placed) → AllStand old other E →
+    replies ≡ map (reply_bytes other E) (map (frame_of i) old)) →
     AreGiven replies now new → EachAt (IsReplied (AllStand old) (i + 1)) old new
-replied-next shape i old now new frames replies counted may inside so_far frames_are replies_are given
-    k d low =
+replied-next shape i old now new replies counted may inside so_far replies_are given k d low =
     let here : k < length now = omega (arith, low, counted) in
     let r = slice_index_or old k d in
     let s = slice_index_or now k d in
@@ -117,30 +129,19 @@ replied-next shape i old now new frames replies counted may inside so_far frames
       asked = gift.asked ∙ is.asked;
       replies = λ other E stands.
           let due = reply_bytes other E in
-          let frame = frame_of i r in
-          let all : replies ≡ map due frames =
-          replies_are other E (stand-now other E (AllStand old) i old now counted so_far stands)
-          in
-          let fewer : k < length (map (frame_of i) now) =
-          omega (arith, here, length-map now (frame_of i))
-          in
-          let frame_is : slice_index_or frames k (frame_of i d) ≡ frame =
-          ap (λ (xs : List Frame). slice_index_or xs k (frame_of i d)) frames_are
-          ∙ map-at (frame_of i) now k d here
-          ∙ ap (λ (xs : List Frame). slice_index_or xs i []) is.asked
-          in
-          let many : k < length frames = omega (arith, fewer, ap length frames_are) in
-          let reply : slice_index_or replies k [] ≡ due frame =
-          ap (λ (xs : List Frame). slice_index_or xs k []) all
+          let frames = map (frame_of i) old in
+          let many : k < length frames = omega (arith, low, length-map old (frame_of i)) in
+          let reply : slice_index_or replies k [] ≡ due (frame_of i r) =
+          ap (λ (xs : List Frame). slice_index_or xs k []) (replies_are other E stands)
           ∙ get_or_default (map due frames) k [] (due (frame_of i d))
           (omega (arith, many, length-map frames due))
           ∙ map-at due frames k (frame_of i d) many
-          ∙ ap due frame_is
+          ∙ ap due (map-at (frame_of i) old k d low)
           in
-          map-next due r.talk.asked.items i frame s.talk.replies.items
+          map-next due r.talk.asked.items i (frame_of i r) s.talk.replies.items
           (slice_index_or new k d).talk.replies.items (slice_index_or replies k []) within
-          (get_or_default r.talk.asked.items i [] frame within) (is.replies other E stands) reply
-          gift.replies;
+          (get_or_default r.talk.asked.items i [] (frame_of i r) within)
+          (is.replies other E stands) reply gift.replies;
     }
 
 -- and at the end all have

@@ -1,8 +1,10 @@
 -- What the servers reply to the reads of a turn of threads, which lie with the clients.
 use Rattle.std.specs.Prelude.{◌≡◌, ℕ, ◌<◌, ◌≤◌, List, [], ◌∷◌, ◌++◌, All}
-use Rattle.std.specs.Prelude.{length, map, slice_index_or}
+use Rattle.std.specs.Prelude.{length, map, slice_index_or, Vec, Result, IfOk}
+use Rattle.std.specs.Global.{Global}
 use Rattle.std.specs.Arc.{arc_value}
 use Rattle.tk_shape.specs.declared.shape.Shape.{Shape}
+use Rattle.tk_shape.specs.declared.memory.Memory.{Memory}
 use Rattle.tk_frames.specs.declared.entry.Placed.{Placed}
 use Rattle.tk_replica.specs.Replies.{reply_bytes}
 use Rattle.tk_cluster.specs.declared.set.EpochSet.{EpochSet}
@@ -49,6 +51,21 @@ pub record MayReply (shape : Shape) (server : ℕ) (rs : List Reading) (frames :
   pub same : All (λ r. (set_of r).shape ≡ shape) rs
   pub asked : (k : ℕ) (d : Reading) (f : List ℕ) → k < length frames →
       IsAsked (set_of (slice_index_or rs k d)) (slice_index_or frames k f)
+
+-- what a server replies to all reads, if there was memory
+abbrev pub Replies : Type 0
+Replies = Result (Vec (List ℕ) Global) Memory
+
+-- The server at a place replies to these reads, over the entries that their sets stand for.
+abbrev pub AreReplies : ℕ → List Reading → Replies → Type 0
+AreReplies i rs result =
+    (shape : Shape) (E : List Placed) → AllStand rs shape E →
+    IfOk result (λ replies. replies.items ≡ map (reply_bytes shape E) (map (frame_of i) rs))
+
+-- so each of as many servers as there are answers
+abbrev pub AllReply : List Reading → List Replies → Type 0
+AllReply rs answers =
+    (i : ℕ) (d : Replies) → i < length answers → AreReplies i rs (slice_index_or answers i d)
 
 -- one reply more lies with it
 pub record IsGiven (reply : List ℕ) (old new : Reading) : Type 0 where

@@ -1,22 +1,22 @@
 //! The reads of a turn of threads, as the servers answer them.
-ghost use Rattle.std.specs.Prelude.{◌≡◌, ◌≤◌, ◌<◌, ◌++◌, ◌∷◌, [], ℕ, List, All, IfOk, OnOk};
-ghost use Rattle.std.specs.Prelude.{length, map, slice_index_or};
+ghost use Rattle.std.specs.Prelude.{◌≡◌, ◌≤◌, ◌<◌, List, All, IfOk, OnOk, length};
+ghost use Rattle.std.specs.Thread.{IsSync};
 ghost use Rattle.tk_shape.specs.declared.shape.Shape.{Shape};
 ghost use Rattle.tk_frames.specs.declared.entry.Placed.{Placed};
-ghost use Rattle.tk_replica.specs.Replies.{reply_bytes};
-ghost use Rattle.tk_cluster.specs.declared.error.AnswerError.TheVariants as errors;
-ghost use Rattle.tk_cluster.specs.Refusals.{IsAsked};
-ghost use Rattle.tk_cluster.specs.Sets.{Stands};
-ghost use Rattle.tk_run.specs.declared.talking.Reading.{Reading as ReadingOf};
 ghost use Rattle.tk_run.specs.Reading.{EachAt};
-ghost use Rattle.tk_run.specs.Answering.{MayAnswer, IsAnswered, AllStand, MayReply, AreGiven};
-ghost use Rattle.tk_run.specs.Answering.{frame_of, epoch_of};
+ghost use Rattle.tk_run.specs.Answering.{MayAnswer, IsAnswered, AllStand, AreGiven};
+ghost use Rattle.tk_run.specs.Answering.{AreReplies, AllReply};
 
+use crate::replying::replies_of;
+use crate::sharing::side_by_side;
 use crate::talking::Reading;
 use std::alloc::{AllocGlobal, Global};
+use std::thread;
 use std::thread::Threads;
-use tk_cluster::{AnswerError, EpochSet};
 use tk_shape::{Bytes, Memory};
+
+/// What a server replies to the reads of all clients, if there was memory.
+type Replies = Result<Vec<Bytes>, Memory>;
 
 /// So many servers answer the reads of all clients.
 pub(crate) fn answer_all<R: Threads + Sync + AllocGlobal>(
@@ -31,97 +31,60 @@ pub(crate) fn answer_all<R: Threads + Sync + AllocGlobal>(
     requires stand { (shape : Shape) × (E : List Placed) × AllStand readings.old shape E }
     ensures { OnOk result (EachAt (IsAnswered (AllStand readings.old)) readings.old readings.new) }
 {
-    'servers: for server in 0..servers {
-        let frames = frames_for(rt.alloc(), server as usize, readings)?;
-        let replies = replies_from(rt, server + 1, readings, frames.as_slice(), workers)?;
+    let answers = answers_from(rt, servers, readings, workers)?;
+    give_all(readings, answers)
+}
+
+/// What so many servers reply, several of them at once, which share the workers.
+fn answers_from<R: Threads + Sync + AllocGlobal>(
+    rt: &R,
+    servers: u32,
+    readings: &[Reading],
+    workers: u32,
+) -> Result<Vec<Replies>, Memory>
+    requires workers { (1 ≤ workers) × (workers ≤ 64) }
+    requires asked { (shape : Shape) × (servers ≡ shape.servers)
+        × All (MayAnswer shape) readings.now }
+    ensures counted { IfOk result (λ v. length v.items ≡ servers) }
+    ensures replies { IfOk result (λ v. AllReply readings.now v.items) }
+{
+    let mut answers = unanswered(rt.alloc(), servers)?;
+    let vectors = 2 * readings.len() as u64;
+    let sides = side_by_side(servers, vectors, workers);
+    let each = workers / sides;
+    let work = |server: usize, replies: &mut Replies|
+        requires { IsSync R.row × (1 ≤ each) × (each ≤ 64)
+            × ((shape : Shape) × (server < shape.servers) × All (MayAnswer shape) readings.now) }
+        ensures { AreReplies server readings.entry.now replies.exit.now }
+    { *replies = replies_of(rt, server, readings, each) };
+    thread::for_each_mut(rt, answers.as_mut_slice(), sides as usize, &work);
+    Ok(answers)
+}
+
+/// A place for what each of so many servers replies.
+fn unanswered(alloc: Global, servers: u32) -> Result<Vec<Replies>, Memory>
+    ensures { IfOk result (λ v. length v.items ≡ servers) }
+{
+    let mut answers = Vec::new(alloc);
+    'servers: for _server in 0..servers {
+        answers.push(Err(Memory))?;
+    }
+    Ok(answers)
+}
+
+/// Each client is given the replies of all servers, in their order.
+fn give_all(readings: &mut [Reading], answers: Vec<Replies>) -> Result<(), Memory>
+    requires asked { (shape : Shape) × (length answers.items ≡ shape.servers)
+        × All (MayAnswer shape) readings.old }
+    requires stand { (shape : Shape) × (E : List Placed) × AllStand readings.old shape E }
+    requires replies { AllReply readings.old answers.items }
+    ensures { OnOk result (EachAt (IsAnswered (AllStand readings.old)) readings.old readings.new) }
+{
+    'servers: for replies in answers {
+        let replies = replies?;
         give(readings, replies)?;
     }
     Ok(())
-}
-
-/// What all clients ask of the server at a place.
-fn frames_for(alloc: Global, server: usize, readings: &[Reading]) -> Result<Vec<Bytes>, Memory>
-    requires { All (λ r. server < length r.talk.asked.items) readings.now }
-    ensures { IfOk result (λ frames. frames.items ≡ map (frame_of server) readings.now) }
-{
-    let mut frames = Vec::new(alloc);
-    'readings: for reading in readings {
-        frames.push(reading.talk.asked[server].clone()?)?;
-    }
-    Ok(frames)
-}
-
-/// What a server replies to the frames of these clients. Those of clients side by side that read
-/// one epoch are answered in one batch.
-fn replies_from<R: Threads + Sync + AllocGlobal>(
-    rt: &R,
-    server: u32,
-    readings: &[Reading],
-    frames: &[Bytes],
-    workers: u32,
-) -> Result<Vec<Bytes>, Memory>
-    requires workers { (1 ≤ workers) × (workers ≤ 64) }
-    requires asked { (shape : Shape) × MayReply shape server readings.now frames.now }
-    ensures { (shape : Shape) (E : List Placed) → AllStand readings.now shape E
-        → IfOk result (λ replies. replies.items ≡ map (reply_bytes shape E) frames.now) }
-{
-    let mut replies = Vec::new(rt.alloc());
-    let mut clients = readings;
-    let mut asked = frames;
-    'rows: while !clients.is_empty() {
-        let (row, behind) = asked.split_at(in_a_row(clients));
-        let set = clients[0].talk.set.as_ref();
-        let mut more = batch(rt, set, server, row, workers)?;
-        let (_answered, others) = clients.split_at(row.len());
-        replies.append(&mut more)?;
-        clients = others;
-        asked = behind;
-    }
-    Ok(replies)
-}
-
-/// How many clients, from the first on, read one epoch without another between them.
-fn in_a_row(readings: &[Reading]) -> usize
-    requires { 0 < length readings.now }
-    ensures some { 0 < result }
-    ensures within { result ≤ length readings.now }
-    ensures same { (k : ℕ) (d : ReadingOf) → k < result
-        → epoch_of (slice_index_or readings.now k d) ≡ epoch_of (slice_index_or readings.now 0 d) }
-{
-    let epoch = readings[0].talk.set.number();
-    let mut count = 1;
-    'row: while count < readings.len() && readings[count].talk.set.number() == epoch {
-        count += 1;
-    }
-    count
-}
-
-/// What a server replies to reads of a set's epoch.
-fn batch<R: Threads + Sync>(
-    rt: &R,
-    set: &EpochSet,
-    server: u32,
-    frames: &[Bytes],
-    workers: u32,
-) -> Result<Vec<Bytes>, Memory>
-    requires server { (1 ≤ server) × (server ≤ set.now.shape.servers) }
-    requires workers { (1 ≤ workers) × (workers ≤ 64) }
-    requires asked { All (IsAsked set.now) frames.now }
-    ensures { (shape : Shape) (E : List Placed) → Stands shape E set.now.number set.now
-        → IfOk result (λ replies. replies.items ≡ map (reply_bytes shape E) frames.now) }
-{
-    match set.answer_many(rt, server, frames, workers) {
-        Ok(replies) => Ok(replies),
-        Err(error) => Err(wanting(error)),
-    }
-}
-
-/// The one error that is left where what is asked of a set are reads of its epoch.
-fn wanting(error: AnswerError) -> Memory
-    requires { error ≡ errors.Memory }
-{
-    let _error = error;
-    Memory
 }
 
 /// Each client is given the reply of its place.

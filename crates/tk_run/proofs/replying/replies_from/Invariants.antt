@@ -4,7 +4,7 @@ use Rattle.tk_shape.specs.declared.shape.Shape.{Shape}
 use Rattle.tk_frames.specs.declared.entry.Placed.{Placed}
 use Rattle.tk_replica.specs.Replies.{reply_bytes}
 use Rattle.tk_run.specs.Answering.{AllStand, MayReply}
-use Rattle.tk_run.proofs.answering.replies_from.Given as goal
+use Rattle.tk_run.proofs.replying.replies_from.Given as goal
 
 abbrev pub invariant-rows : goal.invariant-rows
 invariant-rows g l =

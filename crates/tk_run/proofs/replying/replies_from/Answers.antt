@@ -1,5 +1,5 @@
 -- The clients of a row are replied, from the set of the first of them.
-use Rattle.std.proofs.Common.{◌≡◌, ◌+◌, ◌<◌, ◌≤◌, ℕ, List, All, length, ap, sym, ◌∙◌, subst, arith}
+use Rattle.std.proofs.Common.{◌≡◌, ◌<◌, ◌≤◌, List, All, length, ap, sym, ◌∙◌, subst, arith}
 use Rattle.std.proofs.Common.{take, drop, rules}
 use Rattle.std.proofs.lemmas.List.Elements.{All-drop}
 use Rattle.std.specs.Prelude.{slice_index_or}
@@ -9,10 +9,9 @@ use Rattle.tk_cluster.specs.declared.set.EpochSet.{EpochSet}
 use Rattle.tk_cluster.specs.Refusals.{IsAsked}
 use Rattle.tk_cluster.specs.Sets.{Stands}
 use Rattle.tk_run.specs.declared.talking.Reading.{Reading}
-use Rattle.tk_run.specs.Rows.{Frame}
 use Rattle.tk_run.specs.Answering.{MayReply, set_of, epoch_of}
 use Rattle.tk_run.proofs.BatchLaws.{reply-rest, row-asked, rows-next, rows-end}
-use Rattle.tk_run.proofs.answering.replies_from.Goals as goal
+use Rattle.tk_run.proofs.replying.replies_from.Goals as goal
 
 pub split_at-requires : goal.split_at-requires
 split_at-requires g c =

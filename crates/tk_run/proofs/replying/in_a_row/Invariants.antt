@@ -3,7 +3,7 @@ use Rattle.std.proofs.Common.{◌≡◌, ℕ, ◌<◌, ◌≤◌, ◌-◌, lengt
 use Rattle.std.specs.Prelude.{slice_index_or}
 use Rattle.tk_run.specs.declared.talking.Reading.{Reading}
 use Rattle.tk_run.specs.Answering.{epoch_of}
-use Rattle.tk_run.proofs.answering.in_a_row.Given as goal
+use Rattle.tk_run.proofs.replying.in_a_row.Given as goal
 
 abbrev pub invariant-row : goal.invariant-row
 invariant-row l =
