@@ -152,7 +152,13 @@ fn play_turn<
         workers: stage.workers,
     };
     let talks = talk_all(rt, &round, &mut course.group.clients, slips)?;
-    sights_from(rt.alloc(), servers, entries.as_slice(), talks.as_slice())
+    sights_from(
+        rt,
+        servers,
+        entries.as_slice(),
+        talks.as_slice(),
+        stage.workers,
+    )
 }
 
 /// What each client has from its part in a turn, and the frames of the turn's entries: texts are

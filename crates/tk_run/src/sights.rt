@@ -1,4 +1,5 @@
-ghost use Rattle.std.specs.Prelude.{◌≡◌, ◌≤◌, ◌<◌, ◌+◌, ◌-◌, ◌++◌, ℕ, List, [], length, flat_map};
+ghost use Rattle.std.specs.Prelude.{◌≡◌, ◌≤◌, ◌<◌, ◌+◌, ◌-◌, ◌++◌, ℕ, List, [], Ok, length, map};
+ghost use Rattle.std.specs.Prelude.{flat_map};
 ghost use Rattle.std.specs.Prelude.{All, IsTrue, IfOk, OnErr, count_by, slice_index_or};
 ghost use Rattle.std.specs.List.{list_all};
 ghost use Rattle.tk_io.specs.Content.{Rose};
@@ -15,7 +16,9 @@ ghost use Rattle.tk_run.specs.Threads.{TapsAfter};
 
 use crate::arranging::behind;
 use crate::talking::Talk;
-use std::alloc::Global;
+use std::alloc::{AllocGlobal, Global};
+use std::thread;
+use std::thread::Threads;
 use tk_frames::{Entry, Placed, decode_write, encode_placed};
 use tk_io::{Failed, Taps};
 use tk_schedule::{Item, place};
@@ -80,24 +83,56 @@ fn entry_from(
     }
 }
 
-/// What each server saw of a turn: its entries, and then each read with the reply.
-pub(crate) fn sights_from(
-    alloc: Global,
+/// What a server saw of a turn, if there was memory.
+type Sight = Result<Bytes, Memory>;
+
+/// What each server saw of a turn: its entries, and then each read with the reply. The workers write
+/// it for several servers at once.
+pub(crate) fn sights_from<R: Threads + Sync + AllocGlobal>(
+    rt: &R,
     servers: u32,
     entries: &[u8],
     talks: &[Talk],
+    workers: u32,
 ) -> Result<Vec<Bytes>, Memory>
-    requires { All (HasTalked servers) talks.now }
+    requires workers { 1 ≤ workers }
+    requires talked { All (HasTalked servers) talks.now }
     ensures counted { IfOk result (λ v. length v.items ≡ servers) }
     ensures sights { (i : ℕ) (d : List ℕ) → i < servers
         → IfOk result (λ v. slice_index_or v.items i d
         ≡ entries.now ++ flat_map (talk_seen i) talks.now) }
 {
+    let alloc = rt.alloc();
+    let mut sights = unseen(alloc, servers)?;
+    let work = |server: usize, sight: &mut Sight|
+        requires { (n : ℕ) × (server < n) × All (HasTalked n) talks.now }
+        ensures { IfOk sight.exit.now (λ bytes. bytes
+            ≡ entries.entry.now ++ flat_map (talk_seen server) talks.entry.now) }
+    { *sight = sight_from(alloc, server, entries, talks) };
+    thread::for_each_mut(rt, sights.as_mut_slice(), workers as usize, &work);
+    all_seen(alloc, sights)
+}
+
+/// A place for what each of so many servers saw.
+fn unseen(alloc: Global, servers: u32) -> Result<Vec<Sight>, Memory>
+    ensures { IfOk result (λ v. length v.items ≡ servers) }
+{
     let mut sights = Vec::new(alloc);
-    'servers: for server in 0..servers {
-        sights.push(sight_from(alloc, server as usize, entries, talks)?)?;
+    'servers: for _server in 0..servers {
+        sights.push(Err(Memory))?;
     }
     Ok(sights)
+}
+
+/// What all servers saw, if there was memory for each.
+fn all_seen(alloc: Global, sights: Vec<Sight>) -> Result<Vec<Bytes>, Memory>
+    ensures { IfOk result (λ v. sights.items ≡ map Ok v.items) }
+{
+    let mut seen = Vec::new(alloc);
+    'servers: for sight in sights {
+        seen.push(sight?)?;
+    }
+    Ok(seen)
 }
 
 /// What a server saw of a turn.

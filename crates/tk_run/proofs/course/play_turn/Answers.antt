@@ -24,8 +24,8 @@ talk_all-requires-after_bounds g c κs within =
     in
     (S, filled S.shape K, sym c.args.stage.now.one_shape, written.reads (filled S.shape K) goes)
 
-pub sights_from-requires : goal.sights_from-requires
-sights_from-requires g c =
+pub sights_from-requires-clause-talked : goal.sights_from-requires-clause-talked
+sights_from-requires-clause-talked g c κs within =
     let S = c.args.stage.now.script.now in
     let book = g.D.Draws.book c.args.stage.now.draws.now in
     let write = write_at S (words_of S.shape book) in
