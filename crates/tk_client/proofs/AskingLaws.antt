@@ -55,6 +55,13 @@ whole_vectors count size some =
 
 -- ---- vectors one behind the other
 
+-- of several vectors the last lies behind the others
+pub last_behind : (count size : ℕ) → 2 ≤ count → (count - 1) * size + size ≡ count * size
+last_behind zero size h = absurd (omega arith)
+last_behind (suc n) size h =
+    let less : suc n - 1 ≡ n = omega arith in
+    ap (λ k. k * size + size) less ∙ omega arith
+
 piece_at : (size i count : ℕ) (bytes : List ℕ) → i < count →
     get_or (pieces size count bytes) i [] ≡ take size (drop (i * size) bytes)
 piece_at size i zero bytes h = absurd (omega arith)

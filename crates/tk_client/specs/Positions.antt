@@ -7,7 +7,7 @@ use Rattle.tk_client.specs.declared.positions.Spot.{Spot}
 
 -- the first of these are the positions of the number, as they come from there
 abbrev pub IsSpotOf : Origin → Spot → Type 0
-IsSpotOf o spot = take o.hits spot.hits ≡ hits_under o.bits o.hits o.key spot.number
+IsSpotOf o spot = take o.hits spot.hits ≡ hits_under o.bits o.hits o.seed spot.number
 
 -- what may be kept of positions that come from there; nothing where they come from nowhere
 abbrev pub IsKept : Option Origin → Option Spot → Type 0
@@ -18,7 +18,7 @@ IsKept (Some o) (Some spot) = IsSpotOf o spot
 -- the positions that a book has for a log's numbers come from there
 pub record IsOrigin (shape : Shape) (b : WordBook) (log : ℕ) (o : Origin) : Type 0 where
   pub hits : o.hits ≡ shape.hits
-  pub each : (s : ℕ) → hits_of shape b log s ≡ hits_under o.bits o.hits o.key s
+  pub each : (s : ℕ) → hits_of shape b log s ≡ hits_under o.bits o.hits o.seed s
 
 abbrev pub IsOriginOrNone : Shape → WordBook → ℕ → Option Origin → Type 0
 IsOriginOrNone shape b log None = Unit {0}

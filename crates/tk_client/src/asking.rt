@@ -9,6 +9,7 @@ ghost use Rattle.tk_frames.specs.Spelling.{read_frame};
 ghost use Rattle.tk_client.specs.Asked.{pair_for, frame_with, asked};
 
 use crate::open_read::OpenRead;
+use crate::pairing::{KeptPair, ReadPair, pair_to_keep};
 use crate::target::Target;
 use std::alloc::Global;
 use tk_bits::share;
@@ -16,55 +17,60 @@ use tk_frames::{ReadFrame, encode_read};
 use tk_shape::{Bytes, Memory, Shape};
 use tk_words::Draws;
 
-/// What a client asks of every server in a read, server by server. A read that is for nothing asks
-/// for buckets that are drawn, and otherwise as any other.
+/// What a client asks of every server in a read, server by server, and what is kept of its buckets.
+/// A read that is for nothing asks for buckets that are drawn, and otherwise as any other.
 pub(crate) fn read_frames<D: Draws>(
     alloc: Global,
     shape: &Shape,
     draws: &D,
     client: u32,
     read: OpenRead,
-) -> Result<Vec<ReadFrame>, Memory>
+) -> Result<(Vec<ReadFrame>, Option<KeptPair>), Memory>
     requires one_shape { D.shape draws.now ≡ shape.now }
     requires client_in { client < shape.now.clients }
     requires turn_in { read.turn < turn_count shape.now }
     requires log_in { IfSome read.target (λ t. t.log < shape.now.logs) }
     requires number_in { IfSome read.target (λ t. t.number < turn_count shape.now) }
-    ensures { IfOk result (λ frames. frames.items
+    ensures { IfOk result (λ r. r.0.items
         ≡ asked shape.now (D.book draws.now) read.turn client read.epoch read.target) }
 {
     let each = (shape.servers as usize - 1) * shape.vector_len() as usize;
     let mut drawn = vec![in alloc; 0u8; 2 * each]?;
     let fresh = draws.fresh_read(client, read.turn, drawn.as_mut_slice());
-    let (first_bucket, second_bucket) = buckets(draws, read.target, fresh);
+    let ReadPair { pair, kept } = buckets(shape, draws, read.target, fresh);
+    let (first_bucket, second_bucket) = pair;
     let (first, second) = drawn.as_slice().split_at(each);
     let first = all_shares(alloc, shape, first_bucket, first)?;
     let second = all_shares(alloc, shape, second_bucket, second)?;
-    frames_of(
-        alloc,
-        shape,
-        client,
-        read,
-        first.as_slice(),
-        second.as_slice(),
-    )
+    let (first, second) = (first.as_slice(), second.as_slice());
+    let frames = frames_of(alloc, shape, client, read, first, second)?;
+    Ok((frames, kept))
 }
 
-/// The buckets of a read: the pair of what it is for, or else those that are drawn.
-fn buckets<D: Draws>(draws: &D, target: Option<Target>, fresh: (u32, u32)) -> (u32, u32)
-    requires log_in { IfSome target (λ t. t.log < (D.shape draws.now).logs) }
-    requires number_in { IfSome target (λ t. t.number < turn_count (D.shape draws.now)) }
-    requires first_in { fresh.0 < (D.shape draws.now).buckets }
-    requires second_in { fresh.1 < (D.shape draws.now).buckets }
+/// The buckets of a read: the pair of what it is for, or else those that are drawn, of which nothing
+/// is kept.
+fn buckets<D: Draws>(
+    shape: &Shape,
+    draws: &D,
+    target: Option<Target>,
+    fresh: (u32, u32),
+) -> ReadPair
+    requires one_shape { D.shape draws.now ≡ shape.now }
+    requires log_in { IfSome target (λ t. t.log < shape.now.logs) }
+    requires number_in { IfSome target (λ t. t.number < turn_count shape.now) }
+    requires first_in { fresh.0 < shape.now.buckets }
+    requires second_in { fresh.1 < shape.now.buckets }
     ensures pair { (g c : ℕ) → fresh ≡ fresh_pair (D.shape draws.now) (D.book draws.now) g c
-        → result ≡ pair_for (words_of (D.shape draws.now) (D.book draws.now)) g c
-        target }
-    ensures first_in { result.0 < (D.shape draws.now).buckets }
-    ensures second_in { result.1 < (D.shape draws.now).buckets }
+        → result.pair ≡ pair_for (words_of (D.shape draws.now) (D.book draws.now)) g c target }
+    ensures first_in { result.pair.0 < shape.now.buckets }
+    ensures second_in { result.pair.1 < shape.now.buckets }
 {
     match target {
-        Some(target) => draws.pair(target.log, target.number),
-        None => fresh,
+        Some(target) => pair_to_keep(shape, draws, target),
+        None => ReadPair {
+            pair: fresh,
+            kept: None,
+        },
     }
 }
 
@@ -78,10 +84,11 @@ fn all_shares(alloc: Global, shape: &Shape, bucket: u32, drawn: &[u8]) -> Result
     ensures long { IfOk result (λ all.
         length all.items ≡ shape.now.servers * vector_len shape.now) }
 {
-    let mut last = vec![in alloc; 0u8; shape.vector_len() as usize]?;
-    share(bucket, drawn, last.as_mut_slice());
-    let mut all = Vec::from_slice(alloc, drawn)?;
-    all.extend_from_slice(last.as_slice())?;
+    let size = shape.servers as usize * shape.vector_len() as usize;
+    let mut all = vec![in alloc; 0u8; size]?;
+    let (others, last) = all.as_mut_slice().split_at_mut(drawn.len());
+    others.copy_from_slice(drawn);
+    share(bucket, drawn, last);
     Ok(all)
 }
 

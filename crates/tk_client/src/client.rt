@@ -19,8 +19,9 @@ use crate::asking::{append_frames, read_frames};
 use crate::got::Got;
 use crate::open_read::OpenRead;
 use crate::outbox::Outbox;
+use crate::pairing::KeptPair;
 use crate::reader::Reader;
-use crate::replies::answer_to;
+use crate::replies::{answer_of, frames_named};
 use crate::say_error::SayError;
 use crate::sight::Sight;
 use crate::take_error::TakeError;
@@ -39,6 +40,8 @@ pub struct Client {
     outbox: Outbox,
     reader: Reader,
     read: Option<OpenRead>,
+    /// The buckets that the open read asks for, if they are kept.
+    pair: Option<KeptPair>,
 }
 
 impl Model for Client {
@@ -81,6 +84,7 @@ impl Client {
             outbox: Outbox::open(alloc, shape, writes)?,
             reader: Reader::new(alloc, follows)?,
             read: None,
+            pair: None,
         })
     }
 
@@ -189,9 +193,10 @@ impl Client {
             epoch,
             target,
         };
-        let frames = read_frames(alloc, &self.shape, draws, self.number, read)?;
+        let (frames, pair) = read_frames(alloc, &self.shape, draws, self.number, read)?;
         append_frames(alloc, frames.as_slice(), out)?;
         self.read = Some(read);
+        self.pair = pair;
         Ok(())
     }
 
@@ -216,10 +221,13 @@ impl Client {
         ensures kept { OnErr result (self.new ≡ self.old) }
     {
         let read = self.read.unwrap();
-        let answer = answer_to(alloc, &self.shape, draws, self.number, read, replies)?;
+        let frames = frames_named(alloc, &self.shape, self.number, read, replies)?;
+        let frames = frames.as_slice();
+        let answer = answer_of(alloc, &self.shape, draws, frames, read.target, self.pair)?;
         self.reader
             .take(alloc, &self.shape, read.epoch, read.target, answer)?;
         self.read = None;
+        self.pair = None;
         Ok(())
     }
 

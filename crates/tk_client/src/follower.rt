@@ -81,7 +81,8 @@ impl Follower {
             epoch,
             target: wanted,
         };
-        asking::read_frames(alloc, &self.shape, draws, client, read)
+        let (frames, _kept) = asking::read_frames(alloc, &self.shape, draws, client, read)?;
+        Ok(frames)
     }
 
     /// Reads over an epoch, of which these are the buckets and the filter that shows what is worth

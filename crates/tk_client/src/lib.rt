@@ -12,6 +12,7 @@ mod laws;
 mod looking;
 mod open_read;
 mod outbox;
+mod pairing;
 mod positions;
 mod reader;
 mod recording;

@@ -30,7 +30,7 @@ pub(crate) fn text_in_buckets<D: Draws, B: Blocks>(
     let Some(target) = target else {
         return Ok(None);
     };
-    let wanted = wanted_for(shape, draws, target);
+    let wanted = wanted_for(shape, draws, target, None);
     let first = bucket_at(buckets, wanted.pair.0);
     let second = bucket_at(buckets, wanted.pair.1);
     text_in_blocks(alloc, shape, draws, wanted, first, second)

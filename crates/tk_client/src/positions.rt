@@ -11,7 +11,7 @@ use tk_words::Draws;
 /// What the filter positions of all numbers of a log come from.
 #[derive(Clone, Copy, Debug, PartialEq, Eq)]
 pub(crate) struct Origin {
-    pub key: [u8; 32],
+    pub seed: [u8; 32],
     /// How many positions the filter has.
     pub bits: u32,
     /// How many of them each number has.
@@ -117,9 +117,9 @@ fn origin_of<D: Draws>(shape: &Shape, draws: &D, log: u32) -> Option<Origin>
     requires log_in { log < shape.now.logs }
     ensures { IsOriginOrNone shape.now (D.book draws.now) log result }
 {
-    let key = draws.hits_key(log)?;
+    let seed = draws.log_seeds(log)?.second;
     Some(Origin {
-        key,
+        seed,
         bits: shape.filter_bits,
         hits: shape.hits,
     })

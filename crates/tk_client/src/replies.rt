@@ -14,6 +14,7 @@ ghost use Rattle.tk_client.specs.Replies.{other_number, other_name, first_other}
 
 use crate::joining::joined;
 use crate::open_read::OpenRead;
+use crate::pairing::KeptPair;
 use crate::take_error::TakeError;
 use crate::taking::{text_in_blocks, wanted_for};
 use crate::target::Target;
@@ -22,22 +23,17 @@ use tk_frames::{FrameError, ReplyFrame, decode_reply};
 use tk_shape::{Bytes, Memory, Shape};
 use tk_words::Draws;
 
-/// The text that replies to a read of a client give, if they are what was asked for.
-pub(crate) fn answer_to<D: Draws>(
+/// The frames of the replies to a read of a client, if they are what was asked for.
+pub(crate) fn frames_named(
     alloc: Global,
     shape: &Shape,
-    draws: &D,
     client: u32,
     read: OpenRead,
     replies: &[Bytes],
-) -> Result<Option<Bytes>, TakeError>
-    requires one_shape { D.shape draws.now ≡ shape.now }
+) -> Result<Vec<ReplyFrame>, TakeError>
     requires counted { length replies.now ≡ shape.now.servers }
-    requires log_in { IfSome read.target (λ t. t.log < shape.now.logs) }
-    requires number_in { IfSome read.target (λ t. t.number < turn_count shape.now) }
-    ensures answer { let words = words_of shape.now (D.book draws.now) in
-        IfOk result (λ o. o ≡ answer_in shape.now words (frames_in shape.now replies.now)
-        read.target) }
+    ensures frames { IfOk result (λ frames. frames.items ≡ frames_in shape.now replies.now) }
+    ensures in_range { IfOk result (λ frames. AllByRecursion (IsReply shape.now) frames.items) }
     ensures may { OnOk result (refusal shape.now client read.turn read.epoch replies.now ≡ None) }
     ensures refused { IfErr result
         (IsRefusedForOrMemory (refusal shape.now client read.turn read.epoch replies.now)) }
@@ -45,7 +41,7 @@ pub(crate) fn answer_to<D: Draws>(
 {
     let frames = decode_all(alloc, shape, replies)?;
     check_names(frames.as_slice(), client, read.turn, read.epoch)?;
-    Ok(answer_of(alloc, shape, draws, frames.as_slice(), read.target)?)
+    Ok(frames)
 }
 
 /// The frames of replies, server by server.
@@ -132,13 +128,14 @@ fn check_number(server: u32, want: u32, got: u32) -> Result<(), TakeError>
     }
 }
 
-/// The text that replies give for what a read was for.
-fn answer_of<D: Draws>(
+/// The text that replies give for what a read was for, the buckets of which may be kept.
+pub(crate) fn answer_of<D: Draws>(
     alloc: Global,
     shape: &Shape,
     draws: &D,
     replies: &[ReplyFrame],
     target: Option<Target>,
+    kept: Option<KeptPair>,
 ) -> Result<Option<Bytes>, Memory>
     requires one_shape { D.shape draws.now ≡ shape.now }
     requires in_range { AllByRecursion (IsReply shape.now) replies.now }
@@ -151,7 +148,7 @@ fn answer_of<D: Draws>(
         return Ok(None);
     };
     let (first, second) = joined(alloc, shape, replies)?;
-    let wanted = wanted_for(shape, draws, target);
+    let wanted = wanted_for(shape, draws, target, kept);
     text_in_blocks(
         alloc,
         shape,

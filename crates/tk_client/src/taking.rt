@@ -5,6 +5,7 @@ ghost use Rattle.tk_words.specs.Words.{words_of, opened};
 ghost use Rattle.tk_frames.specs.Slots.{slot_from, slots_in, accepted, earliest, text_among};
 ghost use Rattle.tk_client.specs.Taken.{earlier_of_both};
 
+use crate::pairing::{KeptPair, pair_of_target};
 use crate::target::Target;
 use std::alloc::Global;
 use tk_frames::{u32_at, u64_at};
@@ -22,8 +23,13 @@ pub(crate) struct Wanted {
 /// The position that stands in a slot that is accepted, and its text.
 type Accepted = (u64, Bytes);
 
-/// What a read for a target looks for.
-pub(crate) fn wanted_for<D: Draws>(shape: &Shape, draws: &D, target: Target) -> Wanted
+/// What a read for a target looks for, the buckets of which may be kept.
+pub(crate) fn wanted_for<D: Draws>(
+    shape: &Shape,
+    draws: &D,
+    target: Target,
+    kept: Option<KeptPair>,
+) -> Wanted
     requires one_shape { D.shape draws.now ≡ shape.now }
     requires log_in { target.log < shape.now.logs }
     requires number_in { target.number < turn_count shape.now }
@@ -36,7 +42,7 @@ pub(crate) fn wanted_for<D: Draws>(shape: &Shape, draws: &D, target: Target) -> 
     Wanted {
         log: target.log,
         number: target.number,
-        pair: draws.pair(target.log, target.number),
+        pair: pair_of_target(shape, draws, target, kept),
     }
 }
 

@@ -32,9 +32,8 @@ pub(crate) fn text_write<D: Draws>(
         IfOk result (λ w. w ≡ write_of words turn client (Some waiting.now)) }
 {
     let number = waiting.number as u32;
-    let (first, second) = draws.pair(waiting.log, number);
     let mut hits = vec![in alloc; 0u32; shape.hits as usize]?;
-    draws.hits(waiting.log, number, hits.as_mut_slice());
+    let (first, second) = draws.pair_and_hits(waiting.log, number, hits.as_mut_slice());
     let mut sealed = vec![in alloc; 0u8; shape.block as usize]?;
     draws.seal(
         waiting.log,

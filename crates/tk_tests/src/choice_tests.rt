@@ -1,4 +1,4 @@
-use tk_choice::{hits, pair};
+use tk_choice::{hits, pair, pair_and_hits};
 use tk_handle::Handle;
 
 const BITS: u32 = 64;
@@ -33,4 +33,7 @@ fn places_of_a_root(rt: HostRuntime) {
     assert!(rt; BITS.is_power_of_two());
     hits(&handle, 5, BITS, &mut places);
     assert_eq!(rt; places.as_slice(), [4, 14, 58, 33].as_slice());
+    let mut same = [9; 4];
+    assert_eq!(rt; pair_and_hits(&handle, 5, buckets, BITS, &mut same), (5, 4));
+    assert_eq!(rt; same.as_slice(), places.as_slice());
 }

@@ -6,7 +6,7 @@ use std::alloc::Global;
 use tk_handle::Handle;
 use tk_seal::allowed;
 use tk_shape::{Memory, Shape};
-use tk_words::{Book, DrawnDraws, Draws, KeyedDraws, Tape, TapeError};
+use tk_words::{Book, DrawnDraws, Draws, KeyedDraws, LogSeeds, Tape, TapeError};
 
 // Two servers, eight buckets, two clients, two turns and one log.
 fn small() -> Result<Shape, Memory>
@@ -71,7 +71,9 @@ fn gives_number<D: Draws>(draws: &D, given: &Given) -> bool
 {
     let mut hits = [9; 1];
     draws.hits(0, 1, &mut hits);
-    hits == given.hits && draws.pair(0, 1) == given.pair
+    let mut same = [9; 1];
+    let pair = draws.pair_and_hits(0, 1, &mut same);
+    hits == given.hits && same == hits && draws.pair(0, 1) == given.pair && pair == given.pair
 }
 
 // Whether a text is sealed for that number to the block, and no other block opens.
@@ -168,7 +170,7 @@ fn words_of_a_tape(rt: HostRuntime) -> Result<(), Memory> {
     assert!(rt; gives_number(&draws, &OF_TAPE));
     assert!(rt; gives_sealed(&draws, &OF_TAPE));
     assert!(rt; gives_fresh(&draws, &OF_TAPE));
-    assert!(rt; draws.hits_key(0).is_none());
+    assert!(rt; draws.log_seeds(0).is_none());
     assert!(rt; matches!(&Book::Drawn(draws), Book::Drawn(_)));
     Ok(())
 }
@@ -208,7 +210,12 @@ fn words_of_keys(rt: HostRuntime) -> Result<(), Memory> {
     assert!(rt; gives_number(&draws, &OF_KEYS));
     assert!(rt; gives_sealed(&draws, &OF_KEYS));
     assert!(rt; gives_fresh(&draws, &OF_KEYS));
-    assert!(rt; draws.hits_key(0) == Some(Handle::from_root(7, &SECRET).seed2));
+    let handle = Handle::from_root(7, &SECRET);
+    let seeds = LogSeeds {
+        first: handle.seed1,
+        second: handle.seed2,
+    };
+    assert!(rt; draws.log_seeds(0) == Some(seeds));
     assert!(rt; matches!(&Book::Keyed(draws), Book::Keyed(_)));
     Ok(())
 }

@@ -4,6 +4,7 @@ use Rattle.std.specs.List.{range_with_len}
 use Rattle.tk_shape.specs.declared.shape.Shape.{Shape}
 use Rattle.tk_handle.specs.declared.handle.Handle.{Handle}
 use Rattle.tk_kernel.specs.Pieces.{pieces}
+use Rattle.tk_words.specs.declared.log_seeds.LogSeeds.{LogSeeds}
 use Rattle.tk_words.specs.Pieces.{piece, word_at_byte}
 use Rattle.tk_shape.specs.Lengths.{turn_count, vector_len, cell_len, read_cell_len, tape_len}
 use Rattle.tk_handle.specs.Handle.{word, key_bytes}
@@ -96,9 +97,13 @@ unfoldable pub tag_of : Shape → WordBook → ℕ → ℕ → List ℕ → List
 tag_of shape (keyed handles seeds) log s masked = keyed_tag (handle_at handles log) s masked
 tag_of shape (drawn tape) log s masked = cell_tag shape (keyed_cell shape tape log s)
 
--- the filter positions of a number s that come from a key
+-- the buckets of a number s that come from these seeds
+abbrev pub pair_under : ℕ → LogSeeds → ℕ → ℕ × ℕ
+pair_under buckets seeds s = (word seeds.first s 0 % buckets, word seeds.second s 0 % buckets)
+
+-- the filter positions of a number s that come from a seed
 abbrev pub hits_under : ℕ → ℕ → List ℕ → ℕ → List ℕ
-hits_under bits count key s = map (λ i. word key s i % bits) (range_with_len 1 count)
+hits_under bits count seed s = map (λ i. word seed s i % bits) (range_with_len 1 count)
 
 -- ---- what a book gives afresh for a client's turn
 

@@ -3,7 +3,7 @@ ghost use Rattle.tk_words.specs.Words.{write_cells_len, read_cells_len};
 ghost use Rattle.tk_shape.specs.Lengths.{tape_len, turn_count, cell_len, read_cell_len};
 
 use crate::cells::{cell_block, cell_hits, cell_pair, pad_and_tag, piece};
-use crate::{Draws, Tape};
+use crate::{Draws, LogSeeds, Tape};
 use tk_seal::{mask, unmask};
 use tk_shape::Shape;
 
@@ -82,7 +82,13 @@ impl Draws for DrawnDraws {
         cell_hits(&self.shape, self.keyed_cell(log, number), out);
     }
 
-    fn hits_key(&self, _log: u32) -> Option<[u8; 32]> {
+    fn pair_and_hits(&self, log: u32, number: u32, hits: &mut [u32]) -> (u32, u32) {
+        let cell = self.keyed_cell(log, number);
+        cell_hits(&self.shape, cell, hits);
+        cell_pair(&self.shape, cell)
+    }
+
+    fn log_seeds(&self, _log: u32) -> Option<LogSeeds> {
         None
     }
 

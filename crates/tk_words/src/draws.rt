@@ -3,8 +3,11 @@ ghost use Rattle.std.specs.List.{AllByRecursion};
 ghost use Rattle.tk_shape.specs.declared.shape.Shape.{Shape};
 ghost use Rattle.tk_shape.specs.Lengths.{turn_count, vector_len};
 ghost use Rattle.tk_seal.specs.Texts.{is_allowed};
-ghost use Rattle.tk_words.specs.Words.{WordBook, IsBook, pair_of, hits_of, hits_under, sealed, opened, fresh_write, fresh_pair, fresh_vectors, words_of};
+ghost use Rattle.tk_words.specs.Words.{WordBook, IsBook, pair_of, pair_under, hits_of, hits_under};
+ghost use Rattle.tk_words.specs.Words.{sealed, opened, fresh_write, fresh_pair, fresh_vectors, words_of};
 ghost use Rattle.tk_words.specs.Opening.{OpensWhatSeals, OpensSealed};
+
+use crate::LogSeeds;
 
 /// The words that a client uses, over one shape. Logs, clients and turns count from 0.
 pub trait Draws: Sync {
@@ -28,12 +31,28 @@ pub trait Draws: Sync {
         ensures hits { out.new ≡ hits_of (shape self.now) (book self.now) log number }
         ensures hits_in { AllByRecursion (λ h. h < (shape self.now).filter_bits) out.new };
 
-    /// The key that all filter positions of a log's numbers come from; none where they are drawn number by number. While
-    /// the key is the same, so are they, whatever the book.
-    fn hits_key(&self, log: u32) -> Option<[u8; 32]>
+    /// The two buckets and the filter positions of a number of a log, as `pair` and `hits` give
+    /// them.
+    fn pair_and_hits(&self, log: u32, number: u32, hits: &mut [u32]) -> (u32, u32)
         requires log_in { log < (shape self.now).logs }
-        ensures { let run = shape self.now in IfSome result (λ key. (s : ℕ)
-            → hits_of run (book self.now) log s ≡ hits_under run.filter_bits run.hits key s) };
+        requires number_in { number < turn_count (shape self.now) }
+        requires room { length hits.old ≡ (shape self.now).hits }
+        ensures pair { result ≡ pair_of (shape self.now) (book self.now) log number }
+        ensures first_in { result.0 < (shape self.now).buckets }
+        ensures second_in { result.1 < (shape self.now).buckets }
+        ensures hits { hits.new ≡ hits_of (shape self.now) (book self.now) log number }
+        ensures hits_in { AllByRecursion (λ h. h < (shape self.now).filter_bits) hits.new };
+
+    /// The seeds that the buckets and the filter positions of all numbers of a log come from; none
+    /// where these are drawn number by number. While the seeds are the same, so are those, whatever
+    /// the book.
+    fn log_seeds(&self, log: u32) -> Option<LogSeeds>
+        requires log_in { log < (shape self.now).logs }
+        ensures pairs { let run = shape self.now in IfSome result (λ seeds. (s : ℕ)
+            → pair_of run (book self.now) log s ≡ pair_under run.buckets seeds s) }
+        ensures hits { let run = shape self.now in IfSome result (λ seeds. (s : ℕ)
+            → hits_of run (book self.now) log s
+            ≡ hits_under run.filter_bits run.hits seeds.second s) };
 
     /// Seals a text for a number of a log.
     fn seal(&self, log: u32, number: u32, text: &[u8], out: &mut [u8])

@@ -1,7 +1,7 @@
 ghost use Rattle.std.specs.Prelude.{◌≡◌, ◌+◌, ◌*◌, ◌%◌, ◌<◌, ◌≤◌, length};
 ghost use Rattle.tk_handle.specs.Handle.{word};
 
-use crate::Draws;
+use crate::{Draws, LogSeeds};
 use tk_handle::{Handle, Stream};
 use tk_shape::Shape;
 
@@ -63,8 +63,23 @@ impl Draws for KeyedDraws {
         tk_choice::hits(self.handle(log), number, self.shape.filter_bits, out);
     }
 
-    fn hits_key(&self, log: u32) -> Option<[u8; 32]> {
-        Some(self.handle(log).seed2)
+    fn pair_and_hits(&self, log: u32, number: u32, hits: &mut [u32]) -> (u32, u32) {
+        let shape = &self.shape;
+        tk_choice::pair_and_hits(
+            self.handle(log),
+            number,
+            shape.buckets,
+            shape.filter_bits,
+            hits,
+        )
+    }
+
+    fn log_seeds(&self, log: u32) -> Option<LogSeeds> {
+        let handle = self.handle(log);
+        Some(LogSeeds {
+            first: handle.seed1,
+            second: handle.seed2,
+        })
     }
 
     fn seal(&self, log: u32, number: u32, text: &[u8], out: &mut [u8]) {

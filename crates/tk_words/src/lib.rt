@@ -7,6 +7,7 @@ mod drawn;
 mod draws;
 mod keyed;
 mod laws;
+mod log_seeds;
 mod tape;
 
 pub use book::Book;
@@ -14,4 +15,5 @@ pub use drawn::DrawnDraws;
 pub use draws::Draws;
 pub use keyed::KeyedDraws;
 pub use laws::one_text_seals;
+pub use log_seeds::LogSeeds;
 pub use tape::{Tape, TapeError};

@@ -1,6 +1,5 @@
 -- The drawn bytes are cut into the vectors of either bucket, and each half is completed.
 use Rattle.std.proofs.Common.{◌≡◌, ◌∙◌, ap, subst, ◌-◌, ◌*◌, length, arith}
-use Rattle.std.proofs.lemmas.Result.{IfOk-weaker}
 use Rattle.tk_shape.specs.Lengths.{vector_len}
 use Rattle.tk_kernel.specs.Pieces.{all_pieces}
 use Rattle.tk_words.specs.Words.{IsBook}
@@ -35,17 +34,15 @@ returns g c =
     written
     ∙ fresh_joined own shape book turn client bytes c.requires.one_shape fresh.ensures.vectors
     in
-    let pair = c.buckets-first_bucket in
+    let pair = c.buckets-kept in
     let pair_is = pair.ensures.pair turn client fresh.ensures.pair in
     let each_is = ap (λ n. (shape.servers - 1) * n) c.vector_len.ensures in
     let pieces = all_pieces (vector_len shape) in
-    let first_is = ap pieces c.as_slice-2.ensures.value ∙ c.in_ok-first.ensures.shares in
-    let second_is = ap pieces c.as_slice-3.ensures.value ∙ c.in_ok-second.ensures.shares in
-    let equal =
-    frames_asked own shape book turn client read.epoch read.target
-    pair.result c.as_slice.result.now c.split_at.result.0.now c.split_at.result.1.now
-    c.as_slice-2.result.now c.as_slice-3.result.now ((shape.servers - 1) * size)
+    let first_is = ap pieces c.as_slice-first.ensures.value ∙ c.in_ok-first.ensures.shares in
+    let second_is = ap pieces c.as_slice-second.ensures.value ∙ c.in_ok-second.ensures.shares in
+    c.in_ok-frames.ensures
+    ∙ frames_asked own shape book turn client read.epoch read.target
+    pair.result.pair c.as_slice.result.now c.split_at.result.0.now c.split_at.result.1.now
+    c.as_slice-first.result.now c.as_slice-second.result.now ((shape.servers - 1) * size)
     c.requires.one_shape pair_is joined whole each_is
     c.split_at.ensures.front c.split_at.ensures.back first_is second_is
-    in
-    IfOk-weaker c.frames_of.result _ _ (λ frames e. e ∙ equal) c.frames_of.ensures

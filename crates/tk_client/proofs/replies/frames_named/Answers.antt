@@ -1,12 +1,11 @@
 -- The replies are refused for the first that can't be read, or else for the first other name.
-use Rattle.std.proofs.Common.{◌≡◌, ◌∙◌, refl, inl, rules, Err}
-use Rattle.std.proofs.lemmas.Result.{err_from_is_err_and}
+use Rattle.std.proofs.Common.{◌≡◌, ◌∙◌, refl, rules, Err}
 use Rattle.tk_client.specs.Replies.{frames_in, first_unread, first_other, refusal}
 use Rattle.tk_client.proofs.RepliesLaws.{refused-first, refused-name}
-use Rattle.tk_client.proofs.replies.answer_to.Goals as goal
+use Rattle.tk_client.proofs.replies.frames_named.Goals as goal
 
 pub returns-in_err-frames-clause-refused : goal.returns-in_err-frames-clause-refused
-returns-in_err-frames-clause-refused g c =
+returns-in_err-frames-clause-refused c =
     let shape = c.args.shape.now in
     let replies = c.args.replies.now in
     let read = c.args.read in
@@ -19,7 +18,7 @@ returns-in_err-frames-clause-refused g c =
     c.in_err-frames.ensures.refused)
 
 pub returns-in_err-check_names-clause-refused : goal.returns-in_err-check_names-clause-refused
-returns-in_err-check_names-clause-refused g c =
+returns-in_err-check_names-clause-refused c =
     let shape = c.args.shape.now in
     let read = c.args.read in
     let fault = c.in_err-check_names.field-0.0 in
@@ -30,9 +29,3 @@ returns-in_err-check_names-clause-refused g c =
     c.as_slice.result.now fault
     (c.as_slice.ensures.value ∙ c.in_ok-frames.ensures.frames) c.in_ok-frames.ensures.kept
     c.in_err-check_names.ensures.first)
-
-pub returns-in_err-answer_of-clause-refused : goal.returns-in_err-answer_of-clause-refused
-returns-in_err-answer_of-clause-refused g c =
-    let from = c.from_residual-in_err-answer_of in
-    let p = err_from_is_err_and from.result from.ensures.1 in
-    rw (p.1, p.2) (inl refl)
