@@ -6,12 +6,14 @@ use Rattle.std.proofs.Common.{List, [], ◌∷◌, ◌++◌, length, drop, filte
 use Rattle.std.proofs.Common.{append_assoc, append-nil, eq-eqb, ne_eqb, Some, replicate}
 use Rattle.std.specs.Prelude.{◌==◌, slice_get}
 use Rattle.std.specs.List.{range_with_len}
+use Rattle.std.specs.List.Sorted.{IsNonDecreasingBy}
 use Rattle.std.proofs.lemmas.Bool.{lt-ltb, le-ltb, eqb-true, eqb-false, cases_eq}
 use Rattle.std.proofs.lemmas.List.{drop_more, get_or-set_same, get_or-set_other, length-set}
 use Rattle.std.proofs.lemmas.List.{length-replicate, get_or-replicate}
 use Rattle.std.proofs.lemmas.List.FromFn.{fill_by_all}
+use Rattle.std.proofs.lemmas.List.Sorted.{IsNonDecreasingBy-take}
 use Rattle.std.proofs.lemmas.List.Sums.{count_by-le-length}
-use Rattle.std.proofs.Math.Seq.{drop-length}
+use Rattle.std.proofs.Math.Seq.{drop-length, take-append_seam}
 use Rattle.std.proofs.lemmas.Option.{get_or_from_slice_get, slice_get_within}
 use Rattle.tk_shape.specs.declared.shape.Shape.{Shape}
 use Rattle.tk_shape.specs.Lengths.{turn_count}
@@ -23,6 +25,7 @@ use Rattle.tk_script.specs.Sent.{Sending, sendings_from, in_run, writer_of, blan
 use Rattle.tk_script.proofs.Offers.{of_log, of_log-cons}
 use Rattle.tk_report.specs.Listings.{sent_by, is_written_by, sent_after, IsListed, IsListing}
 use Rattle.tk_report.specs.declared.listing.Listing.{Listing}
+use Rattle.tk_report.proofs.SendingsLaws.{sent_by-ascends}
 
 -- what stands at a place, and what comes after it
 at_place : {X : Type 0} (xs : List X) (i : ℕ) (x : X) → slice_get xs i ≡ Some x →
@@ -197,6 +200,16 @@ listed-own S c place n now y free free' numbers numbers' listed listed' at own l
           ∙ is.split;
     }
 
+-- what is listed of a client is in the order of its turns
+listed-ascends : (S : Script) (c place free : ℕ) (numbers : List ℕ) (listed : List Sending) →
+    IsListed S c place free numbers listed → IsNonDecreasingBy (λ (y : Sending). y.turn) listed
+listed-ascends S c place free numbers listed is =
+    let turn = λ (y : Sending). y.turn in
+    let later = sent_after S c free is.earlier (drop place S.says) in
+    let all = subst (IsNonDecreasingBy turn) (sym is.split) (sent_by-ascends S c) in
+    subst (IsNonDecreasingBy turn) (take-append_seam listed later)
+    (IsNonDecreasingBy-take turn (length listed) (listed ++ later) all)
+
 -- ---- what is listed of all clients, with one text more
 
 -- how many texts of a log are listed: no more than turns were taken
@@ -236,6 +249,21 @@ listing-late S place w y l at own late is =
                 (λ log mine. refl) (is.each c low)
           ];
     }
+
+-- it is sent after what its writer sent before
+pub own-ascends : (S : Script) (place n now w : ℕ) (y : Say) (l : Listing) →
+    slice_get S.says place ≡ Some y → y.log < S.shape.logs → writer_of S y.log ≡ w →
+    w < S.shape.clients → now ≡ due S.shape (get_or l.free.items w 0) y →
+    now < turn_count S.shape → n ≡ get_or l.counts.items y.log 0 → IsListing S place l →
+    IsNonDecreasingBy (λ (z : Sending). z.turn)
+    (get_or l.sent.items w [] ++ sending now n y ∷ [])
+own-ascends S place n now w y l at log own writer now_is soon n_is is =
+    let counts = set l.counts.items y.log (n + 1) in
+    let listed = get_or l.sent.items w [] in
+    let next = listed ++ sending now n y ∷ [] in
+    listed-ascends S w (place + 1) (now + 1) counts next
+    (listed-own S w place n now y (get_or l.free.items w 0) (now + 1) l.counts.items counts
+    listed next at own log is.numbers now_is soon n_is refl refl refl (is.each w writer))
 
 -- it is sent
 pub listing-own : (S : Script) (place n now w : ℕ) (y : Say) (l more : Listing) →

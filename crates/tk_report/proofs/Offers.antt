@@ -38,5 +38,5 @@ pub use Rattle.tk_report.proofs.ListTests.{list_all-at}
 -- what clients know before a run, and in it
 pub use Rattle.tk_report.proofs.ClientsLaws.{clients-first, clients-know}
 -- what each client sends, listed, and who writes a log
-pub use Rattle.tk_report.proofs.SendingsLaws.{sent_by-ascends, sent_of, sent_each, finds}
+pub use Rattle.tk_report.proofs.SendingsLaws.{sent_of, sent_each, finds}
 pub use Rattle.tk_report.proofs.ListingLaws.{writer-of}

@@ -1,26 +1,24 @@
 -- How many texts clients have left at the end of a run, and how many were said.
-use Rattle.std.proofs.Common.{◌≡◌, ◌∙◌, ℕ, zero, suc, ◌+◌, ◌-◌, ◌*◌, ◌<◌, ◌≤◌, refl, ap, sym, subst}
-use Rattle.std.proofs.Common.{arith, tests, true, false, Bool, cond, max, List, [], ◌∷◌, length}
-use Rattle.std.proofs.Common.{filter, count_by, get_or, eqb-true, eq-eqb, ne_eqb, inl, inr}
-use Rattle.std.specs.Prelude.{◌==◌, ◌&&◌, nat_le, nat_lt, sum_by, slice_index_or}
+use Rattle.std.proofs.Common.{◌≡◌, ◌∙◌, ℕ, zero, suc, ◌+◌, ◌-◌, ◌*◌, ◌<◌, ◌≤◌, refl, ap}
+use Rattle.std.proofs.Common.{arith, true, false, Bool, cond, max, List, [], ◌∷◌, length}
+use Rattle.std.proofs.Common.{filter, count_by, get_or, eq-eqb, ne_eqb, inl, inr}
+use Rattle.std.specs.Prelude.{◌==◌, ◌&&◌, nat_le, nat_lt, sum_by}
 use Rattle.std.specs.List.{range_with_len, AllByRecursion, list_all}
 use Rattle.std.proofs.Math.Nat.{suc-mul, zero-mul, le-max_right}
-use Rattle.std.proofs.lemmas.Bool.{cases_lt, le-leb, lt-leb, ltb-true}
+use Rattle.std.proofs.lemmas.Bool.{cases_lt, le-leb, ltb-true}
 use Rattle.std.proofs.lemmas.Bool.{and_parts as parts}
 use Rattle.std.proofs.lemmas.List.Sums.{sum_by-cons, count_by-le-length, length-filter}
 use Rattle.tk_shape.specs.declared.shape.Shape.{Shape}
 use Rattle.tk_shape.specs.Lengths.{turn_count}
-use Rattle.tk_schedule.specs.declared.history.History.{History}
 use Rattle.tk_schedule.specs.Schedule.{turn_at}
 use Rattle.tk_script.specs.declared.role.Role.{Role}
 use Rattle.tk_script.specs.declared.say.Say.{Say}
 use Rattle.tk_script.specs.declared.script.Script.{Script}
 use Rattle.tk_script.specs.SoundScript.{is_role, is_ascending}
 use Rattle.tk_script.specs.Sent.{Sending, blank_role, writer_of, sendings_from, sendings, unsent_count}
-use Rattle.tk_words.specs.Words.{BookWords}
 use Rattle.tk_client.specs.Client.{ClientState}
-use Rattle.tk_report.specs.Clients.{AreClientsAtEnd, client_before}
-use Rattle.tk_report.specs.Leaving.{left_over, unsent_in_all, CountsSaid, EndsCountSaid, EndsUnsent}
+use Rattle.tk_report.specs.Clients.{client_before}
+use Rattle.tk_report.specs.Leaving.{left_over, EndsCountSaid, EndsUnsent}
 use Rattle.tk_report.proofs.QueueLaws.{unsent_waits}
 use Rattle.tk_report.proofs.EachLaws.{each-weaker}
 use Rattle.tk_report.proofs.SayOrder.{IsSaid, all-said}

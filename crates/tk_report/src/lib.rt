@@ -53,4 +53,6 @@ mod displaced_tests;
 #[cfg(test)]
 mod report_tests;
 #[cfg(test)]
+mod sent_tests;
+#[cfg(test)]
 mod tests;

@@ -7,7 +7,7 @@ use std::alloc::Global;
 use std::marker::Model;
 use tk_shape::Memory;
 
-/// What a client sends, in order; seen as its list.
+/// What a client sends, in the order of its turns; seen as its list.
 #[derive(Debug, Drop)]
 pub struct Sendings<'a> {
     items: Vec<Sent<'a>>,
@@ -15,11 +15,14 @@ pub struct Sendings<'a> {
 
 impl<'a> Model for Sendings<'a> {
     ghost use Rattle.std.specs.Prelude.{List};
+    ghost use Rattle.std.specs.List.Sorted.{IsNonDecreasingBy};
     ghost use Rattle.tk_script.specs.Sent.{Sending};
 
     ghost Value = { List Sending };
 
     ghost view = { λ l. l.items.items };
+
+    ghost invariant = { λ l. IsNonDecreasingBy (λ y. y.turn) l.items.items };
 }
 
 impl<'a> Sendings<'a> {
@@ -34,6 +37,7 @@ impl<'a> Sendings<'a> {
 
     /// One text more, which is sent after the others.
     pub(crate) fn push(&mut self, sent: Sent<'a>) -> Result<(), Memory>
+        requires { IsNonDecreasingBy (λ y. y.turn) (self.old ++ sent ∷ []) }
         ensures { OnOk result (self.new ≡ self.old ++ sent.entry ∷ []) }
     {
         self.items.push(sent)?;
@@ -49,7 +53,6 @@ impl<'a> Sendings<'a> {
 
     /// What is sent in a turn, if anything is.
     pub fn in_turn(&self, turn: u32) -> Option<&Sent<'a>>
-        requires { IsNonDecreasingBy (λ y. y.turn) self.now }
         ensures { option_copied result ≡ find (λ y. y.turn == turn) self.now }
     {
         let sent = self.items.as_slice();

@@ -1,6 +1,5 @@
 -- Where the client sends a text the buckets are those of its number, and else fresh ones.
-use Rattle.std.proofs.Common.{◌≡◌, ◌∙◌, ap, sym, subst, arith, Some, None}
-use Rattle.std.specs.List.Sorted.{IsNonDecreasingBy}
+use Rattle.std.proofs.Common.{◌≡◌, ◌∙◌, ap, sym, arith, Some, None}
 use Rattle.std.specs.Option.{option_copied}
 use Rattle.tk_shape.specs.declared.shape.Shape.{Shape}
 use Rattle.tk_shape.specs.Lengths.{turn_count}
@@ -8,22 +7,13 @@ use Rattle.tk_script.specs.Sent.{Sending, sent}
 use Rattle.tk_script.proofs.Offers.{sent-is}
 use Rattle.tk_words.specs.Words.{words_of, pair_of, fresh_write}
 use Rattle.tk_report.proofs.PairLaws.{sent-pair, fresh-pair}
-use Rattle.tk_report.proofs.SendingsLaws.{sent_of, sent_each, sent_by-ascends, finds}
+use Rattle.tk_report.proofs.SendingsLaws.{sent_each, finds}
 use Rattle.tk_report.proofs.pairs.Pairs.of.Goals as goal
 
 pub bounds-self-client : goal.bounds-self-client
 bounds-self-client g c =
     let p = c.args.self.now in
     omega (arith, sent_each p.plan.now.script.now p.sent.now p.all_sent, c.requires.client_in)
-
-pub in_turn-requires : goal.in_turn-requires
-in_turn-requires g c =
-    let p = c.args.self.now in
-    let S = p.plan.now.script.now in
-    subst (IsNonDecreasingBy (λ (y : Sending). y.turn))
-    (sym (sent_of S p.sent.now c.args.client c.index-self-client.result p.all_sent
-    c.requires.client_in))
-    (sent_by-ascends S c.args.client)
 
 pub pair-requires-clause-log_in : goal.pair-requires-clause-log_in
 pair-requires-clause-log_in g c =

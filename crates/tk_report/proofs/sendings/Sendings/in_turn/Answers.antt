@@ -9,8 +9,8 @@ use Rattle.tk_report.proofs.sendings.Sendings.in_turn.Goals as goal
 
 pub first_from-requires : goal.first_from-requires
 first_from-requires c =
-    let same = c.as_slice-sent.ensures.value ∙ c.self.view_is in
-    subst (IsNonDecreasingBy (λ (z : Sending). z.turn)) (sym same) c.requires
+    subst (IsNonDecreasingBy (λ (z : Sending). z.turn)) (sym c.as_slice-sent.ensures.value)
+    c.self.invariant
 
 pub returns-in_err-found : goal.returns-in_err-found
 returns-in_err-found c =
@@ -29,7 +29,10 @@ returns-then-found-turn c =
     let i = c.first_from.result in
     let y = c.in_ok-found.found.now in
     let same : xs ≡ c.args.self.now = c.as_slice-sent.ensures.value ∙ c.self.view_is in
-    let rising = subst (IsNonDecreasingBy (λ (z : Sending). z.turn)) (sym same) c.requires in
+    let rising =
+    subst (IsNonDecreasingBy (λ (z : Sending). z.turn)) (sym c.as_slice-sent.ensures.value)
+    c.self.invariant
+    in
     let found = c.in_ok-found.ensures.lookup in
     sym (turn-later xs g i y (ltb-true i (length xs) (sym found.0)) found.1
     (λ e. c.if-found-turn.true (ap (λ (z : Sending). z.turn) c.found.view_is ∙ e)) rising

@@ -1,0 +1,34 @@
+use crate::all_sent;
+use std::test::Fail;
+use tk_script::{Form, parse};
+
+/// Three texts of a client that may write in two turns: the first is said for the first turn, the
+/// second for the same, so that it waits, and the third comes too late.
+const THREE_TEXTS: &[u8] = b"talek 1
+shape 2 8 4 8 24 64 1 0 2 2 1 1
+drawn
+log 0 1
+say 1 1 0 hi
+say 1 1 0 ho
+say 2 1 0 he
+end
+tape
+fill 11 256
+end
+";
+
+#[test]
+fn texts_are_sent_in_free_turns(rt: HostRuntime) -> Result<(), Fail> {
+    let alloc = rt.alloc();
+    let input = parse(alloc, THREE_TEXTS, Form::Run).ok().ok_or("a script")?;
+    let sent = all_sent(alloc, &input.first)?;
+    assert_eq!(rt; sent.len(), 2);
+    assert!(rt; sent[0].as_slice().len() == 2 && sent[1].as_slice().is_empty());
+    for (turn, text) in [(0, b"hi".as_slice()), (1, b"ho".as_slice())] {
+        let found = sent[0].in_turn(turn).ok_or("a text")?;
+        assert!(rt; found.turn == turn && found.log == 0 && found.number == turn);
+        assert_eq!(rt; found.text.as_slice(), text);
+        assert!(rt; sent[1].in_turn(turn).is_none());
+    }
+    Ok(())
+}
