@@ -14,7 +14,7 @@ pub(crate) fn side_by_side(servers: u32, vectors: u64, workers: u32) -> u32
 {
     let mut best = 1;
     'sides: for sides in 2..servers.min(workers) + 1 {
-        if time(servers, vectors, workers, sides) <= time(servers, vectors, workers, best) {
+        if time(servers, vectors, workers, sides) < time(servers, vectors, workers, best) {
             best = sides;
         }
     }

@@ -86,8 +86,8 @@ fn entry_from(
 /// What a server saw of a turn, if there was memory.
 type Sight = Result<Bytes, Memory>;
 
-/// What each server saw of a turn: its entries, and then each read with the reply. The workers write
-/// it for several servers at once.
+/// What each server saw of a turn: its entries, and then each read with the reply. The workers
+/// write it for several servers at once.
 pub(crate) fn sights_from<R: Threads + Sync + AllocGlobal>(
     rt: &R,
     servers: u32,

@@ -23,7 +23,7 @@ use tk_shape::{Bytes, Memory};
 use tk_words::Draws;
 
 /// What is the same for all reads of a turn: which turn it is, the words, how many servers answer,
-/// and among how many workers each shares its answers.
+/// and how many workers all of them share.
 #[derive(Drop)]
 pub(crate) struct Round<'a, D: Draws> {
     pub turn: u32,

@@ -21,8 +21,8 @@ use tk_words::Draws;
 
 /// What a run of a script leaves in which the clients and the publisher act at once, and what its
 /// cluster had. However they interleave, each server's tap gains what the server sees of the
-/// history that comes about. Several servers answer at once, each the reads of an epoch in one batch,
-/// and all share so many workers.
+/// history that comes about. Several servers answer at once, each the reads of an epoch in one
+/// batch, and all share so many workers.
 pub fn threads<D: Draws, T: Taps, G: Gate, R: Threads + Wait + Sync + AllocGlobal>(
     rt: &R,
     script: &Script,
