@@ -1,10 +1,8 @@
 -- A form that isn't refused, with objects that don't fail, ends with Done or Memory.
-use Rattle.std.proofs.Common.{◌≡◌, ◌≢◌, ◌∙◌, ◌⊎◌, ◌++◌, ◌≤◌, ◌<◌, refl, ap, sym, subst, inl, inr}
+use Rattle.std.proofs.Common.{◌≡◌, ◌∙◌, ◌⊎◌, ◌++◌, ◌≤◌, refl, ap, sym, subst, inl, inr}
 use Rattle.std.proofs.Common.{ℕ, List, [], length, Option, Some, length-append, append-nil, arith}
 use Rattle.std.specs.Prelude.{None}
 use Rattle.tk_io.specs.Content.{TakesUpTo, before_taking, emptied}
-use Rattle.tk_script.specs.declared.form.Form.{Form}
-use Rattle.tk_script.specs.declared.input.Input.{Input}
 use Rattle.tk_script.specs.Grammar.{Spells}
 use Rattle.tk_script.specs.Laws.{SpellsOne}
 use Rattle.tk_cli.specs.declared.top.TheConstants.{INPUT_LIMIT}
@@ -16,7 +14,7 @@ use Rattle.tk_cli.specs.declared.ended.Ended.{Ended}
 use Rattle.tk_cli.specs.Puts.{PutsSome}
 use Rattle.tk_cli.specs.Inputs.{TakesAll, IsRefused, form_of, refusal_of}
 use Rattle.tk_cli.specs.Outside.{Outside}
-use Rattle.tk_cli.specs.Endings.{EndsWith, Ends}
+use Rattle.tk_cli.specs.Endings.{EndsWith}
 use Rattle.tk_cli.specs.Completeness.{NoFault, HasAccepted, Completes}
 
 -- ---- what was taken of what was left

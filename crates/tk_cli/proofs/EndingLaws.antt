@@ -1,9 +1,7 @@
 -- How a request ends.
-use Rattle.std.proofs.Common.{◌≡◌, ◌≢◌, ◌⊎◌, ◌∙◌, ◌↔◌, refl, sym, ap, subst, inl, inr, ℕ, List, take}
-use Rattle.std.proofs.Common.{Option, Some, rules}
-use Rattle.std.specs.Prelude.{None}
-use Rattle.tk_io.specs.Content.{TakesUpTo, gained}
-use Rattle.tk_io.specs.Tapped.{TapsKeep}
+use Rattle.std.proofs.Common.{◌≡◌, ◌∙◌, ◌↔◌, refl, ap, subst, inl, inr, ℕ, List, take}
+use Rattle.std.proofs.Common.{Option, Some}
+use Rattle.tk_io.specs.Content.{gained}
 use Rattle.tk_schedule.specs.declared.history.History.{History}
 use Rattle.tk_script.specs.declared.input.Input.{Input}
 use Rattle.tk_report.specs.declared.outcome.Outcome.{Outcome}

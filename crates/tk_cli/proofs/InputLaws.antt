@@ -1,6 +1,6 @@
 -- The input of a request, and what refuses it.
-use Rattle.std.proofs.Common.{◌≡◌, ◌∙◌, ◌==◌, ◌≢◌, refl, ap, sym, subst, ℕ, List, length, cond}
-use Rattle.std.proofs.Common.{Option, Some, Bool, arith, rules}
+use Rattle.std.proofs.Common.{◌≡◌, ◌∙◌, ◌==◌, ◌≢◌, refl, ap, sym, subst, ℕ, List, cond}
+use Rattle.std.proofs.Common.{Option, Some, arith}
 use Rattle.std.specs.Prelude.{None, Result, Ok, Err, IfOk, IfErr}
 use Rattle.std.proofs.lemmas.Bool.Decides.{nat_tests}
 use Rattle.tk_io.specs.Content.{TakesUpTo}
@@ -24,7 +24,7 @@ use Rattle.tk_cli.specs.declared.request.Request.TheVariants as request
 use Rattle.tk_cli.specs.declared.status.Status.{Status}
 use Rattle.tk_cli.specs.declared.status.Status.TheVariants as status
 use Rattle.tk_cli.specs.Errors.{book_status, history_status}
-use Rattle.tk_cli.specs.Inputs.{Reads, IsOfRuns, IsRefused, Refuses, Stops}
+use Rattle.tk_cli.specs.Inputs.{Reads, IsOfRuns, Refuses, Stops}
 use Rattle.tk_cli.specs.Inputs.{form_of, tape_refusal, shapes_refusal, history_refusal}
 use Rattle.tk_cli.specs.Inputs.{server_refusal, difference, bad_history_line, refusal_of}
 use Rattle.tk_cli.specs.Endings.{IsAnswer, IsMade}

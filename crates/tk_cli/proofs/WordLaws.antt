@@ -1,26 +1,17 @@
 -- How a request ends whose input is read.
-use Rattle.std.proofs.Common.{◌≡◌, ◌≢◌, ◌∙◌, ◌≤◌, refl, sym, ap, subst, ℕ, List, Option, Some, rules}
+use Rattle.std.proofs.Common.{◌≡◌, ◌≢◌, ◌∙◌, ◌≤◌, refl, sym, ap, subst, ℕ, List, Option, Some}
 use Rattle.std.proofs.Common.{Ok, Err, [], arith}
 use Rattle.std.specs.Prelude.{None, Result, IfOk, IfErr}
 use Rattle.tk_io.specs.Content.{TakesUpTo, Rose, before_taking}
-use Rattle.tk_io.specs.Tapped.{TapsGain, TapsGainFronts, TapsKeepBut}
-use Rattle.tk_io.proofs.Offers.{fronts-of_all}
 use Rattle.tk_schedule.specs.declared.history.History.{History}
 use Rattle.tk_schedule.specs.Schedule.{serial_history, IsLegal}
 use Rattle.tk_script.specs.declared.script.Script.{Script}
-use Rattle.tk_script.specs.declared.input.Input.{Input}
 use Rattle.tk_script.specs.Book.{book_of}
 use Rattle.tk_words.specs.declared.book.Book.{Book}
 use Rattle.tk_words.specs.Book.{words_in}
-use Rattle.tk_words.specs.Words.{WordBook, words_of}
-use Rattle.tk_report.specs.declared.outcome.Outcome.{Outcome}
-use Rattle.tk_report.specs.Exchange.{exchange, bytes_of}
-use Rattle.tk_report.specs.Outcomes.{IsLeftBy, OutcomesReport, outcome_text}
-use Rattle.tk_report.specs.Histories.{ReportsShow}
-use Rattle.tk_cluster.specs.Closings.{Ended as Closed}
+use Rattle.tk_words.specs.Words.{WordBook}
 use Rattle.tk_run.specs.declared.run_error.RunError.{RunError}
 use Rattle.tk_run.specs.declared.run_error.RunError.TheVariants as run_error
-use Rattle.tk_run.specs.Threads.{CameAbout, IsRun}
 use Rattle.tk_cli.specs.declared.top.TheConstants.{INPUT_LIMIT}
 use Rattle.tk_cli.specs.declared.request.Request.{Request}
 use Rattle.tk_cli.specs.declared.request.Request.TheVariants as request
@@ -31,12 +22,12 @@ use Rattle.tk_cli.specs.Errors.{run_status}
 use Rattle.tk_cli.specs.Puts.{Puts, PutsNothing, PutsSome}
 use Rattle.tk_cli.specs.Texts.{IsTextOf}
 use Rattle.tk_cli.specs.Inputs.{IsDue, IsReady, Stops}
-use Rattle.tk_cli.specs.Outside.{Outside, outside, IsUnread, IsUnwritten, IsUntapped, NoCountFalls}
-use Rattle.tk_cli.specs.Endings.{LeavesSource, LeavesTaps, HandsNothing, HandsAs, HandsSerial}
-use Rattle.tk_cli.specs.Endings.{HandsRun, IsMade, StopsInTaps, FailsInTaps, IsQuiet, EndsWith}
-use Rattle.tk_cli.specs.Endings.{HowEnds, Ends, WritesText, TapsSee, TapsSeeFronts, report_in, seen_in}
+use Rattle.tk_cli.specs.Outside.{Outside, outside, IsUnwritten, IsUntapped, NoCountFalls}
+use Rattle.tk_cli.specs.Endings.{LeavesSource, LeavesTaps, HandsNothing}
+use Rattle.tk_cli.specs.Endings.{IsMade, StopsInTaps, EndsWith}
+use Rattle.tk_cli.specs.Endings.{HowEnds, Ends, WritesText}
 use Rattle.tk_cli.proofs.InputLaws.{not_over, over-as, err_same, ok_long}
-use Rattle.tk_cli.proofs.EndingLaws.{IsPlain, stopped, run_stopped, told, made-ends}
+use Rattle.tk_cli.proofs.EndingLaws.{IsPlain, stopped, run_stopped, made-ends}
 
 -- a request that reads its input ends by its status
 pub record ReadsInput (r : Request) : Type 0 where

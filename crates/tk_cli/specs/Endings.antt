@@ -1,5 +1,5 @@
 -- How the top call ends.
-use Rattle.std.specs.Prelude.{◌≡◌, ◌⊎◌, ℕ, ◌≤◌, List, [], ◌∷◌, ◌++◌, take, Option, None, Some}
+use Rattle.std.specs.Prelude.{◌≡◌, ◌⊎◌, ℕ, List, [], take, Option, None, Some}
 use Rattle.tk_io.specs.Content.{Rose, gained, TakesUpTo}
 use Rattle.tk_io.specs.Tapped.{TapsGain, TapsGainFronts, TapsKeep, TapsKeepBut}
 use Rattle.tk_schedule.specs.declared.history.History.{History}

@@ -1,18 +1,15 @@
 -- The reads of a turn of threads, of which some servers have replied.
 use Rattle.std.proofs.Common.{◌≡◌, refl, ap, sym, ◌∙◌, subst, arith}
-use Rattle.std.proofs.Common.{ℕ, ◌+◌, ◌<◌, ◌≤◌, List, [], ◌∷◌, ◌++◌, length, map, take, take_all, All}
+use Rattle.std.proofs.Common.{ℕ, ◌+◌, ◌<◌, List, [], ◌∷◌, ◌++◌, length, map, take, take_all, All}
 use Rattle.std.proofs.Common.{length-append}
 use Rattle.std.proofs.lemmas.List.{get_or_default, length-map}
 use Rattle.std.proofs.Math.Seq.{get_or-append_seam}
 use Rattle.std.specs.Prelude.{slice_index_or, Vec, Ok, IfOk}
 use Rattle.std.specs.Global.{Global}
-use Rattle.std.specs.Arc.{arc_value}
 use Rattle.tk_shape.specs.declared.shape.Shape.{Shape}
 use Rattle.tk_frames.specs.declared.entry.Placed.{Placed}
 use Rattle.tk_replica.specs.Replies.{reply_bytes}
-use Rattle.tk_cluster.specs.declared.set.EpochSet.{EpochSet}
 use Rattle.tk_cluster.specs.Refusals.{IsAsked}
-use Rattle.tk_cluster.specs.Sets.{Stands}
 use Rattle.tk_run.specs.declared.talking.Reading.{Reading}
 use Rattle.tk_run.specs.Rows.{Frame}
 use Rattle.tk_run.specs.Reading.{EachAt}

@@ -1,7 +1,7 @@
 -- The entries of a turn, one after the other.
 use Rattle.std.proofs.Common.{◌≡◌, refl, ap, ap₂, sym, ◌∙◌, arith, subst}
 use Rattle.std.proofs.Common.{ℕ, zero, suc, ◌+◌, ◌<◌, ◌≤◌, List, [], ◌∷◌, ◌++◌, length, take}
-use Rattle.std.proofs.Common.{count_by, cond, append_assoc}
+use Rattle.std.proofs.Common.{count_by, cond}
 use Rattle.std.proofs.lemmas.List.Sums.{sum_by-cons}
 use Rattle.std.specs.Prelude.{slice_index_or, flat_map}
 use Rattle.tk_schedule.specs.declared.item.Item.{Item}

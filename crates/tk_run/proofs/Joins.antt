@@ -1,5 +1,5 @@
 -- Lists cut in two and put together.
-use Rattle.std.proofs.Common.{◌≡◌, ℕ, List, [], ◌∷◌, ◌++◌, Bool, true, false, refl}
+use Rattle.std.proofs.Common.{◌≡◌, List, [], ◌∷◌, ◌++◌, Bool, true, false, refl}
 use mathlib.Core.Bool.{◌&&◌}
 use Rattle.tk_run.specs.Ticks.{AllBy, Done}
 

@@ -13,7 +13,7 @@ use Rattle.tk_frames.specs.declared.entry.Placed.{Placed}
 use Rattle.tk_frames.specs.declared.entry.Entry.{Entry}
 use Rattle.tk_frames.specs.InOrder.{IsOrder}
 use Rattle.tk_frames.specs.Spelling.{placed_frame}
-use Rattle.tk_report.specs.Entries.{entries_before, write_at}
+use Rattle.tk_report.specs.Entries.{entries_before}
 use Rattle.tk_run.specs.declared.server.Server.{Server}
 use Rattle.tk_run.specs.Servers.{IsServer, AreServers, nothing_seen, next_placed}
 use Rattle.tk_run.specs.Turns.{placed_before, placed_in, placed_so_far, entries_seen}

@@ -1,22 +1,20 @@
 -- Where a run of threads stops early.
-use Rattle.std.proofs.Common.{◌≡◌, ℕ, List, [], refl, sym, subst, Option}
-use Rattle.std.specs.Prelude.{Result, Ok, Err, OnOk, OnErr, IfOk}
+use Rattle.std.proofs.Common.{ℕ, List, sym, subst, Option}
+use Rattle.std.specs.Prelude.{Result}
 use Rattle.std.specs.Result.{IsErrAnd}
 use Rattle.std.proofs.lemmas.Result.{err_from_is_err_and}
-use mathlib.Core.List.{IsPrefix}
-use Rattle.tk_shape.specs.Lengths.{turn_count}
 use Rattle.tk_schedule.specs.declared.history.TurnOrder.{TurnOrder}
 use Rattle.tk_schedule.specs.declared.history.History.{History}
 use Rattle.tk_schedule.specs.Schedule.{IsLegal}
 use Rattle.tk_script.specs.declared.script.Script.{Script}
 use Rattle.tk_words.specs.Words.{WordBook}
-use Rattle.tk_io.specs.Tapped.{TapsGain, TapsGainFronts, TapsKeepBut}
+use Rattle.tk_io.specs.Tapped.{TapsGainFronts, TapsKeepBut}
 use Rattle.tk_report.specs.declared.outcome.Outcome.{Outcome}
 use Rattle.tk_report.specs.Exchange.{exchange, bytes_of}
 use Rattle.tk_cluster.specs.Closings.{Ended}
 use Rattle.tk_run.specs.Turns.{turn_seen}
 use Rattle.tk_run.specs.Courses.{GoesOn, TapsAfterTurn, TapsAfterRun}
-use Rattle.tk_run.specs.Threads.{CameAbout, TapsAfter}
+use Rattle.tk_run.specs.Threads.{CameAbout}
 
 module _ (S : Script) (b : WordBook) {X E : Type 0} (Q : E → Type 0) (r : Result X E)
     (is : IsErrAnd r Q) (old new : ℕ → Option (List ℕ)) where

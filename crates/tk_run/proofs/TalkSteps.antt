@@ -9,7 +9,6 @@ use Rattle.std.specs.List.{range_with_len}
 use Rattle.std.specs.List.Sorted.{IsNonDecreasingBy}
 use Rattle.std.proofs.lemmas.List.{length-map}
 use Rattle.std.proofs.lemmas.List.FromFn.{length-map-range_with_len}
-use Rattle.tk_shape.specs.declared.shape.Shape.{Shape}
 use Rattle.tk_shape.specs.Lengths.{turn_count}
 use Rattle.tk_frames.specs.declared.entry.Placed.{Placed}
 use Rattle.tk_frames.specs.Spelling.{read_frame}
@@ -17,7 +16,7 @@ use Rattle.tk_schedule.specs.declared.history.History.{History}
 use Rattle.tk_schedule.specs.Schedule.{IsLegal, epoch_at}
 use Rattle.tk_script.specs.declared.script.Script.{Script}
 use Rattle.tk_words.specs.Words.{WordBook, BookWords, IsBook, words_of}
-use Rattle.tk_client.specs.Client.{ClientState, after_replies}
+use Rattle.tk_client.specs.Client.{ClientState}
 use Rattle.tk_replica.specs.Replies.{reply_bytes}
 use Rattle.tk_report.specs.Exchange.{read_at}
 use Rattle.tk_cluster.specs.declared.set.EpochSet.{EpochSet}

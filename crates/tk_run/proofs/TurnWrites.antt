@@ -1,6 +1,6 @@
 -- A turn of a run of threads, from what those who acted in it did.
 use Rattle.std.proofs.Common.{◌≡◌, ℕ, ◌+◌, ◌<◌, ◌≤◌, List, [], ◌∷◌, ◌++◌, length, map, All}
-use Rattle.std.proofs.Common.{Some, refl, ap, sym, ◌∙◌, subst, arith, count_by}
+use Rattle.std.proofs.Common.{Some, sym, subst, arith, count_by}
 use Rattle.std.proofs.Common.{Bool, true, false, cond}
 use Rattle.std.specs.Prelude.{IsTrue, flat_map}
 use Rattle.std.specs.List.{list_all}

@@ -1,5 +1,5 @@
 -- The first pass learns, and then the others.
-use Rattle.std.proofs.Common.{◌≡◌, ◌∷◌, List, subst, sym}
+use Rattle.std.proofs.Common.{◌∷◌, List, subst, sym}
 use Rattle.tk_board.specs.Boards.{Known}
 use Rattle.tk_cluster.specs.declared.set.EpochSet.{EpochSet}
 use Rattle.tk_cluster.specs.Clusters.{Each}

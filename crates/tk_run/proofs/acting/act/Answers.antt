@@ -1,7 +1,7 @@
 -- All act at once; then each pass learns what was told, and all meet.
-use Rattle.std.proofs.Common.{◌≡◌, ◌+◌, refl, subst, ap, sym, ◌∙◌, ℕ, List, Bool, true, false}
+use Rattle.std.proofs.Common.{◌≡◌, refl, subst, ap, sym, ◌∙◌, ℕ, Bool, true, false}
 use Rattle.std.specs.Prelude.{MatchBool}
-use Rattle.tk_schedule.specs.Schedule.{is_closing, phases_over}
+use Rattle.tk_schedule.specs.Schedule.{is_closing}
 use Rattle.tk_board.specs.Boards.{Known}
 use Rattle.tk_cluster.specs.declared.set.EpochSet.{EpochSet}
 use Rattle.tk_cluster.specs.Clusters.{Each}

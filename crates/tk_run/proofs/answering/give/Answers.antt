@@ -1,5 +1,5 @@
 -- The last reply that is left is given to the client of its place.
-use Rattle.std.proofs.Common.{◌≡◌, ◌+◌, ℕ, List, length, refl, arith}
+use Rattle.std.proofs.Common.{◌≡◌, length, refl, arith}
 use Rattle.tk_run.proofs.BatchLaws.{given-none, given-next, given-all}
 use Rattle.tk_run.proofs.answering.give.Goals as goal
 

@@ -1,6 +1,6 @@
 -- One more client stands at the place of its write.
-use Rattle.std.proofs.Common.{◌≡◌, ◌+◌, ◌-◌, ◌<◌, ap, sym, ◌∙◌, arith, length, length-set, ℕ}
-use Rattle.std.specs.Prelude.{replicate, slice_set, slice_index_or}
+use Rattle.std.proofs.Common.{◌+◌, ◌-◌, ◌<◌, ap, ◌∙◌, arith, length, length-set, ℕ}
+use Rattle.std.specs.Prelude.{replicate, slice_set}
 use Rattle.tk_schedule.specs.declared.item.Item.TheVariants.{Client, Publish}
 use Rattle.tk_schedule.specs.Schedule.{marks_due}
 use Rattle.tk_run.specs.Courses.{entries_behind}

@@ -1,5 +1,5 @@
 -- What the taps gain of a turn: all that the servers saw in it, or fronts.
-use Rattle.std.proofs.Common.{◌≡◌, arith, refl, sym, subst, ap, length}
+use Rattle.std.proofs.Common.{arith, refl, sym, subst, ap, length}
 use Rattle.tk_schedule.specs.declared.history.History.{History}
 use Rattle.tk_run.specs.Courses.{GoesOn, AreSights}
 use Rattle.tk_run.proofs.CourseStarts.{course_goes}

@@ -1,5 +1,5 @@
 -- Turn after turn the taps gain what the servers see of the history that comes about.
-use Rattle.std.proofs.Common.{◌≡◌, ◌∙◌, arith, refl, subst, le_trans}
+use Rattle.std.proofs.Common.{◌≡◌, arith, refl, subst, le_trans}
 use Rattle.tk_shape.specs.Lengths.{turn_count}
 use Rattle.tk_run.specs.Courses.{IsCourse}
 use Rattle.tk_run.proofs.Stopping.{run_stopped}

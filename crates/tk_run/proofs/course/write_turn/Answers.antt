@@ -1,5 +1,5 @@
 -- The turn that came about when all have written and pinned, and what is seen of its entries.
-use Rattle.std.proofs.Common.{◌≡◌, ◌+◌, ◌≤◌, ◌<◌, ◌++◌, ◌∷◌, ◌∙◌, [], ℕ, List, All, length, map, Some}
+use Rattle.std.proofs.Common.{◌≡◌, ◌+◌, ◌≤◌, ◌++◌, ◌∷◌, ◌∙◌, [], List, All, length, map, Some}
 use Rattle.std.proofs.Common.{arith, sym, subst, ap, count_by}
 use Rattle.std.specs.Prelude.{IsTrue, flat_map}
 use Rattle.std.specs.List.{list_all}
@@ -21,7 +21,7 @@ use Rattle.tk_schedule.specs.declared.history.History.{History}
 use Rattle.tk_run.specs.Courses.{HasWritten, GoesOn, IsInTurn, entries_behind}
 use Rattle.tk_run.proofs.CourseStarts.{course_goes, course_counted, course_knows}
 use Rattle.tk_run.proofs.GoesOnLaws.{filled}
-use Rattle.tk_run.proofs.TurnWrites.{came_in, came_counted, came_within, came_order, came_marks}
+use Rattle.tk_run.proofs.TurnWrites.{came_counted, came_within, came_order, came_marks}
 use Rattle.tk_run.proofs.TurnWrites.{came_length, came_frames, came_written}
 use Rattle.tk_run.proofs.WrittenTurns.{writes}
 use Rattle.tk_run.proofs.course.write_turn.Goals as goal

@@ -1,5 +1,5 @@
 -- One client more writes, and its frame lies on a desk.
-use Rattle.std.proofs.Common.{◌≡◌, ◌<◌, ◌∙◌, arith, ap, sym, subst, ℕ, length}
+use Rattle.std.proofs.Common.{◌<◌, ◌∙◌, arith, sym, subst, length}
 use Rattle.std.specs.Prelude.{slice_index_or}
 use Rattle.std.specs.Option.{ForSome}
 use Rattle.tk_shape.specs.declared.shape.Shape.{Shape}

@@ -1,5 +1,5 @@
 -- What a client asks of the set that it pinned.
-use Rattle.std.proofs.Common.{◌≡◌, ◌+◌, ◌++◌, refl, ap, sym, ◌∙◌, subst, List, ℕ, map}
+use Rattle.std.proofs.Common.{◌≡◌, ◌+◌, ◌++◌, refl, ap, sym, ◌∙◌, subst, List, map}
 use Rattle.std.specs.Arc.{arc_value}
 use Rattle.tk_schedule.specs.Schedule.{epoch_at}
 use Rattle.tk_words.specs.Words.{words_of}

@@ -1,5 +1,5 @@
 -- One more entry is seen.
-use Rattle.std.proofs.Common.{◌≡◌, ◌+◌, ◌<◌, ap, sym, refl, ◌∙◌, arith, length, [], take, ℕ, List}
+use Rattle.std.proofs.Common.{◌+◌, ◌<◌, ap, ◌∙◌, arith, length, List}
 use Rattle.std.specs.Prelude.{flat_map, slice_index_or}
 use Rattle.std.proofs.lemmas.List.{take_all, get_or_default}
 use Rattle.tk_schedule.specs.declared.item.Item.TheVariants.{Client}

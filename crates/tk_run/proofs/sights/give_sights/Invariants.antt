@@ -1,6 +1,6 @@
 -- The taps so far have what their servers saw.
-use Rattle.std.proofs.Common.{◌≡◌, ◌≤◌, ◌-◌, [], ℕ}
-use Rattle.std.specs.Prelude.{slice_index_or, flat_map}
+use Rattle.std.proofs.Common.{◌≤◌, ◌-◌, [], ℕ}
+use Rattle.std.specs.Prelude.{slice_index_or}
 use Rattle.tk_io.specs.Tapped.{TapsGain, TapsKeepBut}
 use Rattle.tk_run.proofs.sights.give_sights.Given as goal
 

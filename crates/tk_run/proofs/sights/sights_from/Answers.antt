@@ -1,5 +1,5 @@
 -- What each saw is what is seen of it.
-use Rattle.std.proofs.Common.{◌≡◌, ◌++◌, ◌<◌, ◌∙◌, ap, arith, length, subst, List, ℕ, map}
+use Rattle.std.proofs.Common.{◌≡◌, ◌++◌, ◌<◌, arith, length, subst, List, ℕ, map}
 use Rattle.std.proofs.lemmas.List.{with_items_is}
 use Rattle.std.specs.Prelude.{flat_map, slice_index_or, Result, Ok, IfOk}
 use Rattle.tk_shape.specs.declared.memory.Memory.{Memory}

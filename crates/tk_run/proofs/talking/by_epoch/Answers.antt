@@ -1,5 +1,5 @@
 -- The epochs rise.
-use Rattle.std.proofs.Common.{rules, ◌≡◌, ℕ}
+use Rattle.std.proofs.Common.{rules}
 use Rattle.std.proofs.lemmas.List.Sorted.{IsNonDecreasingBy-from_sort_by_key}
 use Rattle.tk_run.specs.Answering.{epoch_of}
 use Rattle.tk_run.proofs.talking.by_epoch.Goals as goal

@@ -1,8 +1,7 @@
 -- One client more has its set.
-use Rattle.std.proofs.Common.{◌≡◌, ◌<◌, refl, ap, ◌∙◌, subst, arith, ℕ, length, false}
+use Rattle.std.proofs.Common.{◌≡◌, ◌<◌, refl, ap, ◌∙◌, arith, ℕ, length, false}
 use Rattle.std.specs.Prelude.{slice_index_or}
-use Rattle.tk_run.specs.declared.slip.Slip.{Slip}
-use Rattle.tk_run.proofs.TalkAll.{Paired, paired-next}
+use Rattle.tk_run.proofs.TalkAll.{paired-next}
 use Rattle.tk_run.proofs.talking.paired.Goals as goal
 
 pub pairing-preserved : goal.pairing-preserved

@@ -1,5 +1,5 @@
 -- All clients have asked, all are answered, and all have taken the replies.
-use Rattle.std.proofs.Common.{◌≡◌, ◌+◌, ℕ, ap, sym, ◌∙◌, subst, arith, All, List, length}
+use Rattle.std.proofs.Common.{◌≡◌, ◌+◌, ap, sym, ◌∙◌, subst, arith, All, List}
 use Rattle.std.proofs.lemmas.List.{with_items_is}
 use Rattle.tk_shape.specs.declared.shape.Shape.{Shape}
 use Rattle.tk_words.specs.Words.{IsBook, words_of}

@@ -1,8 +1,6 @@
 -- The lines tell the turns, which are a legal history.
-use Rattle.std.proofs.Common.{◌≡◌, ap, ◌∙◌, List}
-use Rattle.tk_schedule.specs.declared.raw.RawLine.{RawLine}
+use Rattle.std.proofs.Common.{ap, ◌∙◌}
 use Rattle.tk_schedule.specs.Raw.{kinds}
-use Rattle.tk_schedule.specs.Told.{Tells}
 use Rattle.tk_run.proofs.telling.history_of.Goals as goal
 
 pub from_vec-raw-requires : goal.from_vec-raw-requires

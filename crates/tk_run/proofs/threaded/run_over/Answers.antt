@@ -1,5 +1,5 @@
 -- One legal history comes about: what the run leaves is of it, and so is what the taps have.
-use Rattle.std.proofs.Common.{◌≡◌, ℕ, List, [], refl, ap, sym, subst}
+use Rattle.std.proofs.Common.{ℕ, List, refl, sym, subst}
 use Rattle.tk_shape.specs.declared.shape.Shape.{Shape}
 use Rattle.tk_schedule.specs.declared.history.History.{History}
 use Rattle.tk_schedule.specs.declared.history.TurnOrder.{TurnOrder}

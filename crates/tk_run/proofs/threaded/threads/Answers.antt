@@ -1,5 +1,5 @@
 -- A run that isn't opened gives the taps nothing.
-use Rattle.std.proofs.Common.{◌≡◌, ℕ, refl}
+use Rattle.std.proofs.Common.{ℕ, refl}
 use Rattle.tk_schedule.specs.Schedule.{serial_history}
 use Rattle.tk_schedule.proofs.Offers.{serial-IsLegal}
 use Rattle.tk_report.specs.Exchange.{exchange, bytes_of}

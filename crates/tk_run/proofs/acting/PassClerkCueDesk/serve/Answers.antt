@@ -1,5 +1,5 @@
 -- The pass ordered what its desk's frame spells, and pinned a set.
-use Rattle.std.proofs.Common.{◌≡◌, refl, subst, List, ℕ}
+use Rattle.std.proofs.Common.{refl, subst, List, ℕ}
 use Rattle.tk_cluster.specs.Passes.{WroteBytes}
 use Rattle.tk_run.proofs.acting.PassClerkCueDesk.serve.Goals as goal
 

@@ -1,5 +1,5 @@
 -- The clients know what they knew, and have heard the texts of the turn.
-use Rattle.std.proofs.Common.{◌≡◌, arith, sym, subst, length}
+use Rattle.std.proofs.Common.{arith, sym, subst}
 use Rattle.std.proofs.lemmas.List.{with_items_is}
 use Rattle.tk_report.specs.Clients.{AreClients, client_knowing, client_told}
 use Rattle.tk_run.proofs.group.Group.say.Goals as goal

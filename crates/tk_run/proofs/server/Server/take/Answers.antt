@@ -1,5 +1,5 @@
 -- What is next for a server its replica may take, and then it keeps the last two epochs.
-use Rattle.std.proofs.Common.{◌∙◌, ◌++◌, ◌∷◌, [], ℕ, List, ap}
+use Rattle.std.proofs.Common.{◌∙◌, ◌++◌, ℕ, List, ap}
 use Rattle.tk_frames.specs.Spelling.{placed_frame}
 use Rattle.tk_replica.proofs.Offers.{entry-next}
 use Rattle.tk_run.proofs.ServerLaws.{floor-next}
