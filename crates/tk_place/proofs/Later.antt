@@ -70,25 +70,42 @@ searching_ends_later T new places k tried end searching before full first =
           | inr new ↦ first.full m new low
         ]
 
+abbrev pub IsFullAt : Others → Reached → Type 0
+IsFullAt T p = lowest_empty T p.bucket ≡ None
+
+-- each of the places from one on to another is such a one
+abbrev pub EachAt : (Reached → Type 0) → List Reached → ℕ → ℕ → Type 0
+EachAt P places from to = (k : ℕ) → from ≤ k → k < to → P (place_at places k)
+
+-- those before and those after
+pub each_joined : (P : Reached → Type 0) (places : List Reached) (tried : ℕ) → EachAt P places 0 tried →
+    EachAt P places tried (length places) → EachAt P places 0 (length places)
+each_joined P places tried before now k low high =
+    elim (cases_lt k tried) [ inl old ↦ before k low old | inr new ↦ now k new high ]
+
+-- what each was it is when more places have come
+pub each_stays : (P : Reached → Type 0) (places more later : List Reached) (to : ℕ) → later ≡ places ++ more →
+    to ≤ length places → EachAt P places 0 to → EachAt P later 0 to
+each_stays P places more later to made within each k low high =
+    subst (λ ps. P (place_at ps k)) (sym made)
+    (subst P (sym (get_or_append_left places more (record { bucket = 0; through = [] }) k (omega (arith, high, within))))
+    (each k low high))
+
 -- all that were tried before and all that were tried now
 pub full_joined : (T : Others) (places : List Reached) (tried : ℕ) → AreFull T places 0 tried →
     AreFull T places tried (length places) → AreFull T places 0 (length places)
-full_joined T places tried before now k low high =
-    elim (cases_lt k tried) [ inl old ↦ before k low old | inr new ↦ now k new high ]
+full_joined T = each_joined (IsFullAt T)
 
 -- what was full is so when more places have come
 pub full_stays : (T : Others) (places more later : List Reached) → later ≡ places ++ more →
     AreFull T places 0 (length places) → AreFull T later 0 (length places)
-full_stays T places more later made full k low high =
-    subst (λ ps. lowest_empty T (place_at ps k).bucket ≡ None) (sym made)
-    (ap (λ (p : Reached). lowest_empty T p.bucket)
-    (get_or_append_left places more (record { bucket = 0; through = [] }) k high)
-    ∙ full k low high)
+full_stays T places more later made = each_stays (IsFullAt T) places more later (length places) made (omega arith)
 
 -- ---- what full buckets lead to
 
-abbrev IsFullAt : Others → Reached → Type 0
-IsFullAt T p = lowest_empty T p.bucket ≡ None
+pub none_of : (o : Option ℕ) → is_none o ≡ true → o ≡ None
+none_of None e = refl
+none_of (Some x) e = absurd cc
 
 -- what a bucket's entries name is full where its slots pass the test
 named_full : (T : Others) (from : Reached) (i : ℕ) (slots : List (Option ℕ)) →
@@ -98,13 +115,9 @@ named_full T from i (None ∷ slots) all = named_full T from (i + 1) slots all
 named_full T from i (Some b ∷ slots) all =
     let parts = and_parts (is_none (lowest_empty T b)) (list_all (is_other_full T) slots) all in
     (none_of (lowest_empty T b) parts.0, named_full T from (i + 1) slots parts.1)
-  where
-    none_of : (o : Option ℕ) → is_none o ≡ true → o ≡ None
-    none_of None e = refl
-    none_of (Some x) e = absurd cc
 
 -- what is new among them, too
-new_of : (P : Reached → Type 0) (before ps : List Reached) → AllOf P ps → AllOf P (not_before before ps)
+pub new_of : (P : Reached → Type 0) (before ps : List Reached) → AllOf P ps → AllOf P (not_before before ps)
 new_of P before [] each = tt
 new_of P before (p ∷ ps) each =
     elim (has_bucket before p.bucket) as (λ s.
@@ -119,21 +132,26 @@ each_of P [] k d each low = absurd (omega (arith, low))
 each_of P (p ∷ ps) zero d each low = each.0
 each_of P (p ∷ ps) (suc k) d each low = each_of P ps k d each.1 (omega (arith, low))
 
--- what comes behind is full where the entries lead to full buckets
-pub full_behind : (T : Others) (places later : List Reached) (from : Reached) →
-    later ≡ places ++ not_before places (named_by T from) →
-    leads_to_full T from.bucket ≡ true → AreFull T later (length places) (length later)
-full_behind T places later from made all k low high =
+-- what is queued behind is such a one where all that the entries name is
+pub each_behind : (P : Reached → Type 0) (T : Others) (places later : List Reached) (from : Reached) →
+    later ≡ places ++ not_before places (named_by T from) → AllOf P (named_by T from) →
+    EachAt P later (length places) (length later)
+each_behind P T places later from made all k low high =
     let next = not_before places (named_by T from) in
     let nowhere : Reached = record { bucket = 0; through = [] } in
     let long = ap length made ∙ length-append places next in
     let at : place_at later k ≡ get_or next (k - length places) nowhere =
     ap (λ ps. place_at ps k) made ∙ get_or-append_right places next (length places) k nowhere refl low in
-    subst (IsFullAt T) (sym at)
-    (each_of (IsFullAt T) next (k - length places) nowhere
-    (new_of (IsFullAt T) places (named_by T from)
-    (named_full T from 0 (slots_of T from.bucket) all))
+    subst P (sym at)
+    (each_of P next (k - length places) nowhere (new_of P places (named_by T from) all)
     (omega (arith, low, high, long)))
+
+-- what comes behind is full where the entries lead to full buckets
+pub full_behind : (T : Others) (places later : List Reached) (from : Reached) →
+    later ≡ places ++ not_before places (named_by T from) →
+    leads_to_full T from.bucket ≡ true → AreFull T later (length places) (length later)
+full_behind T places later from made all =
+    each_behind (IsFullAt T) T places later from made (named_full T from 0 (slots_of T from.bucket) all)
 
 -- What holds once the others of the bucket at a place were queued, where all places so far are full.
 pub record IsStep (T : Others) (new : ℕ × ℕ) (places later : List Reached) (k : ℕ) : Type 0 where

@@ -3,6 +3,7 @@ pub mod Crowds
 pub mod Ends
 pub mod Fits
 pub mod Later
+pub mod Leading
 pub mod Levels
 pub mod Lines
 pub mod Stamps

@@ -1,5 +1,6 @@
 -- What a search answers.
-use Rattle.std.specs.Prelude.{◌≡◌, ℕ, List, [], ◌∷◌, length, Bool, false, ◌==◌, ◌⊎◌, All, Option, Some, None, IsSomeAnd, IsTrue}
+use Rattle.std.specs.Prelude.{◌≡◌, ℕ, List, [], ◌∷◌, length, Bool, false, ◌==◌, ◌⊎◌, All}
+use Rattle.std.specs.Prelude.{Option, Some, None, IsSomeAnd, IsTrue}
 use Rattle.std.specs.List.{list_any}
 use Rattle.tk_place.specs.Place.{Others, Spot, Reached, slots_of, lowest_empty, has_bucket, reached, search_end}
 use Rattle.tk_place.specs.Table.{slot_at}

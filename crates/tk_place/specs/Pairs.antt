@@ -1,5 +1,6 @@
 -- The pairs of buckets that entries have, and what a placement of them is.
-use Rattle.std.specs.Prelude.{◌≡◌, ℕ, suc, ◌<◌, ◌≤◌, ◌==◌, ◌⊎◌, ◌↔◌, true, List, [], ◌∷◌, ◌++◌, map, min, max, count_by, IsPermutation, Option, Some, None}
+use Rattle.std.specs.Prelude.{◌≡◌, ℕ, suc, ◌<◌, ◌≤◌, ◌==◌, ◌⊎◌, ◌↔◌, true, List, [], ◌∷◌, ◌++◌}
+use Rattle.std.specs.Prelude.{map, min, max, count_by, IsPermutation, Option, Some, None}
 use Rattle.tk_place.specs.Place.{Others, fit}
 
 -- the pairs of the entries in a bucket's slots: that bucket and the other one

@@ -1,5 +1,7 @@
 -- Whether entries can be placed at all, and the search for a place.
-use Rattle.std.specs.Prelude.{ℕ, zero, suc, ◌+◌, ◌==◌, nat_le, Bool, ◌||◌, cond, is_none, is_some, List, [], ◌∷◌, ◌++◌, length, replicate, slice_index, slice_set, slice_index_or, flat_map, find, position, Option, Some, None}
+use Rattle.std.specs.Prelude.{ℕ, zero, suc, ◌+◌, ◌==◌, nat_le, Bool, ◌||◌, cond, is_none, is_some}
+use Rattle.std.specs.Prelude.{List, [], ◌∷◌, ◌++◌, length, replicate, slice_index, slice_set}
+use Rattle.std.specs.Prelude.{slice_index_or, flat_map, find, position, Option, Some, None}
 use Rattle.std.specs.List.{list_all, list_any}
 
 -- ---- whether a placement exists
@@ -29,7 +31,8 @@ Others = List (List (Option ℕ))
 abbrev pub Spot : Type 0
 Spot = ℕ × ℕ
 
--- a bucket, and the slots through which it was reached, the nearest first: the entry of each could go to the one before it
+-- a bucket, and the slots through which it was reached, the nearest first: the entry of each could go to the one
+-- before it
 pub record Reached : Type 0 where
   pub bucket : ℕ
   pub through : List Spot
@@ -58,7 +61,10 @@ not_before before (p ∷ ps) = cond (has_bucket before p.bucket) (not_before bef
 
 -- level 0: the buckets of the new entry
 abbrev pub first_level : ℕ × ℕ → List Reached
-first_level pair = not_before [] (record { bucket = pair.0; through = [] } ∷ record { bucket = pair.1; through = [] } ∷ [])
+first_level pair =
+    let first : Reached = record { bucket = pair.0; through = [] } in
+    let second : Reached = record { bucket = pair.1; through = [] } in
+    not_before [] (first ∷ second ∷ [])
 
 -- the level after one: what its buckets' entries name
 abbrev pub next_level : Others → List Reached → List Reached → List Reached

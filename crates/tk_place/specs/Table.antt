@@ -25,3 +25,12 @@ is_other_full T (Some other) = is_none (lowest_empty T other)
 -- the other bucket of each entry in a bucket is full
 abbrev pub leads_to_full : Others → ℕ → Bool
 leads_to_full T bucket = list_all (is_other_full T) (slots_of T bucket)
+
+-- the other bucket of a slot's entry leads to full ones alone
+abbrev pub does_other_lead_to_full : Others → Option ℕ → Bool
+does_other_lead_to_full T None = true
+does_other_lead_to_full T (Some other) = leads_to_full T other
+
+-- so does the other bucket of each entry in a bucket
+abbrev pub others_lead_to_full : Others → ℕ → Bool
+others_lead_to_full T bucket = list_all (does_other_lead_to_full T) (slots_of T bucket)

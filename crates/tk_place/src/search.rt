@@ -1,12 +1,13 @@
-ghost use Rattle.std.specs.Prelude.{◌≡◌, ◌<◌, ◌≤◌, ◌+◌, ◌↔◌, ◌++◌, ◌∷◌, [], true, false, length, map, take, MatchOption, Some, None};
+ghost use Rattle.std.specs.Prelude.{◌≡◌, ◌<◌, ◌≤◌, ◌+◌, ◌↔◌, ◌++◌, ◌∷◌, [], true, false};
+ghost use Rattle.std.specs.Prelude.{length, map, take, MatchOption, Some, None};
 ghost use Rattle.tk_place.specs.Place.{fit, lowest_empty, slots_of, named_in, not_before, search_end};
 ghost use Rattle.tk_place.specs.Pairs.{pairs_with, HasPlacement};
 ghost use Rattle.tk_place.specs.Chain.{IsAnswer, AreMoves, IsBlocked};
-ghost use Rattle.tk_place.specs.Search.{IsEnd, AreFull, IsFirst};
-ghost use Rattle.tk_place.specs.Table.{IsTable, leads_to_full};
+ghost use Rattle.tk_place.specs.Search.{IsEnd, AreFull, IsFirst, LeadToFull, IsLeading, IsBehind};
+ghost use Rattle.tk_place.specs.Table.{IsTable, leads_to_full, others_lead_to_full};
 ghost use Rattle.tk_place.specs.Views.{place_at, spot_of};
 
-use crate::queue::Queue;
+use crate::queue::{Link, Queue};
 use crate::{Scratch, Slots, Step};
 
 /// What a search found.
@@ -72,31 +73,32 @@ fn search<V: Slots>(slots: &V, new: (u32, u32), queue: &mut Queue) -> Option<End
     queue.add(new.0, None);
     queue.add(new.1, None);
     let depth = slots.depth();
-    if let Some(end) = first_with_room(slots, queue, 0) {
+    if let Some(end) = first_with_room(slots, queue) {
         return Some(end);
+    }
+    if let Some(from) = first_leading(slots, queue, 0) {
+        return end_behind(slots, depth, from, queue);
     }
     let mut place = 0;
     while place < queue.len() {
         let tried = queue.len();
         add_others(slots, depth, place, queue);
-        if let Some(end) = first_behind(slots, queue, place, tried) {
-            return Some(end);
+        if let Some(from) = first_leading_behind(slots, queue, place, tried) {
+            return end_behind(slots, depth, from, queue);
         }
         place += 1;
     }
     None
 }
 
-/// The first place from one on whose bucket has an empty slot. It ends a search in which all before
-/// it are full, long before its turn comes to have its entries gone through.
-fn first_with_room<V: Slots>(slots: &V, queue: &Queue, from: u32) -> Option<End>
+/// The first place whose bucket has an empty slot, and the lowest such slot.
+fn first_with_room<V: Slots>(slots: &V, queue: &Queue) -> Option<End>
     requires size { queue.now.buckets ≡ length (V.others slots.now) }
-    requires from { from ≤ length queue.now.places }
     ensures { let T = V.others slots.now in
         let places = queue.now.places in
-        MatchOption result (AreFull T places from (length places)) (IsFirst T places from) }
+        MatchOption result (AreFull T places 0 (length places)) (IsFirst T places 0) }
 {
-    let mut place = from;
+    let mut place = 0;
     while place < queue.len() {
         if let Some(slot) = slots.free(queue.bucket(place)) {
             return Some(End { place, slot });
@@ -106,26 +108,98 @@ fn first_with_room<V: Slots>(slots: &V, queue: &Queue, from: u32) -> Option<End>
     None
 }
 
-/// The first place from one on whose bucket has an empty slot, where only what the entries in the full bucket at a
-/// place name comes from there on. It mostly finds by one look that none has.
-fn first_behind<V: Slots>(slots: &V, queue: &Queue, place: u32, from: u32) -> Option<End>
+/// The first place from one on whose full bucket leads to one that isn't full. The search ends behind
+/// it, long before its turn comes to have its entries gone through.
+fn first_leading<V: Slots>(slots: &V, queue: &Queue, from: u32) -> Option<u32>
     requires size { queue.now.buckets ≡ length (V.others slots.now) }
-    requires place { place < length queue.now.places }
-    requires full { let at = place_at queue.now.places place in
-        lowest_empty (V.others slots.now) at.bucket ≡ None }
+    requires table { IsTable (V.depth slots.now) (V.others slots.now) }
+    requires full { let places = queue.now.places in
+        AreFull (V.others slots.now) places 0 (length places) }
     requires from { from ≤ length queue.now.places }
-    requires behind { let T = V.others slots.now in
-        let places = queue.now.places in
-        leads_to_full T (place_at places place).bucket ≡ true
-        → AreFull T places from (length places) }
     ensures { let T = V.others slots.now in
         let places = queue.now.places in
-        MatchOption result (AreFull T places from (length places)) (IsFirst T places from) }
+        MatchOption result (LeadToFull T places from (length places)) (IsLeading T places from) }
 {
-    if slots.leads_to_full(queue.bucket(place)) {
+    let mut place = from;
+    while place < queue.len() {
+        if !slots.leads_to_full(queue.bucket(place)) {
+            return Some(place);
+        }
+        place += 1;
+    }
+    None
+}
+
+/// The same, where only what the entries in the bucket at a place name comes from there on. It mostly
+/// finds by one look that none leads to a bucket that isn't full.
+fn first_leading_behind<V: Slots>(slots: &V, queue: &Queue, place: u32, from: u32) -> Option<u32>
+    requires size { queue.now.buckets ≡ length (V.others slots.now) }
+    requires table { IsTable (V.depth slots.now) (V.others slots.now) }
+    requires full { let places = queue.now.places in
+        AreFull (V.others slots.now) places 0 (length places) }
+    requires from { from ≤ length queue.now.places }
+    requires place { place < length queue.now.places }
+    requires led { let at = place_at queue.now.places place in
+        leads_to_full (V.others slots.now) at.bucket ≡ true }
+    requires behind { let T = V.others slots.now in
+        let places = queue.now.places in
+        others_lead_to_full T (place_at places place).bucket ≡ true
+        → LeadToFull T places from (length places) }
+    ensures { let T = V.others slots.now in
+        let places = queue.now.places in
+        MatchOption result (LeadToFull T places from (length places)) (IsLeading T places from) }
+{
+    if others_lead_to_full(slots, queue.bucket(place)) {
         return None;
     }
-    first_with_room(slots, queue, from)
+    first_leading(slots, queue, from)
+}
+
+/// Whether the other bucket of each entry in a bucket leads to full ones alone, as the bucket does.
+fn others_lead_to_full<V: Slots>(slots: &V, bucket: u32) -> bool
+    requires table { IsTable (V.depth slots.now) (V.others slots.now) }
+    requires within { bucket < length (V.others slots.now) }
+    requires full { lowest_empty (V.others slots.now) bucket ≡ None }
+    requires led { leads_to_full (V.others slots.now) bucket ≡ true }
+    ensures { result ≡ others_lead_to_full (V.others slots.now) bucket }
+{
+    let mut all = true;
+    for other in slots.others(bucket).iter() {
+        all &= slots.leads_to_full(*other);
+    }
+    all
+}
+
+/// Queues the first bucket with an empty slot to which the full one at a place leads, and ends there.
+/// No bucket that is queued has an empty slot.
+fn end_behind<V: Slots>(slots: &V, depth: u32, place: u32, queue: &mut Queue) -> Option<End>
+    requires depth { depth ≡ V.depth slots.now }
+    requires table { IsTable (V.depth slots.now) (V.others slots.now) }
+    requires size { queue.old.buckets ≡ length (V.others slots.now) }
+    requires full { let places = queue.old.places in
+        AreFull (V.others slots.now) places 0 (length places) }
+    requires place { place < length queue.old.places }
+    ensures size { queue.new.buckets ≡ queue.old.buckets }
+    ensures end { let T = V.others slots.now in
+        let from = place_at queue.old.places place in
+        MatchOption result (leads_to_full T from.bucket ≡ true)
+        (IsBehind T from queue.old.places queue.new.places) }
+{
+    let others = slots.others(queue.bucket(place));
+    let mut slot = 0;
+    while slot < depth {
+        let other = others[slot as usize];
+        if let Some(free) = slots.free(other) {
+            let end = End {
+                place: queue.len(),
+                slot: free,
+            };
+            queue.add(other, Some(Link { place, slot }));
+            return Some(end);
+        }
+        slot += 1;
+    }
+    None
 }
 
 /// Queues the other buckets of the entries in a full bucket, in slot order.
