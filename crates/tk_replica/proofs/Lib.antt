@@ -2,7 +2,7 @@ pub mod Ordering
 pub mod Pushes
 pub mod Standing
 pub mod Vectors
-pub mod Halves
+pub mod Paired
 pub mod Replying
 pub mod Several
 pub mod MarksAmong

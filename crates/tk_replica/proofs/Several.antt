@@ -1,12 +1,11 @@
 -- Frames that are served together.
-use Rattle.std.proofs.Common.{◌≡◌, ℕ, zero, suc, ◌+◌, ◌<◌, inl, inr, refl, ap, ap₂, sym, ◌∙◌, arith}
-use Rattle.std.proofs.Common.{subst, List, [], ◌∷◌, ◌++◌, length, take, drop, map, Option, Some}
-use Rattle.std.proofs.Common.{None}
-use Rattle.std.proofs.Common.{append_assoc, take-append-drop}
+use Rattle.std.proofs.Common.{◌≡◌, ℕ, zero, suc, ◌<◌, inl, inr, refl, ap, ap₂, sym, ◌∙◌, arith}
+use Rattle.std.proofs.Common.{subst, List, [], ◌∷◌, ◌++◌, length, take, map, Option, Some}
+use Rattle.std.proofs.Common.{None, append_assoc}
 use Rattle.std.specs.Prelude.{slice_index_or}
 use Rattle.std.specs.Option.{option_or}
 use Rattle.std.specs.List.{AllByRecursion}
-use Rattle.std.proofs.lemmas.List.{map-append, take_more}
+use Rattle.std.proofs.lemmas.List.{map-append}
 use Rattle.tk_shape.specs.declared.shape.Shape.{Shape}
 use Rattle.tk_frames.specs.declared.entry.Placed.{Placed}
 use Rattle.tk_frames.specs.declared.read_frame.ReadFrame.{ReadFrame}
@@ -16,7 +15,6 @@ use Rattle.tk_frames.specs.Spelling.{reply_frame}
 use Rattle.tk_replica.specs.declared.epoch.Epoch.{Epoch}
 use Rattle.tk_replica.specs.declared.error.ServeError.{ServeError}
 use Rattle.tk_replica.specs.Epochs.{IsEpochOf}
-use Rattle.tk_replica.specs.Shelf.{IsHeld}
 use Rattle.tk_replica.specs.Refusals.{serve_refusal, first_refusal, IsServeRefusal}
 use Rattle.tk_replica.specs.Replica.{ReplicaView, StandsFor}
 use Rattle.tk_replica.specs.Replies.{frame_over, reply_for, reply_bytes, IsServed, IsAsked}
@@ -84,21 +82,6 @@ served-in_range s shape (r ∷ rs) same served = (
   served-in_range s shape rs same served.1,
 )
 
--- the epoch that the first of them names is kept
-pub row-held : (s : ReplicaView) (e n : ℕ) (rs : List ReadFrame) → 0 < n → 0 < length rs →
-    AllByRecursion (λ r. r.epoch ≡ e) (take n rs) → AllByRecursion (IsServed s) rs →
-    IsHeld s.floor s.last e
-row-held s e zero rs some there named served = absurd (omega (arith, some))
-row-held s e (suc n) [] some there named served = absurd (omega (arith, there))
-row-held s e (suc n) (r ∷ rs) some there named served =
-    subst (IsHeld s.floor s.last) named.0 served.0.held
-
--- the first of a list is that of its front of one
-pub first-named : (rs : List ReadFrame) (d : ReadFrame) → 0 < length rs →
-    AllByRecursion (λ r. r.epoch ≡ (slice_index_or rs 0 d).epoch) (take 1 rs)
-first-named [] d there = absurd (omega (arith, there))
-first-named (r ∷ rs) d there = (refl, tt)
-
 -- the frame of the reply to a read
 abbrev pub frame_for : Shape → List Placed → ReadFrame → List ℕ
 frame_for shape E r = reply_frame (reply_for shape E r)
@@ -116,19 +99,13 @@ asked-replies shape E s [] (r ∷ rs) is asked = absurd asked
 -- ---- those in a row
 
 module _ {X : Type 0} (P : X → Type 0) where
-  pub all-take : (n : ℕ) (xs : List X) → AllByRecursion P xs → AllByRecursion P (take n xs)
-  all-take zero xs all = tt
-  all-take (suc n) [] all = tt
-  all-take (suc n) (x ∷ xs) all = (all.0, all-take n xs all.1)
+  pub all-front : (xs ys : List X) → AllByRecursion P (xs ++ ys) → AllByRecursion P xs
+  all-front [] ys all = tt
+  all-front (x ∷ xs) ys all = (all.0, all-front xs ys all.1)
 
-  pub all-drop : (n : ℕ) (xs : List X) → AllByRecursion P xs → AllByRecursion P (drop n xs)
-  all-drop zero xs all = all
-  all-drop (suc n) [] all = tt
-  all-drop (suc n) (x ∷ xs) all = all-drop n xs all.1
-
-  pub all-push : (xs : List X) (x : X) → AllByRecursion P xs → P x → AllByRecursion P (xs ++ x ∷ [])
-  all-push [] x all one = (one, tt)
-  all-push (y ∷ xs) x all one = (all.0, all-push xs x all.1 one)
+  pub all-behind : (xs ys : List X) → AllByRecursion P (xs ++ ys) → AllByRecursion P ys
+  all-behind [] ys all = all
+  all-behind (x ∷ xs) ys all = all-behind xs ys all.1
 
 row-replies : (shape : Shape) (E : List Placed) (e : ℕ) (epoch : Epoch) (row : List ReadFrame) →
     IsEpochOf shape E e epoch → AllByRecursion (λ r. r.epoch ≡ e) row →
@@ -139,32 +116,17 @@ row-replies shape E e epoch (r ∷ row) is named =
     (ap reply_frame (over-epoch shape E e epoch r is named.0))
     (row-replies shape E e epoch row is named.1)
 
--- one more of what f gives
-pub map-next : {X Y : Type 0} (f : X → Y) (xs : List X) (i : ℕ) (x : X) (old now next : List Y) →
-    i < length xs → x ≡ slice_index_or xs i x → now ≡ old ++ map f (take i xs) →
-    next ≡ now ++ f x ∷ [] → next ≡ old ++ map f (take (i + 1) xs)
-map-next {X} {Y} f xs i x old now next low at so_far pushed =
-    let one : take (i + 1) xs ≡ take i xs ++ x ∷ [] =
-    take_more xs i x low ∙ ap (λ (y : X). take i xs ++ y ∷ []) (sym at)
-    in
-    pushed ∙ ap (λ (ys : List Y). ys ++ f x ∷ []) so_far
-    ∙ append_assoc old (map f (take i xs)) (f x ∷ [])
-    ∙ ap (λ (ys : List Y). old ++ ys)
-    (sym (map-append f (take i xs) (x ∷ [])) ∙ ap (map f) (sym one))
-
--- the replies to a row, and those to what is left
-pub row-served : (shape : Shape) (E : List Placed) (e n : ℕ) (epoch : Epoch)
-    (rest : List ReadFrame) (old new all : List (List ℕ)) → IsEpochOf shape E e epoch →
-    AllByRecursion (λ r. r.epoch ≡ e) (take n rest) →
-    new ≡ old ++ map (frame_over epoch) (take n rest) →
-    old ++ map (frame_for shape E) rest ≡ all →
-    new ++ map (frame_for shape E) (drop n rest) ≡ all
-row-served shape E e n epoch rest old new all is named pushed so_far =
+-- the replies to a row, and those to what is behind it
+pub row-served : (shape : Shape) (E : List Placed) (e : ℕ) (epoch : Epoch)
+    (row behind rest : List ReadFrame) (old new all : List (List ℕ)) →
+    IsEpochOf shape E e epoch → AllByRecursion (λ r. r.epoch ≡ e) row → rest ≡ row ++ behind →
+    new ≡ old ++ map (frame_over epoch) row → old ++ map (frame_for shape E) rest ≡ all →
+    new ++ map (frame_for shape E) behind ≡ all
+row-served shape E e epoch row behind rest old new all is named split pushed so_far =
     let f = frame_for shape E in
-    ap (λ (xs : List (List ℕ)). xs ++ map f (drop n rest))
+    ap (λ (xs : List (List ℕ)). xs ++ map f behind)
     (pushed
-    ∙ ap (λ (xs : List (List ℕ)). old ++ xs) (row-replies shape E e epoch (take n rest) is named))
-    ∙ append_assoc old (map f (take n rest)) (map f (drop n rest))
-    ∙ ap (λ (xs : List (List ℕ)). old ++ xs)
-    (sym (map-append f (take n rest) (drop n rest)) ∙ ap (map f) (take-append-drop n rest))
+    ∙ ap (λ (xs : List (List ℕ)). old ++ xs) (row-replies shape E e epoch row is named))
+    ∙ append_assoc old (map f row) (map f behind)
+    ∙ ap (λ (xs : List (List ℕ)). old ++ xs) (sym (ap (map f) split ∙ map-append f row behind))
     ∙ so_far

@@ -1,5 +1,5 @@
 -- What a server is asked, and what it replies.
-use Rattle.std.specs.Prelude.{◌≡◌, ℕ, List, [], ◌∷◌, ◌++◌, map}
+use Rattle.std.specs.Prelude.{◌≡◌, ℕ, List, [], ◌∷◌}
 use Rattle.tk_shape.specs.declared.shape.Shape.{Shape}
 use Rattle.tk_kernel.specs.Chosen.{chosen_sum}
 use Rattle.tk_frames.specs.declared.read_frame.ReadFrame.{ReadFrame}
@@ -10,6 +10,7 @@ use Rattle.tk_frames.specs.Order.{before}
 use Rattle.tk_frames.specs.Ranges.{IsRead}
 use Rattle.tk_frames.specs.Spelling.{read_frame, reply_frame}
 use Rattle.tk_replica.specs.declared.epoch.Epoch.{Epoch}
+use Rattle.tk_replica.specs.declared.reply.Asker.{Asker}
 use Rattle.tk_table.specs.Replies.{reply_to}
 use Rattle.tk_replica.specs.Shelf.{IsHeld}
 use Rattle.tk_replica.specs.Replica.{ReplicaView}
@@ -49,12 +50,37 @@ reply_due shape E bytes = reply_for shape E (read_in shape bytes)
 abbrev pub reply_bytes : Shape → List Placed → List ℕ → List ℕ
 reply_bytes shape E bytes = reply_frame (reply_due shape E bytes)
 
--- ---- what is asked
+-- ---- what is replied to several reads
 
--- the first vectors of some reads, and then the second ones
-abbrev pub vectors_of : List ReadFrame → List (List ℕ)
-vectors_of rs =
-    map (λ (r : ReadFrame). r.first) rs ++ map (λ (r : ReadFrame). r.second) rs
+-- who asks by a read
+abbrev pub asker_of : ReadFrame → Asker
+asker_of r = record { client = r.client; turn = r.turn; epoch = r.epoch }
+
+-- the reply to it, with these sums
+abbrev pub asker_reply : Asker → List ℕ → List ℕ → ReplyFrame
+asker_reply a first second =
+    record {
+      client = a.client;
+      turn = a.turn;
+      epoch = a.epoch;
+      first = first;
+      second = second;
+    }
+
+-- the vectors of reads, two for each
+abbrev pub both_vectors : List ReadFrame → List (List ℕ)
+both_vectors [] = []
+both_vectors (r ∷ rs) = r.first ∷ r.second ∷ both_vectors rs
+
+-- the reply frames to askers, with two of the sums for each
+abbrev pub frames_with : List Asker → List (List ℕ) → List (List ℕ)
+frames_with [] sums = []
+frames_with (a ∷ askers) (first ∷ second ∷ sums) =
+    reply_frame (asker_reply a first second) ∷ frames_with askers sums
+frames_with (a ∷ askers) (first ∷ []) = []
+frames_with (a ∷ askers) [] = []
+
+-- ---- what is asked
 
 -- a read in range, whose epoch a state keeps
 pub record IsServed (s : ReplicaView) (r : ReadFrame) : Type 0 where

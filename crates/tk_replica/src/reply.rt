@@ -1,17 +1,25 @@
-ghost use Rattle.std.specs.Prelude.{◌≡◌, ◌*◌, ◌++◌, length, map, take, drop, IfOk, OnOk};
+ghost use Rattle.std.specs.Prelude.{◌≡◌, ◌*◌, ◌++◌, length, map, IfOk, OnOk};
 ghost use Rattle.std.specs.List.{All, AllByRecursion};
 ghost use Rattle.tk_shape.specs.Lengths.{vector_len, width};
 ghost use Rattle.tk_kernel.specs.Chosen.{chosen_sum};
 ghost use Rattle.tk_frames.specs.Ranges.{IsRead, IsReply};
 ghost use Rattle.tk_frames.specs.Spelling.{reply_frame};
-ghost use Rattle.tk_replica.specs.Replies.{sum_over, reply_with, reply_over, frame_over};
-ghost use Rattle.tk_replica.specs.Replies.{vectors_of};
+ghost use Rattle.tk_replica.specs.Replies.{sum_over, reply_over, frame_over};
+ghost use Rattle.tk_replica.specs.Replies.{asker_of, asker_reply, both_vectors, frames_with};
 
 use crate::Epoch;
 use std::alloc::Global;
 use tk_answer::{Blocks, answer, answer_each};
 use tk_frames::{ReadFrame, ReplyFrame, encode_reply};
 use tk_shape::{Bytes, Memory};
+
+/// Who asks by a read, and over which epoch.
+#[derive(Clone, Copy, Debug)]
+struct Asker {
+    client: u32,
+    turn: u32,
+    epoch: u32,
+}
 
 impl Epoch {
     /// The reply frame to a read, over these blocks.
@@ -22,28 +30,24 @@ impl Epoch {
     {
         let first = self.sum(alloc, read.first.as_slice())?;
         let second = self.sum(alloc, read.second.as_slice())?;
-        spelled(alloc, read, first, second)
+        Asker::of(read).reply(alloc, first, second)
     }
 
-    /// Puts the reply frames to several reads behind the others, in their order.
+    /// Puts the reply frames to several reads behind the others, in their order. All vectors are
+    /// answered in one pass over the blocks.
     pub(crate) fn reply_all(
         &self,
         alloc: Global,
-        reads: &[ReadFrame],
+        reads: Vec<ReadFrame>,
         out: &mut Vec<Bytes>,
     ) -> Result<(), Memory>
-        requires { AllByRecursion (IsRead self.now.shape) reads.now }
+        requires { AllByRecursion (IsRead self.now.shape) reads.items }
         ensures { OnOk result (out.new.items
-            ≡ out.old.items ++ map (frame_over self.now) reads.now) }
+            ≡ out.old.items ++ map (frame_over self.now) reads.items) }
     {
-        let sums = self.sums(alloc, reads)?;
-        let (firsts, seconds) = sums.as_slice().split_at(reads.len());
-        for i in 0..reads.len() {
-            let first = firsts[i].clone()?;
-            let second = seconds[i].clone()?;
-            out.push(spelled(alloc, &reads[i], first, second)?)?;
-        }
-        Ok(())
+        let (askers, vectors) = taken_apart(alloc, reads)?;
+        let sums = self.sum_each(alloc, vectors)?;
+        push_replies(alloc, askers.as_slice(), sums, out)
     }
 
     /// The sum of the blocks that a vector chooses.
@@ -57,19 +61,6 @@ impl Epoch {
         Ok(Bytes::from_vec(sum))
     }
 
-    /// The sums for the first vectors of these reads, and then those for the second ones.
-    fn sums(&self, alloc: Global, reads: &[ReadFrame]) -> Result<Vec<Bytes>, Memory>
-        requires { AllByRecursion (IsRead self.now.shape) reads.now }
-        ensures counted { IfOk result (λ sums. length sums.items ≡ 2 * length reads.now) }
-        ensures first { IfOk result (λ sums. take (length reads.now) sums.items
-            ≡ map (λ r. sum_over self.now r.first) reads.now) }
-        ensures second { IfOk result (λ sums. drop (length reads.now) sums.items
-            ≡ map (λ r. sum_over self.now r.second) reads.now) }
-    {
-        let vectors = vectors_of(alloc, reads)?;
-        self.sum_each(alloc, vectors)
-    }
-
     /// For each of these vectors the sum of the blocks that it chooses, all in one pass over the
     /// blocks.
     fn sum_each(&self, alloc: Global, vectors: Vec<Bytes>) -> Result<Vec<Bytes>, Memory>
@@ -80,32 +71,69 @@ impl Epoch {
     }
 }
 
-/// The first vectors of these reads, and then the second ones.
-fn vectors_of(alloc: Global, reads: &[ReadFrame]) -> Result<Vec<Bytes>, Memory>
-    ensures { IfOk result (λ vectors. vectors.items ≡ vectors_of reads.now) }
-{
-    let mut vectors = Vec::new(alloc);
-    'firsts: for read in reads {
-        vectors.push(read.first.clone()?)?;
+impl Asker {
+    fn of(read: &ReadFrame) -> Asker
+        ensures { result ≡ asker_of read.now }
+    {
+        Asker {
+            client: read.client,
+            turn: read.turn,
+            epoch: read.epoch,
+        }
     }
-    'seconds: for read in reads {
-        vectors.push(read.second.clone()?)?;
+
+    /// The reply frame with these sums.
+    fn reply(&self, alloc: Global, first: Bytes, second: Bytes) -> Result<Bytes, Memory>
+        ensures { IfOk result (λ bytes. bytes ≡ reply_frame (asker_reply self.now first second)) }
+    {
+        let reply = ReplyFrame {
+            client: self.client,
+            turn: self.turn,
+            epoch: self.epoch,
+            first,
+            second,
+        };
+        let mut out = Vec::new(alloc);
+        encode_reply(&reply, &mut out)?;
+        Ok(Bytes::from_vec(out))
     }
-    Ok(vectors)
 }
 
-/// The reply frame to a read with these sums.
-fn spelled(alloc: Global, read: &ReadFrame, first: Bytes, second: Bytes) -> Result<Bytes, Memory>
-    ensures { IfOk result (λ bytes. bytes ≡ reply_frame (reply_with read.now first second)) }
+/// Who asks by these reads, and their vectors, two for each.
+fn taken_apart(alloc: Global, reads: Vec<ReadFrame>) -> Result<(Vec<Asker>, Vec<Bytes>), Memory>
+    ensures askers { IfOk result (λ parts. parts.0.items ≡ map asker_of reads.items) }
+    ensures vectors { IfOk result (λ parts. parts.1.items ≡ both_vectors reads.items) }
 {
-    let reply = ReplyFrame {
-        client: read.client,
-        turn: read.turn,
-        epoch: read.epoch,
-        first,
-        second,
-    };
-    let mut out = Vec::new(alloc);
-    encode_reply(&reply, &mut out)?;
-    Ok(Bytes::from_vec(out))
+    let mut askers = Vec::new(alloc);
+    let mut vectors = Vec::new(alloc);
+    for read in reads {
+        askers.push(Asker::of(&read))?;
+        vectors.push(read.first)?;
+        vectors.push(read.second)?;
+    }
+    Ok((askers, vectors))
+}
+
+/// Puts the reply frames to these askers behind the others, with two of the sums for each.
+fn push_replies(
+    alloc: Global,
+    askers: &[Asker],
+    sums: Vec<Bytes>,
+    out: &mut Vec<Bytes>,
+) -> Result<(), Memory>
+    ensures { OnOk result (out.new.items ≡ out.old.items ++ frames_with askers.now sums.items) }
+{
+    let mut rest = sums.into_iter();
+    let mut left = askers;
+    'askers: while let Some((asker, behind)) = left.split_first() {
+        let Some(first) = rest.next() else {
+            return Err(Memory);
+        };
+        let Some(second) = rest.next() else {
+            return Err(Memory);
+        };
+        out.push(asker.reply(alloc, first, second)?)?;
+        left = behind;
+    }
+    Ok(())
 }

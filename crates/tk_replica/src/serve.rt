@@ -1,4 +1,4 @@
-ghost use Rattle.std.specs.Prelude.{◌≡◌, ◌<◌, ◌≤◌, List, None, length, map, take, IfOk, IfErr};
+ghost use Rattle.std.specs.Prelude.{◌≡◌, ◌<◌, ◌∷◌, ◌++◌, List, None, length, map, IfOk, IfErr};
 ghost use Rattle.std.specs.Prelude.{OnOk};
 ghost use Rattle.std.specs.List.{AllByRecursion};
 ghost use Rattle.tk_shape.specs.declared.shape.Shape.{Shape};
@@ -10,8 +10,9 @@ ghost use Rattle.tk_replica.specs.Replies.{reply_due, reply_bytes, IsAsked, AreA
 
 use crate::{ReplicaState, ServeError};
 use std::alloc::Global;
+use std::collections::VecDeque;
 use tk_frames::{ReadFrame, decode_read};
-use tk_shape::Bytes;
+use tk_shape::{Bytes, Memory};
 
 impl ReplicaState {
     /// The reply frame to a read frame, over the blocks of the epoch that it names.
@@ -35,14 +36,12 @@ impl ReplicaState {
         ensures replies { (shape : Shape) (E : List Placed) → StandsFor shape E self.now
             → IfOk result (λ replies. replies.items ≡ map (reply_bytes shape E) frames.now) }
     {
-        let reads = self.read_all(alloc, frames)?;
+        let mut rest = VecDeque::from(self.read_all(alloc, frames)?);
         let mut replies = Vec::new(alloc);
-        let mut rest = reads.as_slice();
-        while !rest.is_empty() {
-            let (number, count) = in_a_row(rest);
-            let (row, behind) = rest.split_at(count);
+        'rows: while let Some(first) = rest.pop_front() {
+            let number = first.epoch;
+            let row = in_a_row(alloc, first, &mut rest)?;
             self.epoch(number).reply_all(alloc, row, &mut replies)?;
-            rest = behind;
         }
         Ok(replies)
     }
@@ -72,17 +71,21 @@ impl ReplicaState {
     }
 }
 
-/// The epoch that the first read names, and how many in a row name it.
-fn in_a_row(reads: &[ReadFrame]) -> (u32, usize)
-    requires { 0 < length reads.now }
-    ensures some { 0 < result.1 }
-    ensures within { result.1 ≤ length reads.now }
-    ensures same { AllByRecursion (λ r. r.epoch ≡ result.0) (take result.1 reads.now) }
+/// This read, and behind it those of the others that name its epoch in a row.
+fn in_a_row(
+    alloc: Global,
+    first: ReadFrame,
+    rest: &mut VecDeque<ReadFrame>,
+) -> Result<Vec<ReadFrame>, Memory>
+    ensures some { IfOk result (λ row. 0 < length row.items) }
+    ensures same { IfOk result (λ row. AllByRecursion (λ r. r.epoch ≡ first.epoch) row.items) }
+    ensures taken { IfOk result (λ row. first ∷ rest.old.items ≡ row.items ++ rest.new.items) }
 {
-    let number = reads[0].epoch;
-    let mut count = 1;
-    while count < reads.len() && reads[count].epoch == number {
-        count += 1;
+    let number = first.epoch;
+    let mut row = Vec::new(alloc);
+    row.push(first)?;
+    'row: while let Some(read) = rest.pop_front_if(|read| read.epoch == number) {
+        row.push(read)?;
     }
-    (number, count)
+    Ok(row)
 }

@@ -8,13 +8,14 @@ use Rattle.tk_replica.specs.Replies.{reply_bytes, IsServed}
 use Rattle.tk_replica.proofs.Several.{frame_for}
 use Rattle.tk_replica.proofs.state.ReplicaState.serve_all.Given as goal
 
-abbrev pub invariant-loop-rest : goal.invariant-loop-rest
-invariant-loop-rest l =
+abbrev pub invariant-rows : goal.invariant-rows
+invariant-rows l =
     record {
-      served : AllByRecursion (IsServed l.self) l.rest;
+      served : AllByRecursion (IsServed l.self) l.rest.items;
       replies : (shape : Shape) (E : List Placed) → StandsFor shape E l.self →
-          l.replies.items ++ map (frame_for shape E) l.rest ≡ map (reply_bytes shape E) l.frames;
+          l.replies.items ++ map (frame_for shape E) l.rest.items
+          ≡ map (reply_bytes shape E) l.frames;
     }
 
-abbrev pub decreases-loop-rest : goal.decreases-loop-rest
-decreases-loop-rest l = length l.rest
+abbrev pub decreases-rows : goal.decreases-rows
+decreases-rows l = length l.rest.items
