@@ -1,6 +1,6 @@
 -- What a closed cluster had, by client.
 use Rattle.std.proofs.Common.{◌≡◌, ℕ, zero, suc, ◌+◌, List, [], ◌∷◌, ◌++◌, length, map}
-use Rattle.std.proofs.Common.{slice_set, refl, ap, sym, ◌∙◌, subst, arith, length-append}
+use Rattle.std.proofs.Common.{slice_set, refl, ap, sym, ◌∙◌, arith, length-append}
 use Rattle.std.specs.Prelude.{replicate}
 use Rattle.std.proofs.lemmas.List.{length-set}
 use Rattle.tk_shape.specs.declared.shape.Shape.{Shape}

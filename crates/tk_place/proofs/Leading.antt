@@ -14,7 +14,7 @@ use Rattle.tk_place.specs.Views.{place_at, reached_by}
 use Rattle.tk_place.specs.declared.search.End.{End}
 use Rattle.tk_place.proofs.Reaching.{not_before-append, AllOf, AllOf-append}
 use Rattle.tk_place.proofs.Ends.{IsSearching, has_room, named_by, slots_below, all_below}
-use Rattle.tk_place.proofs.Later.{IsFullAt, EachAt, IsStep, stepped, searching_ends_later, full_joined, each_stays, each_joined, each_behind, new_of, none_of}
+use Rattle.tk_place.proofs.Later.{IsFullAt, EachAt, stepped, searching_ends_later, full_joined, each_stays, each_joined, each_behind, new_of, none_of}
 
 -- ---- what leads to full buckets alone
 

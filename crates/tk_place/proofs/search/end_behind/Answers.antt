@@ -1,7 +1,6 @@
-use Rattle.std.proofs.Common.{get_or, ◌≡◌, ◌<◌, ◌++◌, ◌∷◌, [], length, map, Some, None, ap, sym, subst, ◌∙◌, arith, ℕ, true}
+use Rattle.std.proofs.Common.{get_or, ◌++◌, ◌∷◌, [], length, Some, ap, sym, ◌∙◌, arith}
 use Rattle.tk_place.specs.Place.{slots_of, not_before}
-use Rattle.tk_place.specs.Views.{place_at, reached_by}
-use Rattle.tk_place.specs.Table.{slot_at, is_other_full}
+use Rattle.tk_place.specs.Views.{reached_by}
 use Rattle.tk_place.proofs.Leading.{row_below, row_long, full_so_far, all_full, found_behind}
 use Rattle.tk_place.proofs.search.end_behind.Goals as goal
 
