@@ -1,5 +1,5 @@
 -- Frames that are answered together.
-use Rattle.std.proofs.Common.{◌≡◌, ℕ, zero, suc, ◌+◌, ◌<◌, inl, inr, refl, ap, ap₂, sym, ◌∙◌, arith}
+use Rattle.std.proofs.Common.{◌≡◌, ℕ, zero, suc, ◌<◌, inl, inr, refl, ap, ap₂, sym, ◌∙◌, arith}
 use Rattle.std.proofs.Common.{subst, List, [], ◌∷◌, ◌++◌, length, take, map, Option, Some, None}
 use Rattle.std.proofs.Common.{append_assoc, ◌≢◌, Bool, cond}
 use Rattle.std.proofs.lemmas.Bool.{eq-eqb, ne_eqb}
@@ -18,17 +18,17 @@ use Rattle.tk_frames.specs.Faults.{IsRefusal, first_fault, read_checks}
 use Rattle.tk_frames.specs.Fields.{read_in}
 use Rattle.tk_frames.proofs.Offers.{read-again}
 use Rattle.tk_frames.specs.Lists.{first_some}
-use Rattle.tk_frames.specs.Spelling.{reply_frame}
+use Rattle.tk_replica.specs.declared.asker.Asker.{Asker}
 use Rattle.tk_replica.specs.declared.epoch.Epoch.{Epoch}
 use Rattle.tk_replica.specs.Epochs.{IsEpochOf}
 use Rattle.tk_replica.specs.Replies.{sum_over, frame_over, reply_bytes}
-use Rattle.tk_cluster.specs.declared.answer.Asker.{Asker}
+use Rattle.tk_replica.specs.Replies.{asker_of, both_vectors, frames_with}
+use Rattle.tk_replica.proofs.Offers.{both-push, frames-over}
 use Rattle.tk_cluster.specs.declared.error.AnswerError.{AnswerError}
 use Rattle.tk_cluster.specs.declared.error.AnswerError.TheVariants.{Epoch as OtherEpoch}
 use Rattle.tk_cluster.specs.declared.set.EpochSet.{EpochSet}
 use Rattle.tk_cluster.specs.Refusals.{answer_error, refusal_behind, answer_refusal, first_unanswered}
 use Rattle.tk_cluster.specs.Refusals.{other_epoch, SpellsRead, IsManyRefusal, IsAsked}
-use Rattle.tk_cluster.specs.Many.{asker_of, reply_with, both_vectors, frames_with}
 use Rattle.tk_cluster.specs.Many.{Names, AreNamed, AreReads}
 use Rattle.tk_cluster.proofs.Replying.{reply-over}
 
@@ -123,12 +123,6 @@ module _ (shape : Shape) (number : ℕ) where
   named-push (x ∷ fs) [] f r named one = absurd named
   named-push [] (y ∷ rs) f r named one = absurd named
 
-  both-push : (rs : List ReadFrame) (r : ReadFrame) →
-      both_vectors (rs ++ r ∷ []) ≡ both_vectors rs ++ r.first ∷ r.second ∷ []
-  both-push [] r = refl
-  both-push (y ∷ rs) r =
-      ap (λ (vs : List (List ℕ)). y.first ∷ y.second ∷ vs) (both-push rs r)
-
   pub no-reads : AreReads shape number [] [] []
   no-reads = record { reads = []; spelled = tt; askers_are = refl; vectors_are = refl }
 
@@ -185,14 +179,6 @@ reads-asked set fs askers vectors are = asked-each set fs are.reads are.spelled
 
 -- ---- what is replied
 
--- two sums for each asker give the frames over the epoch
-frames-over : (epoch : Epoch) (rs : List ReadFrame) →
-    frames_with (map asker_of rs) (map (sum_over epoch) (both_vectors rs))
-    ≡ map (frame_over epoch) rs
-frames-over epoch [] = refl
-frames-over epoch (r ∷ rs) =
-    ap (λ (fs : List (List ℕ)). frame_over epoch r ∷ fs) (frames-over epoch rs)
-
 frames-due : (shape : Shape) (E : List Placed) (e : ℕ) (epoch : Epoch) (fs : List (List ℕ))
     (rs : List ReadFrame) → IsEpochOf shape E e epoch → AreNamed shape e fs rs →
     map (frame_over epoch) rs ≡ map (reply_bytes shape E) fs
@@ -214,16 +200,3 @@ replies-due shape E e epoch fs askers vectors sums is are summed =
     ap₂ (λ (left : List Asker) (xs : List (List ℕ)). frames_with left xs) are.askers_are
     (summed ∙ ap (map (sum_over epoch)) are.vectors_are)
     ∙ frames-over epoch are.reads ∙ frames-due shape E e epoch fs are.reads is are.spelled
-
--- one more of the frames, with the next two sums
-pub frames-push : (left behind : List Asker) (asker : Asker) (first second : List ℕ)
-    (sums rest old new all : List (List ℕ)) → left ≡ asker ∷ behind →
-    sums ≡ first ∷ second ∷ rest → new ≡ old ++ reply_frame (reply_with asker first second) ∷ [] →
-    old ++ frames_with left sums ≡ all → new ++ frames_with behind rest ≡ all
-frames-push left behind asker first second sums rest old new all one two pushed so_far =
-    let frame = reply_frame (reply_with asker first second) in
-    ap (λ (xs : List (List ℕ)). xs ++ frames_with behind rest) pushed
-    ∙ append_assoc old (frame ∷ []) (frames_with behind rest)
-    ∙ ap₂ (λ (those : List Asker) (xs : List (List ℕ)). old ++ frames_with those xs) (sym one)
-    (sym two)
-    ∙ so_far

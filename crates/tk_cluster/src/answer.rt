@@ -2,62 +2,21 @@ ghost use Rattle.std.specs.Prelude.{◌≡◌, ◌≤◌, ℕ, List, None, lengt
 ghost use Rattle.tk_shape.specs.declared.shape.Shape.{Shape};
 ghost use Rattle.tk_frames.specs.declared.entry.Placed.{Placed};
 ghost use Rattle.tk_frames.specs.Faults.{first_fault, read_checks};
-ghost use Rattle.tk_frames.specs.Ranges.{IsRead};
-ghost use Rattle.tk_shape.specs.Lengths.{vector_len};
 ghost use Rattle.tk_bloom.specs.Filters.{all_marked};
 ghost use Rattle.tk_table.specs.Shown.{is_shown};
-ghost use Rattle.tk_replica.specs.Replies.{sum_over, frame_over, reply_bytes};
+ghost use Rattle.tk_replica.specs.Replies.{reply_bytes};
 ghost use Rattle.tk_replica.specs.Epochs.{filter_of, IsEpochOf};
 ghost use Rattle.tk_frames.specs.Order.{before};
-ghost use Rattle.tk_frames.specs.Spelling.{reply_frame};
 ghost use Rattle.tk_cluster.specs.Refusals.{IsAnswerRefusal, IsAsked, SpellsRead};
 ghost use Rattle.tk_cluster.specs.Refusals.{answer_refusal, IsManyRefusal};
-ghost use Rattle.tk_cluster.specs.Many.{asker_of, reply_with};
 ghost use Rattle.tk_cluster.specs.Sets.{Stands};
 
 use crate::{AnswerError, EpochSet};
 use std::alloc::Global;
-use tk_answer::{Blocks, answer};
 use tk_bloom::Filter;
-use tk_frames::{ReadFrame, ReplyFrame, decode_read, encode_reply};
+use tk_frames::{ReadFrame, decode_read};
 use tk_replica::Epoch;
-use tk_shape::{Bytes, Memory};
-
-/// Who asks by a read, and over which epoch.
-#[derive(Clone, Copy, Debug)]
-pub(crate) struct Asker {
-    client: u32,
-    turn: u32,
-    epoch: u32,
-}
-
-impl Asker {
-    pub(crate) fn of(read: &ReadFrame) -> Asker
-        ensures { result ≡ asker_of read.now }
-    {
-        Asker {
-            client: read.client,
-            turn: read.turn,
-            epoch: read.epoch,
-        }
-    }
-
-    /// The reply frame with these sums.
-    pub(crate) fn reply(&self, alloc: Global, first: Bytes, second: Bytes) -> Result<Bytes, Memory>
-        ensures { IfOk result (λ bytes. bytes ≡ reply_frame (reply_with self.now first second)) }
-    {
-        let reply = ReplyFrame {
-            client: self.client,
-            turn: self.turn,
-            epoch: self.epoch,
-            first,
-            second,
-        };
-        let mut out = Vec::new(alloc);
-        encode_reply(&reply, &mut out)?;
-        Ok(Bytes::from_vec(out))
-    }
-}
+use tk_shape::Bytes;
 
 impl EpochSet {
     /// What is worth reading in its epochs.
@@ -83,7 +42,7 @@ impl EpochSet {
     {
         let alloc = *self.epochs.allocator();
         let read = self.read(alloc, frame)?;
-        Ok(reply(alloc, self.epoch(server), &read)?)
+        Ok(self.epoch(server).reply(alloc, &read)?)
     }
 
     /// A server's epoch.
@@ -119,25 +78,4 @@ impl EpochSet {
         }
         Ok(read)
     }
-}
-
-/// The reply frame to a read, over the blocks of an epoch.
-fn reply(alloc: Global, epoch: &Epoch, read: &ReadFrame) -> Result<Bytes, Memory>
-    requires { IsRead epoch.now.shape read.now }
-    ensures { IfOk result (λ bytes. bytes ≡ frame_over epoch.now read.now) }
-{
-    let first = sum(alloc, epoch, read.first.as_slice())?;
-    let second = sum(alloc, epoch, read.second.as_slice())?;
-    Asker::of(read).reply(alloc, first, second)
-}
-
-/// The sum of the blocks that a vector chooses.
-fn sum(alloc: Global, epoch: &Epoch, vector: &[u8]) -> Result<Bytes, Memory>
-    requires { length vector.now ≡ vector_len epoch.now.shape }
-    ensures { IfOk result (λ sum. sum ≡ sum_over epoch.now vector.now) }
-{
-    let blocks = epoch.blocks();
-    let mut sum = vec![in alloc; 0u8; blocks.width() as usize]?;
-    answer(blocks, vector, sum.as_mut_slice());
-    Ok(Bytes::from_vec(sum))
 }

@@ -5,15 +5,14 @@ ghost use Rattle.tk_shape.specs.Lengths.{vector_len};
 ghost use Rattle.tk_frames.specs.declared.entry.Placed.{Placed};
 ghost use Rattle.tk_replica.specs.Replies.{sum_over, reply_bytes};
 ghost use Rattle.tk_cluster.specs.Refusals.{first_unanswered, IsManyRefusal, IsAsked};
-ghost use Rattle.tk_cluster.specs.Many.{AreReads, frames_with};
+ghost use Rattle.tk_cluster.specs.Many.{AreReads};
 ghost use Rattle.tk_cluster.specs.Sets.{Stands};
 
-use crate::answer::Asker;
 use crate::{AnswerError, EpochSet};
 use std::alloc::Global;
 use std::thread::Threads;
 use tk_batch::answer_all;
-use tk_replica::Epoch;
+use tk_replica::{Asker, Epoch, push_replies};
 use tk_shape::{Bytes, Memory};
 
 impl EpochSet {
@@ -41,7 +40,9 @@ impl EpochSet {
         let alloc = *self.epochs.allocator();
         let (askers, vectors) = self.reads(alloc, frames)?;
         let sums = sums(rt, self.epoch(server), vectors, workers)?;
-        Ok(replies(alloc, askers.as_slice(), sums)?)
+        let mut replies = Vec::new(alloc);
+        push_replies(alloc, askers.as_slice(), sums, &mut replies)?;
+        Ok(replies)
     }
 
     /// Who asks by these frames, and the vectors, two for each, if all name this epoch.
@@ -83,24 +84,4 @@ fn sums<R: Threads + Sync>(
     ensures { IfOk result (λ sums. sums.items ≡ map (sum_over epoch.now) vectors.items) }
 {
     answer_all(rt, epoch.blocks(), vectors, workers)
-}
-
-/// The reply frames to these askers, with two of the sums for each.
-fn replies(alloc: Global, askers: &[Asker], sums: Vec<Bytes>) -> Result<Vec<Bytes>, Memory>
-    ensures { IfOk result (λ replies. replies.items ≡ frames_with askers.now sums.items) }
-{
-    let mut replies = Vec::new(alloc);
-    let mut rest = sums.into_iter();
-    let mut left = askers;
-    'askers: while let Some((asker, behind)) = left.split_first() {
-        let Some(first) = rest.next() else {
-            return Err(Memory);
-        };
-        let Some(second) = rest.next() else {
-            return Err(Memory);
-        };
-        replies.push(asker.reply(alloc, first, second)?)?;
-        left = behind;
-    }
-    Ok(replies)
 }

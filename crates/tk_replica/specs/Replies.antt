@@ -10,7 +10,7 @@ use Rattle.tk_frames.specs.Order.{before}
 use Rattle.tk_frames.specs.Ranges.{IsRead}
 use Rattle.tk_frames.specs.Spelling.{read_frame, reply_frame}
 use Rattle.tk_replica.specs.declared.epoch.Epoch.{Epoch}
-use Rattle.tk_replica.specs.declared.reply.Asker.{Asker}
+use Rattle.tk_replica.specs.declared.asker.Asker.{Asker}
 use Rattle.tk_table.specs.Replies.{reply_to}
 use Rattle.tk_replica.specs.Shelf.{IsHeld}
 use Rattle.tk_replica.specs.Replica.{ReplicaView}

@@ -2,6 +2,7 @@
 #![tactic(auto)]
 
 mod apply;
+mod asker;
 mod epoch;
 mod error;
 mod followed;
@@ -15,6 +16,7 @@ mod shelf;
 mod state;
 mod store;
 
+pub use asker::{Asker, push_replies};
 pub use epoch::Epoch;
 pub use error::{PinError, ServeError};
 pub use held::Held;

@@ -3,27 +3,19 @@ ghost use Rattle.std.specs.List.{All, AllByRecursion};
 ghost use Rattle.tk_shape.specs.Lengths.{vector_len, width};
 ghost use Rattle.tk_kernel.specs.Chosen.{chosen_sum};
 ghost use Rattle.tk_frames.specs.Ranges.{IsRead, IsReply};
-ghost use Rattle.tk_frames.specs.Spelling.{reply_frame};
 ghost use Rattle.tk_replica.specs.Replies.{sum_over, reply_over, frame_over};
-ghost use Rattle.tk_replica.specs.Replies.{asker_of, asker_reply, both_vectors, frames_with};
+ghost use Rattle.tk_replica.specs.Replies.{asker_of, both_vectors};
 
-use crate::Epoch;
+use crate::asker::push_replies;
+use crate::{Asker, Epoch};
 use std::alloc::Global;
 use tk_answer::{Blocks, answer, answer_each};
-use tk_frames::{ReadFrame, ReplyFrame, encode_reply};
+use tk_frames::ReadFrame;
 use tk_shape::{Bytes, Memory};
-
-/// Who asks by a read, and over which epoch.
-#[derive(Clone, Copy, Debug)]
-struct Asker {
-    client: u32,
-    turn: u32,
-    epoch: u32,
-}
 
 impl Epoch {
     /// The reply frame to a read, over these blocks.
-    pub(crate) fn reply(&self, alloc: Global, read: &ReadFrame) -> Result<Bytes, Memory>
+    pub fn reply(&self, alloc: Global, read: &ReadFrame) -> Result<Bytes, Memory>
         requires { IsRead self.now.shape read.now }
         ensures reply { IfOk result (λ bytes. bytes ≡ frame_over self.now read.now) }
         ensures in_range { OnOk result (IsReply self.now.shape (reply_over self.now read.now)) }
@@ -71,34 +63,6 @@ impl Epoch {
     }
 }
 
-impl Asker {
-    fn of(read: &ReadFrame) -> Asker
-        ensures { result ≡ asker_of read.now }
-    {
-        Asker {
-            client: read.client,
-            turn: read.turn,
-            epoch: read.epoch,
-        }
-    }
-
-    /// The reply frame with these sums.
-    fn reply(&self, alloc: Global, first: Bytes, second: Bytes) -> Result<Bytes, Memory>
-        ensures { IfOk result (λ bytes. bytes ≡ reply_frame (asker_reply self.now first second)) }
-    {
-        let reply = ReplyFrame {
-            client: self.client,
-            turn: self.turn,
-            epoch: self.epoch,
-            first,
-            second,
-        };
-        let mut out = Vec::new(alloc);
-        encode_reply(&reply, &mut out)?;
-        Ok(Bytes::from_vec(out))
-    }
-}
-
 /// Who asks by these reads, and their vectors, two for each.
 fn taken_apart(alloc: Global, reads: Vec<ReadFrame>) -> Result<(Vec<Asker>, Vec<Bytes>), Memory>
     ensures askers { IfOk result (λ parts. parts.0.items ≡ map asker_of reads.items) }
@@ -112,28 +76,4 @@ fn taken_apart(alloc: Global, reads: Vec<ReadFrame>) -> Result<(Vec<Asker>, Vec<
         vectors.push(read.second)?;
     }
     Ok((askers, vectors))
-}
-
-/// Puts the reply frames to these askers behind the others, with two of the sums for each.
-fn push_replies(
-    alloc: Global,
-    askers: &[Asker],
-    sums: Vec<Bytes>,
-    out: &mut Vec<Bytes>,
-) -> Result<(), Memory>
-    ensures { OnOk result (out.new.items ≡ out.old.items ++ frames_with askers.now sums.items) }
-{
-    let mut rest = sums.into_iter();
-    let mut left = askers;
-    'askers: while let Some((asker, behind)) = left.split_first() {
-        let Some(first) = rest.next() else {
-            return Err(Memory);
-        };
-        let Some(second) = rest.next() else {
-            return Err(Memory);
-        };
-        out.push(asker.reply(alloc, first, second)?)?;
-        left = behind;
-    }
-    Ok(())
 }

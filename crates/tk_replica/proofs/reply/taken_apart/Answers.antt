@@ -3,7 +3,7 @@ use Rattle.std.proofs.Common.{◌≡◌, ◌∷◌, [], ◌++◌, ℕ, List, len
 use Rattle.std.proofs.Common.{append_assoc, arith}
 use Rattle.std.proofs.lemmas.List.{map-append}
 use Rattle.std.specs.Vec.Iter.{into_iter_items}
-use Rattle.tk_replica.specs.declared.reply.Asker.{Asker}
+use Rattle.tk_replica.specs.declared.asker.Asker.{Asker}
 use Rattle.tk_replica.specs.Replies.{asker_of}
 use Rattle.tk_replica.proofs.Paired.{both-push}
 use Rattle.tk_replica.proofs.reply.taken_apart.Goals as goal

@@ -8,7 +8,7 @@ pub returns-clause-reply : goal.returns-clause-reply
 returns-clause-reply c shape E stands =
     let bytes = c.args.frame.now in
     let read = c.in_ok-read.read in
-    c.in_ok-reply.ensures
+    c.in_ok-reply.ensures.reply
     ∙ reply-over shape E c.args.self.now.number c.epoch.result.now bytes read
     (c.epoch.ensures.is shape E stands) c.in_ok-read.ensures.epoch
     (subst (λ s. SpellsRead s bytes read) stands.same c.in_ok-read.ensures.spells)

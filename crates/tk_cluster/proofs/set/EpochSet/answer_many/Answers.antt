@@ -1,10 +1,11 @@
 -- The replies over the server's epoch are those over the writes before its mark.
-use Rattle.std.proofs.Common.{◌≡◌, ◌∙◌, ap, ap₂, sym, subst, List, ℕ, length}
+use Rattle.std.proofs.Common.{◌≡◌, ◌∙◌, ◌++◌, ap₂, sym, subst, List, ℕ, length}
 use Rattle.std.specs.List.{All}
 use Rattle.tk_shape.specs.declared.shape.Shape.{Shape}
 use Rattle.tk_shape.specs.Lengths.{vector_len}
-use Rattle.tk_cluster.specs.declared.answer.Asker.{Asker}
-use Rattle.tk_cluster.specs.Many.{AreReads, frames_with}
+use Rattle.tk_replica.specs.declared.asker.Asker.{Asker}
+use Rattle.tk_replica.specs.Replies.{frames_with}
+use Rattle.tk_cluster.specs.Many.{AreReads}
 use Rattle.tk_cluster.proofs.Together.{reads-long, reads-asked, replies-due}
 use Rattle.tk_cluster.proofs.set.EpochSet.answer_many.Goals as goal
 
@@ -29,8 +30,9 @@ returns-clause-replies g c = λ shape E stands.
     let askers = c.in_ok-askers.askers.items in
     let vectors = c.in_ok-askers.vectors.items in
     let sums = c.in_ok-sums.sums.items in
-    c.in_ok-replies.ensures
-    ∙ ap (λ (xs : List Asker). frames_with xs sums) c.as_slice.ensures.value
+    c.in_ok-push_replies.ensures
+    ∙ ap₂ (λ (front : List (List ℕ)) (xs : List Asker). front ++ frames_with xs sums) c.new-replies.ensures.items
+    c.as_slice.ensures.value
     ∙ replies-due shape E s.number c.epoch.result.now frames askers vectors sums
     (c.epoch.ensures.is shape E stands)
     (subst (λ (sh : Shape). AreReads sh s.number frames askers vectors) stands.same

@@ -2,9 +2,10 @@
 use Rattle.std.proofs.Common.{◌≡◌, ◌∙◌, ap, sym, subst, List, [], ◌∷◌, ◌++◌, ℕ, ◌+◌, take, Err}
 use Rattle.std.proofs.Common.{IfErr, rules}
 use Rattle.std.proofs.lemmas.List.{take_more}
-use Rattle.tk_cluster.specs.declared.answer.Asker.{Asker}
+use Rattle.tk_replica.specs.declared.asker.Asker.{Asker}
 use Rattle.tk_cluster.specs.Refusals.{answer_refusal, first_unanswered, IsManyRefusal, SpellsRead}
-use Rattle.tk_cluster.specs.Many.{asker_of, Names, AreReads}
+use Rattle.tk_replica.specs.Replies.{asker_of}
+use Rattle.tk_cluster.specs.Many.{Names, AreReads}
 use Rattle.tk_cluster.proofs.Together.{first-push, refused-at, reads-push}
 use Rattle.tk_cluster.proofs.set.EpochSet.reads.Goals as goal
 

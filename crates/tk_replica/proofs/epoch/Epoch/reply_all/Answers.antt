@@ -1,7 +1,7 @@
 -- A vector has a bit for each block of an epoch, and each read has the sums for its own vectors.
 use Rattle.std.proofs.Common.{◌≡◌, ◌∙◌, ap, ap₂, sym, subst, List, ◌++◌, ℕ, ◌*◌, length, map}
 use Rattle.std.specs.Prelude.{All, OnOk}
-use Rattle.tk_replica.specs.declared.reply.Asker.{Asker}
+use Rattle.tk_replica.specs.declared.asker.Asker.{Asker}
 use Rattle.tk_replica.specs.Replies.{sum_over, frame_over, frames_with}
 use Rattle.tk_replica.proofs.Paired.{vectors-fit, frames-over}
 use Rattle.tk_replica.proofs.epoch.Epoch.reply_all.Goals as goal
