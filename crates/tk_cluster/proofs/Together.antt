@@ -1,5 +1,5 @@
 -- Frames that are answered together.
-use Rattle.std.proofs.Common.{◌≡◌, ℕ, zero, suc, ◌<◌, inl, inr, refl, ap, ap₂, sym, ◌∙◌, arith}
+use Rattle.std.proofs.Common.{◌*◌, ◌≡◌, ℕ, zero, suc, ◌<◌, inl, inr, refl, ap, ap₂, sym, ◌∙◌, arith}
 use Rattle.std.proofs.Common.{subst, List, [], ◌∷◌, ◌++◌, length, take, map, Option, Some, None}
 use Rattle.std.proofs.Common.{append_assoc, ◌≢◌, Bool, cond}
 use Rattle.std.proofs.lemmas.Bool.{eq-eqb, ne_eqb}
@@ -23,7 +23,7 @@ use Rattle.tk_replica.specs.declared.epoch.Epoch.{Epoch}
 use Rattle.tk_replica.specs.Epochs.{IsEpochOf}
 use Rattle.tk_replica.specs.Replies.{sum_over, frame_over, reply_bytes}
 use Rattle.tk_replica.specs.Replies.{asker_of, both_vectors, frames_with}
-use Rattle.tk_replica.proofs.Offers.{both-push, frames-over}
+use Rattle.tk_replica.proofs.Offers.{both-push, frames-over, two-for-each}
 use Rattle.tk_cluster.specs.declared.error.AnswerError.{AnswerError}
 use Rattle.tk_cluster.specs.declared.error.AnswerError.TheVariants.{Epoch as OtherEpoch}
 use Rattle.tk_cluster.specs.declared.set.EpochSet.{EpochSet}
@@ -189,6 +189,15 @@ frames-due shape E e epoch (f ∷ fs) (r ∷ rs) is named =
     (frames-due shape E e epoch fs rs is named.1)
 frames-due shape E e epoch (f ∷ fs) [] is named = absurd named
 frames-due shape E e epoch [] (r ∷ rs) is named = absurd named
+
+-- there are two sums for each asker
+pub two-sums : (shape : Shape) (number : ℕ) (epoch : Epoch) (fs : List (List ℕ)) (askers : List Asker)
+    (vectors sums : List (List ℕ)) → AreReads shape number fs askers vectors →
+    sums ≡ map (sum_over epoch) vectors → length sums ≡ 2 * length askers
+two-sums shape number epoch fs askers vectors sums are summed =
+    ap length (summed ∙ ap (map (sum_over epoch)) are.vectors_are)
+    ∙ two-for-each epoch are.reads
+    ∙ ap (λ (left : List Asker). 2 * length left) (sym are.askers_are)
 
 -- the frames made of all sums are the replies to the frames
 pub replies-due : (shape : Shape) (E : List Placed) (e : ℕ) (epoch : Epoch)

@@ -12,7 +12,7 @@ use crate::{AnswerError, EpochSet};
 use std::alloc::Global;
 use std::thread::Threads;
 use tk_batch::answer_all;
-use tk_replica::{Asker, Epoch, push_replies};
+use tk_replica::{Asker, Epoch, replies};
 use tk_shape::{Bytes, Memory};
 
 impl EpochSet {
@@ -40,9 +40,7 @@ impl EpochSet {
         let alloc = *self.epochs.allocator();
         let (askers, vectors) = self.reads(alloc, frames)?;
         let sums = sums(rt, self.epoch(server), vectors, workers)?;
-        let mut replies = Vec::new(alloc);
-        push_replies(alloc, askers.as_slice(), sums, &mut replies)?;
-        Ok(replies)
+        Ok(replies(alloc, askers.as_slice(), sums)?)
     }
 
     /// Who asks by these frames, and the vectors, two for each, if all name this epoch.

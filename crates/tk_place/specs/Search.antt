@@ -35,7 +35,8 @@ pub record IsLeading (T : Others) (places : List Reached) (start place : ℕ) : 
   pub before : LeadToFull T places start place
   pub leads : leads_to_full T (place_at places place).bucket ≡ false
 
--- a bucket with an empty slot, which the first such entry in the bucket of a place names, and its lowest empty slot
+-- the first bucket with an empty slot that the entries in a place's bucket name, how it is reached, and its lowest
+-- empty slot
 pub record IsFirstNamed (T : Others) (from found : Reached) (free : ℕ) : Type 0 where
   pub slot : ℕ
   pub named : slot_at T from.bucket slot ≡ Some found.bucket
@@ -43,7 +44,7 @@ pub record IsFirstNamed (T : Others) (from found : Reached) (free : ℕ) : Type 
   pub before : (i : ℕ) → i < slot → is_other_full T (slot_at T from.bucket i) ≡ true
   pub empty : lowest_empty T found.bucket ≡ Some free
 
--- it is queued behind all others, and the search ends there
+-- that bucket is queued behind all others, and the search ends there
 pub record IsBehind (T : Others) (from : Reached) (old new : List Reached) (end : End) : Type 0 where
   pub found : Reached
   pub first : IsFirstNamed T from found end.slot

@@ -28,7 +28,7 @@ struct End {
 }
 
 /// Looks for a place for a new entry, in order: its first bucket, then the second, then the other bucket of each entry
-/// in a full one. It looks at each bucket at most once, and ends at the first that has an empty slot.
+/// in a full one. It queues each bucket at most once, and ends at the first that has an empty slot.
 pub fn find<V: Slots>(slots: &V, new: (u32, u32), scratch: &mut Scratch) -> Found
     requires first { new.0 < length (V.others slots.now) }
     requires second { new.1 < length (V.others slots.now) }
@@ -76,15 +76,15 @@ fn search<V: Slots>(slots: &V, new: (u32, u32), queue: &mut Queue) -> Option<End
     if let Some(end) = first_with_room(slots, queue) {
         return Some(end);
     }
-    if let Some(from) = first_leading(slots, queue, 0) {
-        return end_behind(slots, depth, from, queue);
+    if let Some(leading) = first_leading(slots, queue, 0) {
+        return end_behind(slots, depth, leading, queue);
     }
     let mut place = 0;
     while place < queue.len() {
         let tried = queue.len();
         add_others(slots, depth, place, queue);
-        if let Some(from) = first_leading_behind(slots, queue, place, tried) {
-            return end_behind(slots, depth, from, queue);
+        if let Some(leading) = first_leading_behind(slots, queue, place, tried) {
+            return end_behind(slots, depth, leading, queue);
         }
         place += 1;
     }
@@ -130,8 +130,8 @@ fn first_leading<V: Slots>(slots: &V, queue: &Queue, from: u32) -> Option<u32>
     None
 }
 
-/// The same, where only what the entries in the bucket at a place name comes from there on. It mostly
-/// finds by one look that none leads to a bucket that isn't full.
+/// The same, where only what the entries in the bucket at a place name comes from there on. Mostly one
+/// pass over these buckets finds that none leads to one that isn't full.
 fn first_leading_behind<V: Slots>(slots: &V, queue: &Queue, place: u32, from: u32) -> Option<u32>
     requires size { queue.now.buckets ≡ length (V.others slots.now) }
     requires table { IsTable (V.depth slots.now) (V.others slots.now) }
@@ -155,7 +155,8 @@ fn first_leading_behind<V: Slots>(slots: &V, queue: &Queue, place: u32, from: u3
     first_leading(slots, queue, from)
 }
 
-/// Whether the other bucket of each entry in a bucket leads to full ones alone, as the bucket does.
+/// Whether the other bucket of each entry in a bucket leads to full ones alone, as the bucket does. It
+/// goes through all of them, so that one branch depends on the answers, and that one goes mostly one way.
 fn others_lead_to_full<V: Slots>(slots: &V, bucket: u32) -> bool
     requires table { IsTable (V.depth slots.now) (V.others slots.now) }
     requires within { bucket < length (V.others slots.now) }
@@ -171,7 +172,6 @@ fn others_lead_to_full<V: Slots>(slots: &V, bucket: u32) -> bool
 }
 
 /// Queues the first bucket with an empty slot to which the full one at a place leads, and ends there.
-/// No bucket that is queued has an empty slot.
 fn end_behind<V: Slots>(slots: &V, depth: u32, place: u32, queue: &mut Queue) -> Option<End>
     requires depth { depth ≡ V.depth slots.now }
     requires table { IsTable (V.depth slots.now) (V.others slots.now) }

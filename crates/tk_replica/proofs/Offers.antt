@@ -18,4 +18,4 @@ pub use Rattle.tk_replica.proofs.Replying.{over-epoch, for-spelled}
 -- The vectors of one more read come behind those of the others.
 pub use Rattle.tk_replica.proofs.Paired.{both-push}
 -- Two sums for each asker give the frames over an epoch.
-pub use Rattle.tk_replica.proofs.Paired.{frames-over}
+pub use Rattle.tk_replica.proofs.Paired.{frames-over, two-for-each}

@@ -46,6 +46,12 @@ frames-over epoch [] = refl
 frames-over epoch (r ∷ rs) =
     ap (λ (fs : List (List ℕ)). frame_over epoch r ∷ fs) (frames-over epoch rs)
 
+-- there are two sums for each asker
+pub two-for-each : (epoch : Epoch) (rs : List ReadFrame) →
+    length (map (sum_over epoch) (both_vectors rs)) ≡ 2 * length (map asker_of rs)
+two-for-each epoch [] = refl
+two-for-each epoch (r ∷ rs) = omega (arith, two-for-each epoch rs)
+
 -- one more of the frames, with the next two sums
 pub frames-push : (left behind : List Asker) (asker : Asker) (first second : List ℕ)
     (sums rest old new all : List (List ℕ)) → left ≡ asker ∷ behind →

@@ -21,20 +21,25 @@ use Rattle.tk_replica.specs.Replica.{ReplicaView}
 abbrev pub sum_over : Epoch → List ℕ → List ℕ
 sum_over epoch vector = chosen_sum epoch.blocks.width epoch.blocks.blocks vector
 
--- the reply to a read, with these sums
-abbrev pub reply_with : ReadFrame → List ℕ → List ℕ → ReplyFrame
-reply_with r first second =
+-- who asks by a read
+abbrev pub asker_of : ReadFrame → Asker
+asker_of r = record { client = r.client; turn = r.turn; epoch = r.epoch }
+
+-- the reply to it, with these sums
+abbrev pub asker_reply : Asker → List ℕ → List ℕ → ReplyFrame
+asker_reply a first second =
     record {
-      client = r.client;
-      turn = r.turn;
-      epoch = r.epoch;
+      client = a.client;
+      turn = a.turn;
+      epoch = a.epoch;
       first = first;
       second = second;
     }
 
 -- the reply to a read over the blocks of an epoch
 abbrev pub reply_over : Epoch → ReadFrame → ReplyFrame
-reply_over epoch r = reply_with r (sum_over epoch r.first) (sum_over epoch r.second)
+reply_over epoch r =
+    asker_reply (asker_of r) (sum_over epoch r.first) (sum_over epoch r.second)
 
 abbrev pub frame_over : Epoch → ReadFrame → List ℕ
 frame_over epoch r = reply_frame (reply_over epoch r)
@@ -51,21 +56,6 @@ abbrev pub reply_bytes : Shape → List Placed → List ℕ → List ℕ
 reply_bytes shape E bytes = reply_frame (reply_due shape E bytes)
 
 -- ---- what is replied to several reads
-
--- who asks by a read
-abbrev pub asker_of : ReadFrame → Asker
-asker_of r = record { client = r.client; turn = r.turn; epoch = r.epoch }
-
--- the reply to it, with these sums
-abbrev pub asker_reply : Asker → List ℕ → List ℕ → ReplyFrame
-asker_reply a first second =
-    record {
-      client = a.client;
-      turn = a.turn;
-      epoch = a.epoch;
-      first = first;
-      second = second;
-    }
 
 -- the vectors of reads, two for each
 abbrev pub both_vectors : List ReadFrame → List (List ℕ)

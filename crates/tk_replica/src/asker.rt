@@ -1,5 +1,5 @@
 //! Who asks, and how the sums become replies.
-ghost use Rattle.std.specs.Prelude.{◌≡◌, ◌++◌, IfOk, OnOk};
+ghost use Rattle.std.specs.Prelude.{◌≡◌, ◌*◌, length, IfOk};
 ghost use Rattle.tk_frames.specs.Spelling.{reply_frame};
 ghost use Rattle.tk_replica.specs.Replies.{asker_of, asker_reply, frames_with};
 
@@ -44,26 +44,24 @@ impl Asker {
     }
 }
 
-/// Puts the reply frames to these askers behind the others, with two of the sums for each.
-pub fn push_replies(
-    alloc: Global,
-    askers: &[Asker],
-    sums: Vec<Bytes>,
-    out: &mut Vec<Bytes>,
-) -> Result<(), Memory>
-    ensures { OnOk result (out.new.items ≡ out.old.items ++ frames_with askers.now sums.items) }
+/// The reply frames to these askers, in their order, with two of the sums for each.
+pub fn replies(alloc: Global, askers: &[Asker], sums: Vec<Bytes>) -> Result<Vec<Bytes>, Memory>
+    requires two_for_each { length sums.items ≡ 2 * length askers.now }
+    ensures { IfOk result (λ replies. replies.items ≡ frames_with askers.now sums.items) }
 {
+    let mut replies = Vec::new(alloc);
     let mut rest = sums.into_iter();
     let mut left = askers;
     'askers: while let Some((asker, behind)) = left.split_first() {
+        // there are two sums for each, so that only memory may be wanting
         let Some(first) = rest.next() else {
             return Err(Memory);
         };
         let Some(second) = rest.next() else {
             return Err(Memory);
         };
-        out.push(asker.reply(alloc, first, second)?)?;
+        replies.push(asker.reply(alloc, first, second)?)?;
         left = behind;
     }
-    Ok(())
+    Ok(replies)
 }

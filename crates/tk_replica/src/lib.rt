@@ -16,7 +16,7 @@ mod shelf;
 mod state;
 mod store;
 
-pub use asker::{Asker, push_replies};
+pub use asker::{Asker, replies};
 pub use epoch::Epoch;
 pub use error::{PinError, ServeError};
 pub use held::Held;

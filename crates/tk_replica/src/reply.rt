@@ -6,8 +6,7 @@ ghost use Rattle.tk_frames.specs.Ranges.{IsRead, IsReply};
 ghost use Rattle.tk_replica.specs.Replies.{sum_over, reply_over, frame_over};
 ghost use Rattle.tk_replica.specs.Replies.{asker_of, both_vectors};
 
-use crate::asker::push_replies;
-use crate::{Asker, Epoch};
+use crate::{Asker, Epoch, replies};
 use std::alloc::Global;
 use tk_answer::{Blocks, answer, answer_each};
 use tk_frames::ReadFrame;
@@ -39,7 +38,9 @@ impl Epoch {
     {
         let (askers, vectors) = taken_apart(alloc, reads)?;
         let sums = self.sum_each(alloc, vectors)?;
-        push_replies(alloc, askers.as_slice(), sums, out)
+        let mut frames = replies(alloc, askers.as_slice(), sums)?;
+        out.append(&mut frames)?;
+        Ok(())
     }
 
     /// The sum of the blocks that a vector chooses.

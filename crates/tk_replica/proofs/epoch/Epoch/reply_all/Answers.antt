@@ -3,7 +3,7 @@ use Rattle.std.proofs.Common.{◌≡◌, ◌∙◌, ap, ap₂, sym, subst, List,
 use Rattle.std.specs.Prelude.{All, OnOk}
 use Rattle.tk_replica.specs.declared.asker.Asker.{Asker}
 use Rattle.tk_replica.specs.Replies.{sum_over, frame_over, frames_with}
-use Rattle.tk_replica.proofs.Paired.{vectors-fit, frames-over}
+use Rattle.tk_replica.proofs.Paired.{vectors-fit, frames-over, two-for-each}
 use Rattle.tk_replica.proofs.epoch.Epoch.reply_all.Goals as goal
 
 pub sum_each-requires : goal.sum_each-requires
@@ -15,17 +15,24 @@ sum_each-requires c =
     subst Fits (sym c.in_ok-askers.ensures.vectors)
     (vectors-fit epoch c.args.reads.items c.requires)
 
+pub replies-requires : goal.replies-requires
+replies-requires c =
+    record {
+      two_for_each =
+          ap length (c.in_ok-sums.ensures ∙ ap (map (sum_over c.args.self.now)) c.in_ok-askers.ensures.vectors)
+          ∙ two-for-each c.args.self.now c.args.reads.items
+          ∙ ap (λ (left : List Asker). 2 * length left) (sym (c.as_slice.ensures.value ∙ c.in_ok-askers.ensures.askers));
+    }
+
 pub returns : goal.returns
 returns c =
     let epoch = c.args.self.now in
     let old = c.args.out.now.items in
-    let made : frames_with c.as_slice.result.now c.in_ok-sums.sums.items
-    ≡ map (frame_over epoch) c.args.reads.items =
-    ap₂ (λ (left : List Asker) (sums : List (List ℕ)). frames_with left sums)
+    let made : c.in_ok-frames.frames.items ≡ map (frame_over epoch) c.args.reads.items =
+    c.in_ok-frames.ensures
+    ∙ ap₂ (λ (left : List Asker) (sums : List (List ℕ)). frames_with left sums)
     (c.as_slice.ensures.value ∙ c.in_ok-askers.ensures.askers)
     (c.in_ok-sums.ensures ∙ ap (map (sum_over epoch)) c.in_ok-askers.ensures.vectors)
     ∙ frames-over epoch c.args.reads.items
     in
-    subst (λ (frames : List (List ℕ)).
-    OnOk c.push_replies.result (c.push_replies.new.out.items ≡ old ++ frames))
-    made c.push_replies.ensures
+    c.in_ok-append.ensures.items ∙ ap (λ (frames : List (List ℕ)). old ++ frames) made

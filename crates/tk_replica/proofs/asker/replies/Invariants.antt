@@ -2,12 +2,12 @@
 use Rattle.std.proofs.Common.{◌≡◌, ◌++◌, length}
 use Rattle.std.specs.Vec.Iter.{into_iter_items}
 use Rattle.tk_replica.specs.Replies.{frames_with}
-use Rattle.tk_replica.proofs.asker.push_replies.Given as goal
+use Rattle.tk_replica.proofs.asker.replies.Given as goal
 
 abbrev pub invariant-askers : goal.invariant-askers
 invariant-askers l =
-    l.out.items ++ frames_with l.left (into_iter_items l.rest)
-    ≡ l.fn.out.items ++ frames_with l.askers (into_iter_items l.initial.rest)
+    l.replies.items ++ frames_with l.left (into_iter_items l.rest)
+    ≡ frames_with l.askers (into_iter_items l.initial.rest)
 
 abbrev pub decreases-askers : goal.decreases-askers
 decreases-askers l = length l.left
