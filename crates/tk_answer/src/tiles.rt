@@ -86,14 +86,14 @@ fn add_tile<B: Blocks>(
     Ok(next)
 }
 
-// How many blocks a tile has.
+// How many blocks a tile has: as many as the passes over many vectors take, 64 at a time.
 fn tile_len(width: usize) -> usize
     requires { 0 < width }
     ensures some { 0 < result }
     ensures few { result ≤ 1024 }
     ensures eights { result % 8 ≡ 0 }
 {
-    (TILE / width).clamp(16, 1024) / 8 * 8
+    (TILE / width).clamp(64, 1024) / 64 * 64
 }
 
 // Copies the blocks from one number to before another, one behind the other.

@@ -1,5 +1,5 @@
 -- Blocks chosen by bytes of a vector, by the sums of all choices of four.
-use Rattle.std.proofs.Common.{◌≡◌, ℕ, zero, suc, ◌+◌, ◌-◌, ◌*◌, ◌/◌, ◌%◌, ◌<◌, ◌≤◌, ◌==◌, true, false, cond, List, [], ◌∷◌, ◌++◌, length, take, drop, set, slice_index, ◌^◌, slice_index_or, replicate, refl, ap, ap₂, sym, ◌∙◌, arith, append_assoc}
+use Rattle.std.proofs.Common.{◌≡◌, ℕ, zero, suc, ◌+◌, ◌*◌, ◌/◌, ◌%◌, ◌<◌, ◌≤◌, ◌==◌, true, false, cond, List, [], ◌∷◌, ◌++◌, length, take, drop, set, slice_index, ◌^◌, slice_index_or, replicate, refl, ap, ap₂, sym, ◌∙◌, arith, append_assoc}
 use Rattle.std.specs.Simd.Lanes.{chunk}
 use Rattle.std.proofs.Math.Nat.{mul-le-mul_right}
 use Rattle.std.proofs.lemmas.List.{take_more_set, length-drop, drop-drop}
@@ -9,11 +9,57 @@ use Rattle.tk_kernel.specs.Xor.{xor_bytes, xor_all}
 use Rattle.tk_kernel.specs.Chosen.{has_bit, chosen_from}
 use Rattle.tk_kernel.specs.Pieces.{pieces, AllSized}
 use Rattle.tk_kernel.proofs.Sums.{xor_bytes_assoc, xor_bytes-zeros, length-xor_bytes, length-xor_all, xor_all-append}
-use Rattle.tk_kernel.proofs.Cuts.{length-pieces, AllSized-pieces}
+use Rattle.tk_kernel.proofs.Cuts.{AllSized-pieces}
 use Rattle.tk_kernel.proofs.Chosen.{AllSized-chosen_from, chosen_from-append}
 use Rattle.tk_kernel.proofs.Fronts.{chunk-zeros, chunk-xor_bytes, chunk-block}
 use Rattle.tk_kernel.proofs.Passes.{pieces-add}
-use Rattle.tk_kernel.specs.Nibbles.{table, table_at, tables_of, added}
+use Rattle.tk_kernel.specs.Nibbles.{table, table_at, tables_of, taken}
+use Rattle.tk_kernel.specs.Words.{bytes_of}
+
+-- a sum, and added to it for each byte an entry of each of two tables
+abbrev added : List (List (List ℕ)) → List ℕ → List ℕ → List ℕ
+added tables sum [] = sum
+added [] sum (x ∷ xs) = sum
+added (t ∷ []) sum (x ∷ xs) = sum
+added (t ∷ u ∷ ts) sum (x ∷ xs) =
+    let entries = xor_bytes (slice_index_or t (x % 16) []) (slice_index_or u (x / 16) []) in
+    added ts (xor_bytes sum entries) xs
+
+-- what the bytes of a word take is what the word takes
+taken-added : (count word : ℕ) (tables : List (List (List ℕ))) (sum : List ℕ) → length tables ≡ 2 * count →
+    taken tables sum word ≡ added tables sum (bytes_of count word)
+taken-added zero word [] sum e = refl
+taken-added zero word (t ∷ ts) sum e = absurd (omega arith)
+taken-added (suc count) word [] sum e = absurd (omega arith)
+taken-added (suc count) word (t ∷ []) sum e = absurd (omega arith)
+taken-added (suc count) word (t ∷ u ∷ ts) sum e =
+    let low : word % 16 ≡ word % 256 % 16 = omega arith in
+    let high : word / 16 % 16 ≡ word % 256 / 16 = omega arith in
+    let next : word / 16 / 16 ≡ word / 256 = omega arith in
+    let a = slice_index_or t (word % 256 % 16) [] in
+    let b = slice_index_or u (word % 256 / 16) [] in
+    ap (λ m. taken ts (xor_bytes (xor_bytes sum (slice_index_or t m [])) (slice_index_or u (word / 16 % 16) [])) (word / 16 / 16)) low
+    ∙ ap₂ (λ m rest. taken ts (xor_bytes (xor_bytes sum a) (slice_index_or u m [])) rest) high next
+    ∙ ap (λ xs. taken ts xs (word / 256)) (xor_bytes_assoc sum a b)
+    ∙ taken-added count (word / 256) ts (xor_bytes sum (xor_bytes a b)) (omega arith)
+
+bytes-small : (count word : ℕ) → AllByRecursion (λ x. x < 256) (bytes_of count word)
+bytes-small zero word = tt
+bytes-small (suc count) word = (omega arith, bytes-small count (word / 256))
+
+-- one table more
+pub taken-next : (tables : List (List (List ℕ))) (h : ℕ) (sum new : List ℕ) (word left : ℕ) → h < length tables →
+    new ≡ xor_bytes sum (slice_index_or (slice_index_or tables h []) (word % 16) []) → left ≡ word / 16 →
+    taken (drop h tables) sum word ≡ taken (drop (suc h) tables) new left
+taken-next [] h sum new word left less entry next = absurd (omega arith)
+taken-next (t ∷ ts) zero sum new word left less entry next =
+    ap₂ (λ xs m. taken ts xs m) (sym entry) (sym next)
+taken-next (t ∷ ts) (suc h) sum new word left less entry next =
+    taken-next ts h sum new word left (omega arith) entry next
+
+pub taken-all : (tables : List (List (List ℕ))) (sum : List ℕ) (word : ℕ) → taken (drop (length tables) tables) sum word ≡ sum
+taken-all [] sum word = refl
+taken-all (t ∷ ts) sum word = taken-all ts sum word
 
 pub table_made : (n size i h count : ℕ) (blocks : List ℕ) (tables : List (List (List ℕ))) (t : List (List ℕ)) → h < length tables → t ≡ table_at n size i blocks (4 * h) →
     take (h + 1) (set tables h t) ++ tables_of n size i blocks (h + 1) count ≡ take h tables ++ tables_of n size i blocks h (suc count)
@@ -159,7 +205,7 @@ longer : (i n size len : ℕ) → i + n ≤ size → len ≡ size → i + n ≤ 
 longer i n size len h e = omega arith
 
 -- what the bytes choose, two tables for each of them
-pub added_is : (n size i : ℕ) (blocks : List ℕ) → i + n ≤ size → (bits : List ℕ) (h : ℕ) (sum : List ℕ) → length sum ≡ n → AllByRecursion (λ x. x < 256) bits →
+added_is : (n size i : ℕ) (blocks : List ℕ) → i + n ≤ size → (bits : List ℕ) (h : ℕ) (sum : List ℕ) → length sum ≡ n → AllByRecursion (λ x. x < 256) bits →
     (4 * h + 8 * length bits) * size ≤ length blocks →
     added (tables_of n size i blocks h (2 * length bits)) sum bits
     ≡ xor_bytes sum (chunk i n (xor_all size (chosen_from 0 (pieces size (8 * length bits) (drop (4 * h * size) blocks)) bits)))
@@ -200,6 +246,16 @@ added_is n size i blocks within (x ∷ xs) h sum e small fits =
     ∙ ap (xor_bytes sum) (sym (chunk-xor_bytes i n (xor_all size here) (xor_all size later)))
     ∙ ap (λ ys. xor_bytes sum (chunk i n ys)) (sym (xor_all-append size here later later_sized))
     ∙ ap (λ cs. xor_bytes sum (chunk i n (xor_all size cs))) joined
+
+-- what a word chooses, by sixteen tables
+pub taken_is : (n size i : ℕ) (blocks sum : List ℕ) (word : ℕ) → i + n ≤ size → length sum ≡ n → 64 * size ≤ length blocks →
+    taken (tables_of n size i blocks 0 16) sum word
+    ≡ xor_bytes sum (chunk i n (xor_all size (chosen_from 0 (pieces size 64 blocks) (bytes_of 8 word))))
+taken_is n size i blocks sum word within e fits =
+    let none : 4 * 0 * size ≡ 0 = omega arith in
+    taken-added 8 word (tables_of n size i blocks 0 16) sum refl
+    ∙ added_is n size i blocks within (bytes_of 8 word) 0 sum e (bytes-small 8 word) fits
+    ∙ ap (λ m. xor_bytes sum (chunk i n (xor_all size (chosen_from 0 (pieces size 64 (drop m blocks)) (bytes_of 8 word))))) none
 
 -- each of sixteen places set
 pub sixteen_set : (xs : List (List ℕ)) → length xs ≡ 16 → (a0 a1 a2 a3 a4 a5 a6 a7 a8 a9 a10 a11 a12 a13 a14 a15 : List ℕ) →

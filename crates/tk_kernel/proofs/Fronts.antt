@@ -1,5 +1,5 @@
 -- A sum of blocks, some neighbouring bytes of all of them at a time.
-use Rattle.std.proofs.Common.{◌≡◌, ℕ, zero, suc, ◌+◌, ◌-◌, ◌*◌, ◌<◌, ◌≤◌, List, [], ◌∷◌, ◌++◌, length, take, drop, replicate, bit_xor, refl, ap, ap₂, sym, ◌∙◌, arith, take-add, append_assoc}
+use Rattle.std.proofs.Common.{◌≡◌, ℕ, zero, suc, ◌+◌, ◌-◌, ◌*◌, ◌≤◌, List, [], ◌∷◌, ◌++◌, length, take, drop, replicate, bit_xor, refl, ap, ap₂, sym, ◌∙◌, arith, take-add, append_assoc}
 use Rattle.std.specs.List.{All}
 use Rattle.std.specs.Simd.Lanes.{zip2, chunk, put_chunk}
 use Rattle.std.proofs.lemmas.List.{length-drop, length-take-le, drop-drop, drop-take, take-take, take_at, drop_at, take_all, drop_all, append-nil, take-replicate, drop-replicate}
@@ -8,6 +8,7 @@ use Rattle.std.proofs.lemmas.Simd.{put_chunk_is, length-chunk, length-zip2}
 use Rattle.tk_kernel.specs.Xor.{xor_bytes, xor_all}
 use Rattle.tk_kernel.specs.Pieces.{AllSized}
 use Rattle.tk_kernel.specs.Listed.{listed, sum_of_lanes}
+use Rattle.tk_kernel.specs.Stripes.{xor_front}
 use Rattle.tk_kernel.proofs.Sums.{xor_bytes_assoc, xor_bytes-zeros, length-xor_bytes, length-xor_all}
 
 pub zip2_is : (xs ys : List ℕ) → zip2 bit_xor xs ys ≡ xor_bytes xs ys
@@ -72,10 +73,6 @@ lanes_are n size i blocks h (p ∷ ps) sum each e =
     ∙ xor_bytes_assoc sum part (chunk i n others)
     ∙ ap (λ zs. xor_bytes sum (xor_bytes zs (chunk i n others))) (sym (chunk-block p size i n blocks h))
     ∙ ap (xor_bytes sum) (sym (chunk-xor_bytes i n block others))
-
--- the first i bytes are summed
-unfoldable pub xor_front : ℕ → List ℕ → List ℕ → List ℕ
-xor_front i xs ys = take i (xor_bytes xs ys) ++ drop i xs
 
 pub xor_front-none : (xs ys : List ℕ) → xor_front 0 xs ys ≡ xs
 unfolding xor_front

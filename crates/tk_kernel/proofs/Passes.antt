@@ -1,6 +1,5 @@
 -- Blocks chosen by a vector, some places at a time.
 use Rattle.std.proofs.Common.{◌≡◌, ℕ, zero, suc, ◌+◌, ◌-◌, ◌*◌, ◌/◌, ◌<◌, ◌≤◌, true, false, cond, List, [], ◌∷◌, ◌++◌, length, take, drop, set, replicate, refl, ap, ap₂, sym, ◌∙◌, arith, append_assoc, add_assoc}
-use Rattle.std.specs.List.{All}
 use Rattle.std.proofs.lemmas.List.{drop-drop, length-drop, take_more_set, take-set}
 use Rattle.std.proofs.lemmas.List.Elements.{All-nil, All-cons}
 use Rattle.std.proofs.Math.Nat.{le-div_iff_mul-le}

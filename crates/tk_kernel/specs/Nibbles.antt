@@ -18,14 +18,10 @@ table n a b c d =
     ∷ od ∷ xor_bytes a od ∷ obd ∷ xor_bytes a obd
     ∷ ocd ∷ xor_bytes a ocd ∷ obcd ∷ xor_bytes a obcd ∷ []
 
--- a sum, and added to it for each byte an entry of each of two tables
-abbrev pub added : List (List (List ℕ)) → List ℕ → List ℕ → List ℕ
-added tables sum [] = sum
-added [] sum (x ∷ xs) = sum
-added (t ∷ []) sum (x ∷ xs) = sum
-added (t ∷ u ∷ ts) sum (x ∷ xs) =
-    let entries = xor_bytes (slice_index_or t (x % 16) []) (slice_index_or u (x / 16) []) in
-    added ts (xor_bytes sum entries) xs
+-- a sum, and added to it of each table the entry that four bits of a word name, the lowest four of the first table
+abbrev pub taken : List (List (List ℕ)) → List ℕ → ℕ → List ℕ
+taken [] sum word = sum
+taken (t ∷ ts) sum word = taken ts (xor_bytes sum (slice_index_or t (word % 16) [])) (word / 16)
 
 -- the table of the n bytes from number i on of four blocks, the first of them number at
 abbrev pub table_at : ℕ → ℕ → ℕ → List ℕ → ℕ → List (List ℕ)

@@ -6,9 +6,10 @@ ghost use Rattle.tk_kernel.specs.Chosen.{chosen_from};
 ghost use Rattle.tk_kernel.specs.Pieces.{all_pieces};
 ghost use Rattle.tk_kernel.specs.Xor.{xor_bytes, xor_all};
 
-use crate::columns::{Pass, add_pass};
-use crate::pass::pass_bytes;
+use crate::columns::{Pass, Tables, add_pass};
+use crate::words::MOST;
 use crate::xor_choose;
+use std::simd::prelude::*;
 
 /// From so many vectors on it pays to make the sums of all choices of four blocks.
 const MANY: usize = 24;
@@ -39,7 +40,13 @@ pub fn xor_choose_each(
     if sums.len() < MANY {
         return add_one_by_one(sums, size, blocks, vectors, first);
     }
-    add_by_tables(sums, size, blocks, vectors, first);
+    if sums.len() <= MOST {
+        return add_by_tables(sums, size, blocks, vectors, first);
+    }
+    let half = sums.len() / 2;
+    let (front, back) = sums.split_at_mut(half);
+    xor_choose_each(front, size, blocks, &vectors[..half], first);
+    xor_choose_each(back, size, blocks, &vectors[half..], first);
 }
 
 // Goes over the blocks once for each vector.
@@ -56,7 +63,6 @@ fn add_one_by_one(
     requires whole { length blocks.now % size ≡ 0 }
     requires eights { length blocks.now / size % 8 ≡ 0 }
     requires vectors { All (λ v. first + length blocks.now / size / 8 ≤ vec_len v) vectors.now }
-    requires first { first < 2 ^ 29 }
     ensures count { length sums.new ≡ length sums.old }
     ensures each { (k : ℕ) (d e : Vec ℕ Global) → k < length sums.old
         → (slice_index_or sums.new k d).items
@@ -82,14 +88,13 @@ fn add_chosen(sum: &mut [u8], size: usize, blocks: &[u8], vector: &[u8], first: 
     requires whole { length blocks.now % size ≡ 0 }
     requires eights { length blocks.now / size % 8 ≡ 0 }
     requires reach { first + length blocks.now / size / 8 ≤ length vector.now }
-    requires first { first < 2 ^ 29 }
     ensures { sum.new ≡ xor_bytes sum.old
         (xor_all size (chosen_from (8 * first) (all_pieces size blocks.now) vector.now)) }
 {
-    xor_choose(sum, blocks, vector, 8 * first as u32);
+    xor_choose(sum, blocks, &vector[first..], 0);
 }
 
-// Goes over the blocks once for all vectors, some bytes of these at a time.
+// Goes over the blocks once for all vectors, 64 blocks at a time, and once for each over those that are left.
 fn add_by_tables(
     sums: &mut [Vec<u8>],
     size: usize,
@@ -98,6 +103,7 @@ fn add_by_tables(
     first: usize,
 )
     requires some { 0 < size }
+    requires few { length sums.old ≤ MOST }
     requires same { length sums.old ≡ length vectors.now }
     requires sized { All (λ v. vec_len v ≡ size) sums.old }
     requires whole { length blocks.now % size ≡ 0 }
@@ -112,17 +118,26 @@ fn add_by_tables(
         (slice_index_or vectors.now k e).items)) }
 {
     let count = blocks.len() / size / 8;
+    let mut tables = Tables {
+        of_64: &mut [[u8x64::splat(0); 16]; 16],
+        of_32: &mut [[u8x32::splat(0); 16]; 16],
+        of_16: &mut [[u8x16::splat(0); 16]; 16],
+        of_8: &mut [[u8x8::splat(0); 16]; 16],
+        of_1: &mut [[Simd::<u8, 1>::splat(0); 16]; 16],
+    };
     let mut done = 0;
-    while done < count {
-        let bytes = (count - done).min(pass_bytes(size));
+    while count - done >= 8 {
         let pass = Pass {
             size,
             blocks: &blocks[8 * done * size..],
             vectors,
             first: first + done,
-            bytes,
         };
-        add_pass(sums, &pass);
-        done += bytes;
+        add_pass(sums, &pass, &mut tables);
+        done += 8;
+    }
+    if done < count {
+        let blocks = &blocks[8 * done * size..];
+        add_one_by_one(sums, size, blocks, vectors, first + done);
     }
 }

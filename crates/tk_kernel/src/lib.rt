@@ -10,6 +10,7 @@ mod laws;
 mod nibbles;
 mod pass;
 mod stripes;
+mod words;
 
 pub use choose::xor_choose;
 pub use each::xor_choose_each;

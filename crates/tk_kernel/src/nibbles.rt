@@ -1,9 +1,8 @@
 // Blocks added to many sums at once, four by four: of each four the sums of all choices are made, and each vector then
 // takes one of these.
-ghost use Rattle.std.specs.Prelude.{◌≡◌, ◌+◌, ◌*◌, ◌<◌, ◌≤◌, length};
-ghost use Rattle.std.specs.List.{AllByRecursion};
+ghost use Rattle.std.specs.Prelude.{◌≡◌, ◌+◌, ◌*◌, ◌/◌, ◌%◌, ◌≤◌, [], length, slice_index_or};
 ghost use Rattle.std.specs.Simd.Lanes.{put_chunk, chunk};
-ghost use Rattle.tk_kernel.specs.Nibbles.{table_at, added};
+ghost use Rattle.tk_kernel.specs.Nibbles.{table_at, taken};
 ghost use Rattle.tk_kernel.specs.Xor.{xor_bytes};
 
 use std::simd::prelude::*;
@@ -59,26 +58,45 @@ pub(crate) fn fill_table<const N: usize>(
     table[15] = plus(a, of_bcd);
 }
 
-/// Adds to the N bytes of `dst` from number i on what the bits choose, by two tables for each byte of them.
+/// Adds to the N bytes of `dst` from number i on of each table the entry that four bits of the word name. It
+/// has no loop, so that the sum stays in registers.
 #[inline(always)]
 pub(crate) fn add_entries<const N: usize>(
     dst: &mut [u8],
     i: usize,
-    tables: &[[Simd<u8, N>; 16]],
-    bits: &[u8],
+    tables: &[[Simd<u8, N>; 16]; 16],
+    word: u64,
 )
-    requires within { i + N ≤ length dst.old }
-    requires tables { 2 * length bits.now ≤ length tables.now }
-    ensures sum { dst.new ≡ put_chunk i dst.old (added tables.now (chunk i N dst.old) bits.now) }
-    ensures bytes { AllByRecursion (λ x. x < 256) bits.now }
+    requires { i + N ≤ length dst.old }
+    ensures { dst.new ≡ put_chunk i dst.old (taken tables.now (chunk i N dst.old) word) }
 {
     let mut sum = Simd::<u8, N>::from_slice(&dst[i..]);
-    for q in 0..bits.len() {
-        let byte = bits[q] as usize;
-        sum = plus(
-            sum,
-            plus(tables[2 * q][byte % 16], tables[2 * q + 1][byte / 16]),
-        );
-    }
+    let mut left = word;
+    add_entry(&mut sum, &tables[0], &mut left);
+    add_entry(&mut sum, &tables[1], &mut left);
+    add_entry(&mut sum, &tables[2], &mut left);
+    add_entry(&mut sum, &tables[3], &mut left);
+    add_entry(&mut sum, &tables[4], &mut left);
+    add_entry(&mut sum, &tables[5], &mut left);
+    add_entry(&mut sum, &tables[6], &mut left);
+    add_entry(&mut sum, &tables[7], &mut left);
+    add_entry(&mut sum, &tables[8], &mut left);
+    add_entry(&mut sum, &tables[9], &mut left);
+    add_entry(&mut sum, &tables[10], &mut left);
+    add_entry(&mut sum, &tables[11], &mut left);
+    add_entry(&mut sum, &tables[12], &mut left);
+    add_entry(&mut sum, &tables[13], &mut left);
+    add_entry(&mut sum, &tables[14], &mut left);
+    add_entry(&mut sum, &tables[15], &mut left);
     sum.copy_to_slice(&mut dst[i..]);
+}
+
+// Adds the entry that the lowest four bits name, and goes on to the bits behind them.
+#[inline(always)]
+fn add_entry<const N: usize>(sum: &mut Simd<u8, N>, table: &[Simd<u8, N>; 16], left: &mut u64)
+    ensures sum { sum.new ≡ xor_bytes sum.old (slice_index_or table.now (left.old % 16) []) }
+    ensures left { left.new ≡ left.old / 16 }
+{
+    *sum = plus(*sum, table[(*left % 16) as usize]);
+    *left /= 16;
 }

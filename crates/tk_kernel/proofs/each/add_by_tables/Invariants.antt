@@ -1,4 +1,4 @@
-use Rattle.std.proofs.Common.{◌-◌, ◌/◌, length}
+use Rattle.std.proofs.Common.{◌-◌}
 use Rattle.tk_kernel.proofs.Whole.{IsBegun}
 use Rattle.tk_kernel.proofs.each.add_by_tables.Given as goal
 
