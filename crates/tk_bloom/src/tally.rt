@@ -100,9 +100,9 @@ impl Tally {
 fn above_zero(alloc: Global, counts: &[u32]) -> Result<Vec<bool>, AllocError>
     ensures { IfOk result (λ marks. marks.items ≡ map (λ n. nat_lt 0 n) counts.now) }
 {
-    let mut marks = Vec::with_capacity(alloc, counts.len())?;
-    for count in counts {
-        marks.push(*count > 0)?;
+    let mut marks = vec![in alloc; false; counts.len()]?;
+    for i in 0..counts.len() {
+        marks[i] = counts[i] > 0;
     }
     Ok(marks)
 }
