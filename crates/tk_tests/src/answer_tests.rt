@@ -7,59 +7,76 @@ use std::test::Fail;
 use tk_answer::{Blocks, answer, answer_each};
 use tk_shape::{Bytes, Memory};
 
-/// Eight blocks of 41 bytes, of which those of a page are said to lie together.
+/// 72 blocks of 127 bytes, of which those of a page are said to lie together: a pass over many
+/// vectors takes the first 64, and 64, 32, 16, 8 and seven times one of the bytes.
 #[derive(Drop)]
 struct Paged {
-    bytes: [u8; 328],
+    bytes: [u8; 9144],
     page: u32,
     ghost some: { 0 < page },
-    ghost few: { page ≤ 8 },
+    ghost few: { page ≤ 72 },
 }
 
 impl Blocks for Paged {
-    ghost blocks = { λ p. all_pieces 41 p.bytes };
+    ghost blocks = { λ p. all_pieces 127 p.bytes };
 
-    ghost width = { λ _. 41 };
+    ghost width = { λ _. 127 };
 
     fn count(&self) -> u32 {
-        8
+        72
     }
 
     fn width(&self) -> u32 {
-        41
+        127
     }
 
     fn run(&self, i: u32) -> &[u8] {
-        let end = (i - i % self.page + self.page).min(8);
-        &self.bytes[i as usize * 41..end as usize * 41]
+        let end = (i - i % self.page + self.page).min(72);
+        &self.bytes[i as usize * 127..end as usize * 127]
     }
 }
 
+/// Blocks of which number i has all bytes i + 1.
+fn counting() -> [u8; 9144] {
+    let mut bytes = [0; 9144];
+    for (i, byte) in bytes.iter_mut().enumerate() {
+        *byte = (i / 127) as u8 + 1;
+    }
+    bytes
+}
+
+/// A vector, and each byte of the sum of the blocks that it chooses.
+const CHOICES: [([u8; 9], u8); 5] = [
+    ([0xa5, 0, 0, 0, 0, 0, 0, 0, 0], 0x0c),
+    ([0, 0, 0, 0, 0, 0, 0, 0, 0], 0x00),
+    ([0, 0, 0x80, 0, 0, 0, 0, 0x01, 0x10], 0x64),
+    ([0, 0, 0, 0, 0, 0, 0, 0, 0xff], 0x08),
+    ([0xff; 9], 0x48),
+];
+
 #[test]
 fn runs_of_any_length(rt: HostRuntime) {
-    // block i has all bytes i + 1
-    let mut bytes = [0; 328];
-    for (i, byte) in bytes.iter_mut().enumerate() {
-        *byte = (i / 41) as u8 + 1;
-    }
-    // each block by itself, pages of 3, 3 and 2, and all together
-    for page in [1, 3, 8] {
-        let blocks = Paged { bytes, page };
-        for (vector, want) in [(0xa5, 0x0c), (0x00, 0x00), (0xff, 0x08), (0x80, 0x08)] {
-            let mut out = [0xff; 41];
-            answer(&blocks, &[vector], &mut out);
-            assert_eq!(rt; out.as_slice(), [want; 41].as_slice(), "pages of {page}");
+    // each block by itself, pages of 3 and 7, and all together
+    for page in [1, 3, 7, 72] {
+        let blocks = Paged {
+            bytes: counting(),
+            page,
+        };
+        for (vector, want) in CHOICES {
+            let mut out = [0xff; 127];
+            answer(&blocks, &vector, &mut out);
+            assert_eq!(rt; out.as_slice(), [want; 127].as_slice(), "pages of {page}");
         }
     }
 }
 
-/// Vectors over eight blocks, three that take turns.
+/// Vectors over all blocks, which take turns.
 fn in_turn(alloc: Global, count: usize) -> Result<Vec<Bytes>, Memory>
-    ensures { IfOk result (λ vs. All (λ v. length v ≡ 1) vs.items) }
+    ensures { IfOk result (λ vs. All (λ v. length v ≡ 9) vs.items) }
 {
     let mut vectors = Vec::new(alloc);
     for i in 0..count {
-        let vector = [[0xa5, 0x00, 0x80][i % 3]];
+        let (vector, _want) = CHOICES[i % 5];
         vectors.push(Bytes::from_slice(alloc, &vector)?)?;
     }
     Ok(vectors)
@@ -68,19 +85,18 @@ fn in_turn(alloc: Global, count: usize) -> Result<Vec<Bytes>, Memory>
 #[test]
 fn each_vector_answered(rt: HostRuntime) -> Result<(), Fail> {
     let alloc = rt.alloc();
-    let mut bytes = [0; 328];
-    for (i, byte) in bytes.iter_mut().enumerate() {
-        *byte = (i / 41) as u8 + 1;
-    }
-    // none, few and many vectors, over pages and over all blocks together
-    for (page, count) in [(8, 0), (3, 3), (8, 3), (3, 27)] {
-        let blocks = Paged { bytes, page };
+    // none, few, many and very many vectors, over pages and over all blocks together
+    for (page, count) in [(72, 0), (3, 3), (72, 3), (3, 27), (72, 131)] {
+        let blocks = Paged {
+            bytes: counting(),
+            page,
+        };
         let vectors = in_turn(alloc, count)?;
         let sums = answer_each(alloc, &blocks, vectors)?;
         assert_eq!(rt; sums.len(), count);
         for (i, sum) in sums.iter().enumerate() {
-            let want = [0x0c, 0x00, 0x08][i % 3];
-            assert_eq!(rt; sum.as_slice(), [want; 41].as_slice());
+            let (_vector, want) = CHOICES[i % 5];
+            assert_eq!(rt; sum.as_slice(), [want; 127].as_slice());
         }
     }
     Ok(())
