@@ -1,5 +1,5 @@
 //! The buckets of a read, kept until its replies are taken, so that they are found once.
-ghost use Rattle.std.specs.Prelude.{◌≡◌, ◌<◌, IfSome};
+ghost use Rattle.std.specs.Prelude.{◌≡◌, ◌<◌};
 ghost use Rattle.tk_shape.specs.Lengths.{turn_count};
 ghost use Rattle.tk_words.specs.Words.{pair_of, pair_under};
 

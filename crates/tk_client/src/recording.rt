@@ -1,5 +1,5 @@
 //! What a reader keeps of an answer.
-ghost use Rattle.std.specs.Prelude.{◌≡◌, ◌+◌, ◌<◌, ◌≤◌, ◌^◌, length, map, slice_set, Some, None};
+ghost use Rattle.std.specs.Prelude.{◌≡◌, ◌+◌, ◌<◌, ◌≤◌, length, map, slice_set, Some, None};
 ghost use Rattle.std.specs.Prelude.{OnOk, OnErr};
 ghost use Rattle.tk_shape.specs.declared.shape.Shape.{Shape};
 ghost use Rattle.tk_client.specs.Reader.{untried, follow_after};

@@ -1,4 +1,4 @@
-ghost use Rattle.std.specs.Prelude.{◌≡◌, ◌+◌, ◌<◌, ◌≤◌, ◌++◌, length, filter_map, IfOk};
+ghost use Rattle.std.specs.Prelude.{◌≡◌, ◌+◌, ◌<◌, ◌++◌, length, filter_map, IfOk};
 ghost use Rattle.std.specs.Option.{option_map};
 ghost use Rattle.tk_shape.specs.Lengths.{turn_count, slot_len, width};
 ghost use Rattle.tk_words.specs.Words.{words_of, opened};

@@ -3,7 +3,9 @@ ghost use Rattle.std.specs.Prelude.{◌≡◌, ◌+◌, ◌*◌, ◌≤◌, ◌�
 ghost use Rattle.std.specs.Result.{result_err};
 ghost use Rattle.tk_frames.specs.declared.fault.FrameError.TheVariants as fault;
 ghost use Rattle.tk_frames.specs.Fields.{numbers};
-ghost use Rattle.tk_frames.specs.Faults.{first_fault, head_checks, hit_check, write_field_checks, asker_checks, position_check, write_checks, read_checks, reply_checks, mark_checks, record_checks};
+ghost use Rattle.tk_frames.specs.Faults.{first_fault, head_checks, hit_check, write_field_checks};
+ghost use Rattle.tk_frames.specs.Faults.{asker_checks, position_check, write_checks, read_checks};
+ghost use Rattle.tk_frames.specs.Faults.{reply_checks, mark_checks, record_checks};
 
 use crate::kind::{self, VERSION};
 use crate::numbers::{u32_at, u64_at};

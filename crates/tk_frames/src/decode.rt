@@ -1,6 +1,6 @@
-//! Decoders. What one reads is spelled so and in range (`found`), and what is in range is read from its spelling, unless
-//! memory runs out (`only`). Other bytes are refused for their first fault, in the order of `Length`, `Kind`, `Version`
-//! and `Field` (`kept`, `refused`). Memory is taken only once no fault is found.
+//! Decoders. What one reads is spelled so and in range (`found`), and what is in range is read from its
+//! spelling, unless memory runs out (`only`). Other bytes are refused for their first fault, in the order of
+//! `Length`, `Kind`, `Version` and `Field` (`kept`, `refused`). Memory is taken only once no fault is found.
 ghost use Rattle.std.specs.Prelude.{◌≡◌, None, IfOk, IfErr, OnOk};
 ghost use Rattle.tk_frames.specs.declared.write_frame.WriteFrame.{WriteFrame};
 ghost use Rattle.tk_frames.specs.declared.read_frame.ReadFrame.{ReadFrame};
@@ -8,7 +8,8 @@ ghost use Rattle.tk_frames.specs.declared.reply_frame.ReplyFrame.{ReplyFrame};
 ghost use Rattle.tk_frames.specs.declared.entry.Placed.{Placed};
 ghost use Rattle.tk_frames.specs.Spelling.{write_frame, read_frame, reply_frame, placed_frame};
 ghost use Rattle.tk_frames.specs.Ranges.{IsWrite, IsRead, IsReply, IsPlaced};
-ghost use Rattle.tk_frames.specs.Faults.{first_fault, write_checks, read_checks, reply_checks, placed_checks, GivesUnlessMemory, IsRefusal};
+ghost use Rattle.tk_frames.specs.Faults.{first_fault, write_checks, read_checks, reply_checks};
+ghost use Rattle.tk_frames.specs.Faults.{placed_checks, GivesUnlessMemory, IsRefusal};
 
 use crate::check::{check_mark, check_read, check_record, check_reply, check_write};
 use crate::value::{mark_of, read_of, record_of, reply_of, write_of};

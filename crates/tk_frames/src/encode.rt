@@ -1,8 +1,10 @@
 //! Encoders: each makes the room for a frame first, and then appends its one spelling. Where there is no room, nothing
 //! is appended. Every value has a spelling, in range for a shape or not.
-ghost use Rattle.std.specs.Prelude.{◌≡◌, ℕ, ◌+◌, ◌-◌, ◌*◌, ◌^◌, ◌≤◌, ◌∷◌, [], ◌++◌, length, min, vec_len, vec_capacity, OnOk, OnErr};
+ghost use Rattle.std.specs.Prelude.{◌≡◌, ◌+◌, ◌-◌, ◌*◌, ◌^◌, ◌≤◌, ◌∷◌, ◌++◌, length, min};
+ghost use Rattle.std.specs.Prelude.{vec_len, vec_capacity, OnOk, OnErr};
 ghost use Rattle.std.specs.List.{flat_map};
-ghost use Rattle.tk_frames.specs.Spelling.{be32, be64, write_fields, write_frame, read_frame, reply_frame, placed_frame};
+ghost use Rattle.tk_frames.specs.Spelling.{be32, be64, write_fields, write_frame, read_frame};
+ghost use Rattle.tk_frames.specs.Spelling.{reply_frame, placed_frame};
 
 use crate::kind::{self, VERSION};
 use crate::{Entry, Placed, ReadFrame, ReplyFrame, WriteFrame};

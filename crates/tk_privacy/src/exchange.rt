@@ -2,7 +2,7 @@ ghost use Rattle.std.specs.Prelude.{◌≡◌, ◌<◌, ◌≤◌, ◌+◌, ◌+
 ghost use Rattle.std.specs.Prelude.{IsTrue, OnOk};
 ghost use Rattle.std.specs.List.{range_with_len};
 ghost use Rattle.std.specs.Option.{option_copied};
-ghost use Rattle.tk_shape.specs.Lengths.{turn_count, cell_len, tape_len};
+ghost use Rattle.tk_shape.specs.Lengths.{turn_count, cell_len};
 ghost use Rattle.tk_seal.specs.Texts.{is_allowed};
 ghost use Rattle.tk_script.specs.Sent.{sent, sent_as, is_numbered, writer_of};
 ghost use Rattle.tk_report.specs.Listings.{sent_by};

@@ -1,7 +1,6 @@
 ghost use Rattle.std.specs.Prelude.{◌≡◌, ◌*◌, ◌++◌, length, map, IfOk, OnOk};
 ghost use Rattle.std.specs.List.{All, AllByRecursion};
 ghost use Rattle.tk_shape.specs.Lengths.{vector_len, width};
-ghost use Rattle.tk_kernel.specs.Chosen.{chosen_sum};
 ghost use Rattle.tk_frames.specs.Ranges.{IsRead, IsReply};
 ghost use Rattle.tk_replica.specs.Replies.{sum_over, reply_over, frame_over};
 ghost use Rattle.tk_replica.specs.Replies.{asker_of, both_vectors};

@@ -1,4 +1,4 @@
-ghost use Rattle.std.specs.Prelude.{◌≡◌, ◌+◌, ◌<◌, IfOk, OnOk};
+ghost use Rattle.std.specs.Prelude.{◌+◌, ◌<◌, IfOk, OnOk};
 ghost use Rattle.tk_shape.specs.Lengths.{turn_count};
 ghost use Rattle.tk_schedule.specs.declared.history.History.{History};
 ghost use Rattle.tk_words.specs.Words.{WordBook, words_of};

@@ -1,4 +1,4 @@
-ghost use Rattle.std.specs.Prelude.{◌≡◌, ◌<◌, ℕ, List, length};
+ghost use Rattle.std.specs.Prelude.{◌≡◌, ◌<◌, List, length};
 ghost use Rattle.tk_client.specs.Client.{ClientState};
 ghost use Rattle.tk_report.specs.Clients.{joined};
 ghost use Rattle.tk_report.specs.Leaving.{got_by, unsent_by};

@@ -1,6 +1,6 @@
 ghost use Rattle.std.specs.Prelude.{◌≡◌, ◌<◌, ◌+◌, ◌^◌, length, IfOk};
 ghost use Rattle.tk_script.specs.Grammar.{lines_of};
-ghost use Rattle.tk_report.specs.ReportLines.{kind_said, stops, raw_from};
+ghost use Rattle.tk_report.specs.ReportLines.{stops, raw_from};
 
 use crate::line_kind::{kind_of, no_line};
 use std::alloc::Global;

@@ -1,4 +1,4 @@
-ghost use Rattle.std.specs.Prelude.{◌≡◌, ◌++◌, ◌∷◌, [], ℕ, List, IfOk, OnOk};
+ghost use Rattle.std.specs.Prelude.{◌++◌, ◌∷◌, [], ℕ, List, IfOk, OnOk};
 ghost use Rattle.tk_shape.specs.declared.shape.Shape.{Shape};
 ghost use Rattle.tk_frames.specs.declared.entry.Placed.{Placed};
 ghost use Rattle.tk_frames.specs.Spelling.{placed_frame};

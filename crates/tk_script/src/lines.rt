@@ -1,6 +1,6 @@
-ghost use Rattle.std.specs.Prelude.{◌≡◌, ◌≢◌, ◌<◌, ◌↔◌, ◌∷◌, ℕ, codes, IsTrue, List, [], length};
-ghost use Rattle.std.specs.Prelude.{slice_index, IfSome, IfNone, IsSomeAnd};
-ghost use Rattle.tk_script.specs.Grammar.{Line, lines_of};
+ghost use Rattle.std.specs.Prelude.{◌≡◌, ◌≢◌, ◌<◌, ◌↔◌, ◌∷◌, ℕ, codes, IsTrue, [], length};
+ghost use Rattle.std.specs.Prelude.{slice_index, IfSome, IfNone};
+ghost use Rattle.tk_script.specs.Grammar.{lines_of};
 
 /// Where a byte stands first in a text.
 pub(crate) fn place_of(text: &[u8], byte: u8) -> Option<usize>

@@ -17,7 +17,6 @@ pub struct Script {
 impl Script {
     ghost use Rattle.std.specs.Prelude.{◌≡◌, ◌+◌, ◌<◌, ◌≤◌, ℕ, length, IsTrue, slice_get};
     ghost use Rattle.std.specs.Prelude.{slice_index, Some};
-    ghost use Rattle.std.specs.List.{list_all};
     ghost use Rattle.tk_seal.specs.Texts.{is_allowed};
 
     /// Who writes and follows a log.

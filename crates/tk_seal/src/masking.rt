@@ -1,5 +1,6 @@
 //! A text behind a pad: the sum of its plain form and the pad.
-ghost use Rattle.std.specs.Prelude.{◌≡◌, ◌+◌, ◌-◌, ◌<◌, ◌≤◌, ◌++◌, ℕ, List, length, take, IsTrue, IfSome, IfNone, replicate};
+ghost use Rattle.std.specs.Prelude.{◌≡◌, ◌+◌, ◌-◌, ◌<◌, ◌≤◌, ◌++◌, ℕ, List, length, take, IsTrue};
+ghost use Rattle.std.specs.Prelude.{IfSome, IfNone, replicate};
 ghost use Rattle.tk_kernel.specs.Xor.{xor_bytes};
 ghost use Rattle.tk_seal.specs.Texts.{is_allowed};
 ghost use Rattle.tk_seal.specs.Seal.{plain, IsPlainForm};
@@ -22,8 +23,8 @@ pub fn mask(pad: &[u8], text: &[u8], out: &mut [u8])
     xor_into(out, pad);
 }
 
-/// The length of the text whose plain form is behind a pad, if there is one that may be sent: `out` has it, and zeros behind
-/// it. With none `out` is zeros.
+/// The length of the text whose plain form is behind a pad, if there is one that may be sent: `out` has it,
+/// and zeros behind it. With none `out` is zeros.
 pub fn unmask(pad: &[u8], masked: &[u8], out: &mut [u8]) -> Option<usize>
     requires whole { length masked.now ≡ length pad.now }
     requires room { length out.old + 2 ≡ length pad.now }

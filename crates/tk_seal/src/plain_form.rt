@@ -1,5 +1,6 @@
 //! The plain form of a text: its length as 16 bits, high byte first, the text, and zeros.
-ghost use Rattle.std.specs.Prelude.{◌≡◌, ◌+◌, ◌<◌, ◌≤◌, ◌^◌, ℕ, List, length, take, drop, replicate, IsTrue, ◌↔◌, IfSome, IfNone};
+ghost use Rattle.std.specs.Prelude.{◌≡◌, ◌+◌, ◌<◌, ◌≤◌, ℕ, List, length, take, drop};
+ghost use Rattle.std.specs.Prelude.{replicate, IsTrue, ◌↔◌, IfSome, IfNone};
 ghost use Rattle.tk_seal.specs.Texts.{is_allowed};
 ghost use Rattle.tk_seal.specs.Seal.{plain, IsPlainForm};
 

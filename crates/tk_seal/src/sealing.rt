@@ -1,4 +1,5 @@
-ghost use Rattle.std.specs.Prelude.{◌≡◌, ◌+◌, ◌-◌, ◌≤◌, ◌++◌, length, take, IsTrue, Some, None, IfSome, IfNone, replicate};
+ghost use Rattle.std.specs.Prelude.{◌≡◌, ◌+◌, ◌-◌, ◌≤◌, ◌++◌, length, take, IsTrue, Some, None};
+ghost use Rattle.std.specs.Prelude.{IfSome, IfNone, replicate};
 ghost use Rattle.tk_seal.specs.Texts.{is_allowed};
 ghost use Rattle.tk_handle.specs.Handle.{key_bytes};
 ghost use Rattle.tk_seal.specs.Seal.{keyed_tag, keyed_sealed, keyed_opened};
@@ -6,7 +7,8 @@ ghost use Rattle.tk_seal.specs.Seal.{keyed_tag, keyed_sealed, keyed_opened};
 use crate::{LONGEST_PAD, hmac, mask, unmask};
 use tk_handle::{Handle, Stream};
 
-/// Seals a text as message `number` of a log: its plain form is masked by a pad, and the tag of what is masked stands behind.
+/// Seals a text as message `number` of a log: its plain form is masked by a pad, and the tag of what is
+/// masked stands behind.
 pub fn seal(handle: &Handle, number: u32, text: &[u8], out: &mut [u8])
     requires low { 24 ≤ length out.old }
     requires high { length out.old ≤ 1024 }

@@ -4,8 +4,8 @@ ghost use Rattle.tk_seal.specs.Texts.{is_allowed, is_printable, allowed_front, I
 
 use std::str;
 
-/// None where the text may be sent: it is UTF-8 without bytes below 0x20 and without 0x7F. Else the length in bytes of its
-/// longest front that may be.
+/// None where the text may be sent: it is UTF-8 without bytes below 0x20 and without 0x7F. Else the length in
+/// bytes of its longest front that may be.
 pub fn allowed(text: &[u8]) -> Option<usize>
     ensures none { IsNone result ↔ (IsTrue (is_allowed text.now)) }
     ensures longest { IfSome result (IsAllowedUpTo text.now) }

@@ -1,7 +1,7 @@
 //! Two clients and the publisher, each in a thread of its own, over two phases.
 ghost use Rattle.std.specs.Prelude.{◌≡◌, ◌+◌, ◌<◌, All, length, IfSome};
 ghost use Rattle.std.specs.Thread.{IsSync};
-ghost use Rattle.tk_cluster.specs.Clusters.{Each, Opened};
+ghost use Rattle.tk_cluster.specs.Clusters.{Each};
 ghost use Rattle.tk_cluster.specs.Closings.{AllOnce};
 ghost use Rattle.tk_cluster.specs.Passes.{Stays};
 

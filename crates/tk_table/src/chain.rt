@@ -1,6 +1,5 @@
 //! Changes of buckets, slot after slot.
 ghost use Rattle.std.specs.Prelude.{◌≡◌, ◌<◌, ◌≤◌, length};
-ghost use Rattle.tk_place.specs.Views.{spot_of};
 ghost use Rattle.tk_bucket.specs.Table.{slot_at, with_slot};
 ghost use Rattle.tk_table.specs.Stands.{slot_with};
 ghost use Rattle.tk_table.specs.Steps.{AreSteps, IsFree, first_of, moved_by, cleared, cleared_in};

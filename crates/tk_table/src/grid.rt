@@ -1,6 +1,5 @@
-ghost use Rattle.std.specs.Prelude.{◌≡◌, ◌<◌, ◌≤◌, ◌↔◌, ℕ, length, None, IfOk};
+ghost use Rattle.std.specs.Prelude.{◌≡◌, ◌<◌, ◌≤◌, ◌↔◌, length, None, IfOk};
 ghost use Rattle.tk_place.specs.Place.{search_end};
-ghost use Rattle.tk_bucket.specs.Bytes.{BlockList};
 ghost use Rattle.tk_shape.specs.Lengths.{width};
 ghost use Rattle.tk_table.specs.Table.{empty_table, others_from, placed_in, blocks_of};
 ghost use Rattle.tk_table.specs.Stands.{slot_with, IsPair};

@@ -1,6 +1,6 @@
 //! The table under pressure, beside the plain definition: of the latest writes, those are stored
 //! that have a placement.
-ghost use Rattle.std.specs.Prelude.{◌≡◌, ◌+◌, ◌<◌, ◌≤◌};
+ghost use Rattle.std.specs.Prelude.{◌<◌};
 
 use crate::table_tests::{open, put};
 use std::alloc::Global;

@@ -1,5 +1,4 @@
 ghost use Rattle.std.specs.Prelude.{◌≡◌, ◌+◌, ◌<◌, ◌≤◌, All, IfOk};
-ghost use Rattle.tk_table.specs.Stands.{IsPair};
 
 use std::alloc::Global;
 use std::test::Fail;

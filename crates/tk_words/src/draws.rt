@@ -1,4 +1,5 @@
-ghost use Rattle.std.specs.Prelude.{◌≡◌, ◌<◌, ◌≤◌, ◌+◌, ◌-◌, ◌*◌, ◌++◌, length, take, IsTrue, Some, None, ℕ, IfSome, IfNone, replicate, flat_map};
+ghost use Rattle.std.specs.Prelude.{◌≡◌, ◌<◌, ◌≤◌, ◌+◌, ◌-◌, ◌*◌, ◌++◌, length, take, IsTrue, Some};
+ghost use Rattle.std.specs.Prelude.{None, ℕ, IfSome, IfNone, replicate, flat_map};
 ghost use Rattle.std.specs.List.{AllByRecursion};
 ghost use Rattle.tk_shape.specs.declared.shape.Shape.{Shape};
 ghost use Rattle.tk_shape.specs.Lengths.{turn_count, vector_len};
@@ -64,7 +65,8 @@ pub trait Draws: Sync {
         ensures { out.new
             ≡ sealed (words_of (shape self.now) (book self.now)) log number text.now };
 
-    /// The length of the text that seals to a block, if there is one: `out` has it, and zeros behind it. With none `out` is zeros.
+    /// The length of the text that seals to a block, if there is one: `out` has it, and zeros behind it. With
+    /// none `out` is zeros.
     fn open(&self, log: u32, number: u32, block: &[u8], out: &mut [u8]) -> Option<usize>
         requires log_in { log < (shape self.now).logs }
         requires number_in { number < turn_count (shape self.now) }
