@@ -1,0 +1,107 @@
+# shellcheck shell=bash
+# What ./talek and ./prove share: where the built programs are, and whether they were built from these very sources.
+# Whoever reads this file has set top, the repository's folder, and self, the name that messages begin with.
+
+set -euo pipefail
+: "${top:?}" "${self:?}"
+out=$top/crates/talek/out
+# A proved program and an unproved one each have a folder of their own, with the program, which is called talek, and
+#   made-of: whether it is proved, the kit's identity, and the checksums of the sources and of the program,
+#   seen: the sizes and times of all these files, as they were when they last had those checksums,
+#   lock: held by whoever builds there.
+declare -A folder=([proved]=$out [unproved]=$out/unproved)
+
+fail() {
+    echo "$self: $1" >&2
+    exit 70
+}
+
+# Finds the kit whose command rt is on the path: its folder and its identity, both empty where there is none.
+find_kit() {
+    local rt
+    kit='' kit_id=''
+    hash rt 2>/dev/null || return 0
+    rt=$(readlink -f "${BASH_CMDS[rt]}") || return 0
+    if [ -f "${rt%/*/*}/KIT-ID" ]; then
+        kit=${rt%/*/*}
+        read -r kit_id <"$kit/KIT-ID" || true
+    fi
+}
+
+# Does with each source what the words say, which are further files and then tests and actions of find.
+each_source() {
+    (
+        cd "$top"
+        shopt -s nullglob
+        find crates.txt HANDLES crates/*/{src,specs,proofs} "$@"
+    )
+}
+
+sum_of_sources() {
+    each_source -type f -print0 | LC_ALL=C sort -z | (cd "$top" && xargs -0 sha256sum) | sha256sum
+}
+
+# The sources and this program, each with its number, its size and its time of change, which no edit leaves as it was.
+sizes_and_times() {
+    each_source "$1" -type f -printf '%p %i %s %C@\n'
+}
+
+# Whether some of these files changed so lately that one more change could bear the same time.
+is_fresh() {
+    [ -n "$(each_source "$1" -type f -newerct '2 seconds ago' -print -quit)" ]
+}
+
+# Whether a program of this kind is intact and was built from these sources, by this kit where there is one. It reads
+# them all only where sizes or times changed.
+is_built() {
+    local kind=$1 place=${folder[$1]} made_by now
+    local program=$place/talek
+    [ -x "$program" ] && [ -f "$place/made-of" ] || return 1
+    read -r made_by <"$place/made-of" || return 1
+    [ "$made_by" = "$kind ${kit_id:-${made_by#* }}" ] || return 1
+    now=$(sizes_and_times "$program")
+    if [ -f "$place/seen" ] && [ "$now" = "$(<"$place/seen")" ]; then
+        return 0
+    fi
+    [ "$(<"$place/made-of")" = "$(what_made "$made_by" "$(sum_of_sources)" "$program")" ] || return 1
+    if ! is_fresh "$program" && [ "$now" = "$(sizes_and_times "$program")" ]; then
+        # (in a folder that may not be written to, each start reads all)
+        { echo "$now" >"$place/seen"; } 2>/dev/null || true
+    fi
+}
+
+# What is written of a program: what made it, the sum of the sources, and its own.
+what_made() {
+    printf '%s\n' "$1" "$2"
+    sha256sum <"$3"
+}
+
+# Makes the folder of a kind of program, with its lock.
+make_folder() {
+    local place=${folder[$1]}
+    if ! { mkdir -p "$place" && : >>"$place/lock"; } 2>/dev/null; then
+        fail "no program is built from these sources, and $place can't be written to"
+    fi
+}
+
+# Builds a program of a kind, whose folder is made, by the command that the further words are, which must leave it
+# there. One start builds at a time, and whoever waited takes what was built.
+build_in_turn() {
+    local kind=$1 place=${folder[$1]} sources
+    shift
+    exec 9>>"$place/lock"
+    flock 9
+    if ! is_built "$kind"; then
+        rm -f "$place"/{talek,made-of,seen}
+        sources=$(sum_of_sources)
+        "$@"
+        if [ "$sources" != "$(sum_of_sources)" ]; then
+            rm -f "$place/talek"
+            fail "the sources changed while the program was built from them: start it once more"
+        fi
+        what_made "$kind $kit_id" "$sources" "$place/talek" >"$place/made-of"
+    fi
+    exec 9>&-
+}
+
+find_kit
