@@ -1,7 +1,7 @@
 """Which texts of a group come to whom in a serial run, and why the others don't.
 
-Two things that chance decides aren't foreseen: a write that is displaced, and a read that is spent on a number which the
-filter shows by chance. For the second a reader can be given fewer reads than it has.
+Two things that chance decides aren't foreseen: a write that is displaced, and a read that is spent on a number which
+the filter shows by chance. For the second a reader can be given fewer reads than it has.
 """
 
 from script import turns_sent

@@ -67,8 +67,8 @@ def last_phase(shape, group):
 
 
 def reads_in_vain(shape, group):
-    """How many reads of a phase a client spends on numbers that the filter shows by chance, about, where it follows the
-    most logs."""
+    """About how many reads of a phase a client that follows the most logs spends on numbers that the filter shows by
+    chance."""
     marked = 1 - math.exp(-shape["hits"] * shape["retained"] / shape["filter"])
     followed = max(sum(client in it for _, it in group.roles) for client in range(group.clients))
     return followed * shape["ahead"] * marked ** shape["hits"]
@@ -96,19 +96,26 @@ def comes(shape, group):
     return not any(missing(shape, group.roles, group.texts, spare_reads(shape, group)))
 
 
+def shapes_by_ticks(given, group):
+    """The shapes with fewer and with more ticks, as far as the limits go; an error where there is none."""
+    least = max((tick for _, tick, _ in group.texts), default=1)
+    for ticks in [given["ticks"]] if "ticks" in given else range(max(2, least), 65):
+        yield completed(given, group, ticks)
+
+
 def chosen(given, group):
-    """The shape with the fewest ticks with which all texts come at once, or at all, or else with the most ticks."""
+    """The shape with the fewest ticks with which all texts come at once, or at all, or else with the most ticks; and
+    the limit that stands in the way of more ticks, if one does."""
     for field, value in given.items():
         check_field(field, value)
-    least = max((tick for _, tick, _ in group.texts), default=1)
-    shapes = []
-    for ticks in [given["ticks"]] if "ticks" in given else range(max(2, least), 65):
-        try:
-            shapes.append(completed(given, group, ticks))
-        except Wrong:
-            if not shapes:
-                raise
-            break
-        if comes_at_once(shapes[-1], group):
-            return shapes[-1]
-    return next((shape for shape in shapes if comes(shape, group)), shapes[-1])
+    shapes, limit = [], None
+    try:
+        for shape in shapes_by_ticks(given, group):
+            if comes_at_once(shape, group):
+                return shape, None
+            shapes.append(shape)
+    except Wrong as why:
+        limit = why
+    if not shapes:
+        raise limit
+    return next((shape for shape in shapes if comes(shape, group)), shapes[-1]), limit
