@@ -43,14 +43,15 @@ def check_shape(shape):
             raise Wrong(f"the shape has {what} = {value}, and it may be {most} at most")
 
 
-def completed(given, group, ticks):
-    """The shape with so many ticks: what is given of it, and for the rest a choice."""
+def completed(given, group, ticks, kept):
+    """The shape with so many ticks, where texts are kept for so many phases: what is given of it, and for the rest a
+    choice."""
     shape = {**given, "clients": group.clients, "logs": len(group.roles)}
     shape.setdefault("ticks", ticks)
     shape.setdefault("servers", 3)
-    shape.setdefault("phases", min(256, last_phase(shape, group) + 2))
+    shape.setdefault("phases", min(256, last_phase(shape, group) + kept))
     shape.setdefault("block", min(1024, max(96, group.longest + 18)))
-    shape.setdefault("retained", 2 * shape["clients"] * shape["ticks"])
+    shape.setdefault("retained", kept * shape["clients"] * shape["ticks"])
     shape.setdefault("depth", 8)
     shape.setdefault("buckets", max(8, power_of_two(-(-2 * shape["retained"] // max(1, shape["depth"])))))
     shape.setdefault("hits", 4)
@@ -96,11 +97,15 @@ def comes(shape, group):
     return not any(missing(shape, group.roles, group.texts, spare_reads(shape, group)))
 
 
-def shapes_by_ticks(given, group):
-    """The shapes with fewer and with more ticks, as far as the limits go; an error where there is none."""
+def candidates(given, group):
+    """Shapes with fewer and with more ticks, and then some that keep texts for longer; an error at the first that breaks
+    a limit."""
     least = max((tick for _, tick, _ in group.texts), default=1)
-    for ticks in [given["ticks"]] if "ticks" in given else range(max(2, least), 65):
-        yield completed(given, group, ticks)
+    every = [given["ticks"]] if "ticks" in given else range(max(2, least), 65)
+    for ticks in every:
+        yield completed(given, group, ticks, kept=2)
+    for kept in range(3, 9):
+        yield completed(given, group, every[-1], kept)
 
 
 def fewest_losses(shapes, group):
@@ -109,13 +114,13 @@ def fewest_losses(shapes, group):
 
 
 def chosen(given, group):
-    """The shape with the fewest ticks with which all texts come at once, or at all, or else one with few losses; and
-    the limit that stands in the way of more ticks, if one does."""
+    """The first candidate with which all texts come at once, or at all, or else one with few losses; and the limit that
+    stands in the way of further candidates, if one does."""
     for field, value in given.items():
         check_field(field, value)
     shapes, limit = [], None
     try:
-        for shape in shapes_by_ticks(given, group):
+        for shape in candidates(given, group):
             if comes_at_once(shape, group):
                 return shape, None
             shapes.append(shape)
