@@ -98,8 +98,8 @@ def comes(shape, group):
 
 
 def candidates(given, group):
-    """Shapes with fewer and with more ticks, and then some that keep texts for longer; an error at the first that breaks
-    a limit."""
+    """Shapes with fewer and with more ticks, and then some that keep texts for longer; an error at the first that
+    breaks a limit."""
     least = max((tick for _, tick, _ in group.texts), default=1)
     every = [given["ticks"]] if "ticks" in given else range(max(2, least), 65)
     for ticks in every:
@@ -114,8 +114,8 @@ def fewest_losses(shapes, group):
 
 
 def chosen(given, group):
-    """The first candidate with which all texts come at once, or at all, or else one with few losses; and the limit that
-    stands in the way of further candidates, if one does."""
+    """The first candidate with which all texts come at once, or at all, or else one with few losses; and the limit
+    that stands in the way of further candidates, if one does."""
     for field, value in given.items():
         check_field(field, value)
     shapes, limit = [], None
