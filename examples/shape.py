@@ -110,7 +110,8 @@ def candidates(given, group):
 
 def fewest_losses(shapes, group):
     """The shape with which the fewest texts are lost, of some of these: to try all would take minutes."""
-    return min(shapes[:: max(1, len(shapes) // 8)], key=lambda it: sum(1 for _ in missing(it, group.roles, group.texts)))
+    some = shapes[:: max(1, len(shapes) // 8)]
+    return min(some, key=lambda it: sum(1 for _ in missing(it, group.roles, group.texts)))
 
 
 def chosen(given, group):
