@@ -3,6 +3,8 @@
 # Whoever reads this file has set top, the repository's folder, and self, the name that messages begin with.
 
 set -euo pipefail
+# Neither another compiler nor C code may make a program that counts as proved.
+unset RT_BACKEND RT_ALLOW_C
 : "${top:?}" "${self:?}"
 out=$top/crates/talek/out
 # A proved program and an unproved one each have a folder of their own, with the program, which is called talek, and
@@ -15,6 +17,9 @@ fail() {
     echo "$self: $1" >&2
     exit 70
 }
+# Whatever else fails here must not end with a status of the program's.
+set -E
+trap 'exit 70' ERR
 
 # Finds the kit whose command rt is on the path: its folder and its identity, both empty where there is none.
 find_kit() {
@@ -41,9 +46,10 @@ sum_of_sources() {
     each_source -type f -print0 | LC_ALL=C sort -z | (cd "$top" && xargs -0 sha256sum) | sha256sum
 }
 
-# The sources and this program, each with its number, its size and its time of change, which no edit leaves as it was.
+# The sources and the files that are named besides, each with its number, its size and its time of change, which no edit
+# leaves as it was.
 sizes_and_times() {
-    each_source "$1" -type f -printf '%p %i %s %C@\n'
+    each_source "$@" -type f -printf '%p %i %s %C@\n'
 }
 
 # Whether some of these files changed so lately that one more change could bear the same time.
@@ -87,15 +93,17 @@ make_folder() {
 # Builds a program of a kind, whose folder is made, by the command that the further words are, which must leave it
 # there. One start builds at a time, and whoever waited takes what was built.
 build_in_turn() {
-    local kind=$1 place=${folder[$1]} sources
+    local kind=$1 place=${folder[$1]} sources times
     shift
     exec 9>>"$place/lock"
     flock 9
     if ! is_built "$kind"; then
         rm -f "$place"/{talek,made-of,seen}
+        times=$(sizes_and_times)
         sources=$(sum_of_sources)
         "$@"
-        if [ "$sources" != "$(sum_of_sources)" ]; then
+        # (an edit that was taken back meanwhile has left its time)
+        if [ "$times" != "$(sizes_and_times)" ]; then
             rm -f "$place/talek"
             fail "the sources changed while the program was built from them: start it once more"
         fi
