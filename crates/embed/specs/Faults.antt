@@ -13,7 +13,7 @@ use Rattle.tk_replica.specs.declared.error.ServeError.TheVariants as serving
 use Rattle.embed.specs.declared.fault.Fault.{Fault}
 use Rattle.embed.specs.declared.fault.Fault.TheVariants.{Say, Frame, Pin, Serve, Take, Memory}
 
--- ---- what an error of a call tells: want of memory is the same wherever it comes
+-- ---- what an error of a call tells: that memory ran out is the same wherever it comes
 
 abbrev pub told_say : SayError → Fault
 told_say saying.Memory = Memory

@@ -1,4 +1,4 @@
--- Blocks that lie one behind the other.
+-- Blocks that lie one after the other.
 use Rattle.std.specs.Prelude.{◌≡◌, ℕ, ◌+◌, ◌*◌, ◌<◌, ◌≤◌, List, length, take, drop}
 use Rattle.std.specs.List.{concat}
 use Rattle.tk_kernel.specs.Pieces.{all_pieces}

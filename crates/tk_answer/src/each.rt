@@ -7,7 +7,7 @@ use crate::tiles::summed;
 use std::alloc::Global;
 use tk_shape::{Bytes, Memory};
 
-/// The answers to many vectors, in their order: for each the sum, without carries, of the blocks that it chooses. Each
+/// The answers to many vectors, in their order: for each the XOR of the blocks that it chooses. Each
 /// vector has one bit for each block, counted as `answer` counts them. All are made in one pass over the blocks. The
 /// vectors are taken, so that none of their bytes is copied.
 pub fn answer_each<B: Blocks>(

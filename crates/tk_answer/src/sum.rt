@@ -4,7 +4,7 @@ ghost use Rattle.tk_kernel.specs.Chosen.{chosen_sum};
 use crate::Blocks;
 use tk_kernel::xor_choose;
 
-/// The sum, without carries, of the blocks that the vector chooses; where it chooses none, zeros. The vector
+/// The XOR of the blocks that the vector chooses; where it chooses none, zeros. The vector
 /// has one bit for each block, counted through the bytes in order, the least bit of each first.
 pub fn answer<B: Blocks>(blocks: &B, vector: &[u8], out: &mut [u8])
     requires width { length out.old ≡ B.width blocks.now }

@@ -47,7 +47,7 @@ fn zeros(alloc: Global, count: usize, width: usize) -> Result<Vec<Vec<u8>>, Memo
     Ok(sums)
 }
 
-// Adds the blocks of one tile, from a number on, and gives the number behind them. They are added where they lie if all
+// Adds the blocks of one tile, from a number on, and gives the number after them. They are added where they lie if all
 // of them lie together, else they are gathered first.
 fn add_tile<B: Blocks>(
     blocks: &B,
@@ -96,7 +96,7 @@ fn tile_len(width: usize) -> usize
     (TILE / width).clamp(64, 1024) / 64 * 64
 }
 
-// Copies the blocks from one number to before another, one behind the other.
+// Copies the blocks from one number to before another, one after the other.
 fn gather<B: Blocks>(blocks: &B, from: u32, end: u32, gathered: &mut Vec<u8>) -> Result<(), Memory>
     requires order { from ≤ end }
     requires within { end ≤ length (B.blocks blocks.now) }

@@ -1,4 +1,4 @@
--- The answers to all chunks, one behind the other, are those to all rows.
+-- The answers to all chunks, one after the other, are those to all rows.
 use Rattle.std.proofs.Common.{◌≡◌, ℕ, suc, ◌+◌, ◌*◌, ◌<◌, ◌≤◌, List, [], ◌∷◌, ◌++◌, length, map}
 use Rattle.std.proofs.Common.{take, drop, refl, ap, ap₂, sym, ◌∙◌, subst, append_assoc, append-nil, arith}
 use Rattle.std.specs.Prelude.{slice_index_or, Vec, Result, Ok, Err, IfOk}
@@ -29,7 +29,7 @@ module _ (answer : List ℕ → List ℕ) (size : ℕ) where
       ap (map answer) (map-append (λ row. row.items) xs ys)
       ∙ map-append answer (map (λ row. row.items) xs) (map (λ row. row.items) ys)
 
-  -- the chunks behind the first
+  -- the chunks after the first
   chunks-behind : (part : Part) (parts : List Part) (rows : List (Vec ℕ Global)) →
       HasChunks answer size rows (part ∷ parts) → HasChunks answer size (drop size rows) parts
   unfolding answers

@@ -6,7 +6,7 @@ ghost use Rattle.tk_kernel.specs.Xor.{xor_all};
 use tk_kernel::xor_into;
 
 /// The vector of the last server. It joins with the drawn vectors, which the other servers get, to the vector with the
-/// bucket's bit alone. The drawn vectors lie one behind the other, each as long as `last`.
+/// bucket's bit alone. The drawn vectors lie one after the other, each as long as `last`.
 pub fn share(bucket: u32, drawn: &[u8], last: &mut [u8])
     requires in_vector { bucket < 8 * length last.old }
     requires whole { length drawn.now % length last.old ≡ 0 }
@@ -17,7 +17,7 @@ pub fn share(bucket: u32, drawn: &[u8], last: &mut [u8])
     last[bucket as usize / 8] ^= 1 << (bucket % 8);
 }
 
-/// Adds up pieces, without carries. They lie one behind the other, each as long as `out`; where there is none, the sum
+/// XORs pieces. They lie one after the other, each as long as `out`; where there is none, the sum
 /// is zeros.
 pub fn join(parts: &[u8], out: &mut [u8])
     requires some { 0 < length out.old }

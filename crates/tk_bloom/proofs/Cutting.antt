@@ -31,7 +31,7 @@ module _ (hits : ℕ) where
   length-pieces zero positions = refl
   length-pieces (suc count) positions = ap suc (length-pieces count (drop hits positions))
 
-  -- the pieces behind the first ones
+  -- the pieces after the first ones
   pub drop-pieces : (i count : ℕ) (positions : List ℕ) → i ≤ count
       → drop i (pieces hits count positions) ≡ pieces hits (count - i) (drop (i * hits) positions)
   drop-pieces zero count positions h =

@@ -14,7 +14,7 @@ pub record Kept : Type 0 where
   pub retained : ℕ
   pub pushes : List (List ℕ)
 
--- the pushes that lie one behind the other in a list of positions
+-- the pushes that lie one after the other in a list of positions
 abbrev pub pushes_in : ℕ → List ℕ → List (List ℕ)
 pushes_in hits positions = all_pieces hits positions
 

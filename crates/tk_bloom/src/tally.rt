@@ -49,7 +49,7 @@ impl Tally {
         self.queue.len()
     }
 
-    /// Puts a position behind the others.
+    /// Puts a position after the others.
     pub(crate) fn push_back(&mut self, hit: u32)
         requires room { length self.old.positions < self.old.room }
         requires in_range { hit < self.old.bits }
@@ -68,7 +68,7 @@ impl Tally {
         self.counts[hit as usize] -= 1;
     }
 
-    /// Puts positions behind the others.
+    /// Puts positions after the others.
     pub(crate) fn append(&mut self, hits: &[u32])
         requires room { length self.old.positions + length hits.now ≤ self.old.room }
         requires in_range { All (λ h. h < self.old.bits) hits.now }

@@ -4,7 +4,7 @@ use Rattle.std.proofs.Common.{Some, slice_get, sym, ap, subst, refl, arith, ⊎_
 use Rattle.std.proofs.Common.{length-append}
 use Rattle.tk_board.specs.Boards.{AllFit, IsLast}
 
--- what stands in a list with a value behind it
+-- what stands in a list with a value after it
 get_snoc : {M : Type 0} (xs : List M) (y x : M) (k : ℕ) → slice_get (xs ++ y ∷ []) k ≡ Some x
     → (slice_get xs k ≡ Some x) ⊎ ((y ≡ x) × (k ≡ length xs))
 get_snoc [] y x zero e = inr (cc e, refl)
@@ -22,7 +22,7 @@ module _ {M : Type 0} (fits : ℕ → M → Type 0) where
   pub fit_nil : AllFit fits []
   fit_nil k x e = absurd (cc e)
 
-  -- one value more, which may stand behind the list
+  -- one value more, which may stand after the list
   pub fit_snoc : (xs : List M) (y : M) → AllFit fits xs → fits (length xs) y
       → AllFit fits (xs ++ y ∷ [])
   fit_snoc xs y all new k x e =
@@ -31,7 +31,7 @@ module _ {M : Type 0} (fits : ℕ → M → Type 0) where
       subst (λ (n : ℕ). fits n x) (sym t.1) (subst (fits (length xs)) t.0 new))
       (get_snoc xs y x k e)
 
-  -- the last of the values of such a list may stand behind the others
+  -- the last of the values of such a list may stand after the others
   pub last_fits : (xs : List M) (x : M) (n : ℕ) → AllFit fits xs → IsLast xs x
       → length xs ≡ n + 1 → fits n x
   last_fits xs x n all l long =

@@ -68,7 +68,7 @@ impl<T: Share> Ledger<T> {
         said.unwrap()
     }
 
-    // A claim of the list with the value behind it, and the value with places for claims, where
+    // A claim of the list with the value after it, and the value with places for claims, where
     // there is memory.
     fn draft(&mut self, alloc: Global, value: T) -> (Result<Arc<Shown<T>>, Memory>, Place<T>)
         requires clear { self.old ≡ book self.old.board self.old.list [] false }

@@ -10,7 +10,7 @@ pub trait Share: Drop + Send + Sync + Sized {
 
     ghost meaning: { Self → Self.Meaning };
 
-    // What a board may show behind so many values.
+    // What a board may show after so many values.
     ghost fits: { ℕ → Self.Meaning → Type 0 };
 
     fn share(&self) -> Result<Self, Memory>

@@ -93,7 +93,7 @@ fn shared(held: Held, alloc: Global) -> (Held, Result<Arc<Page>, Memory>)
     (Held::Shared(page), other.map_err(|_| Memory))
 }
 
-/// Shares a page. Where memory is wanting, it keeps its bytes.
+/// Shares a page. If memory runs out, it keeps its bytes.
 pub(crate) fn share(held: &mut Held, alloc: Global) -> Result<Arc<Page>, Memory>
     ensures bytes { held_bytes held.new ≡ held_bytes held.old }
     ensures grown { is_shared held.old ≡ true → is_shared held.new ≡ true }

@@ -22,7 +22,7 @@ pub fn pair(handle: &Handle, number: u32, buckets: u32) -> (u32, u32)
     )
 }
 
-/// The filter positions of a number of a log: the words behind the first one of its stream under the second seed.
+/// The filter positions of a number of a log: the words after the first one of its stream under the second seed.
 pub fn hits(handle: &Handle, number: u32, bits: u32, out: &mut [u32])
     requires power { IsTrue (is_power_of_two bits) }
     requires few { length out.old ≤ 4 }

@@ -111,7 +111,7 @@ refuses-stops r status.TooLong left left' f f' input read refuses = absurd refus
 refuses-stops r s left left' f f' input read refuses =
     record { input = input; read = read; refused = refuses }
 
--- ---- what refuses an input, one behind the other
+-- ---- what refuses an input, one after the other
 
 -- the tape of another length
 refusal-tape : (r : Request) (input : Input) (want got : ℕ) →

@@ -30,7 +30,7 @@ nothing-alone words Nothing nothing asks = refl
 
 -- ---- words that differ
 
--- of the words with as many behind them no two weigh the same
+-- of the words with as many after them no two weigh the same
 weight : List ℕ → ℕ
 weight [] = 0
 weight (x ∷ xs) = x + length xs

@@ -1,4 +1,4 @@
--- Where a form isn't refused and no object fails, all is done or memory is wanting.
+-- Where a form isn't refused and no object fails, all is done or memory runs out.
 use Rattle.std.specs.Prelude.{◌≡◌, ◌⊎◌, ◌≤◌, ℕ, List, length, Some, None}
 use Rattle.tk_io.specs.Content.{Rose}
 use Rattle.tk_script.specs.declared.input.Input.{Input}

@@ -111,7 +111,7 @@ pub record IsRefused (r : Request) (s : Status) (left left' : Option (List ℕ))
   pub read : Reads (form_of r) left left' input
   pub refused : refusal_of r input ≡ Some s
 
--- How a request ends of which the input isn't had: for want of memory; as the source failed, or had
+-- How a request ends of which the input isn't had: because memory ran out; as the source failed, or had
 -- too much; or refused.
 abbrev pub Stops :
     Request → Status → (left left' : Option (List ℕ)) → (faults faults' : ℕ) → Type 0
@@ -130,7 +130,7 @@ pub record IsSpelled (f : Form) (input : Input) : Type 0 where
   pub bytes : List ℕ
   pub spelled : Spells f bytes input
 
--- how a request ends that an input refuses, or for which memory is wanting
+-- how a request ends that an input refuses, or for which memory runs out
 abbrev pub Refuses : Request → Input → Status → Type 0
 Refuses r input status.Done = ⊥
 Refuses r input status.Memory = Unit {0}

@@ -84,7 +84,7 @@ const SECOND: &str =
 000000000000000000000000
 ";
 
-/// The digits of lines, one behind the other.
+/// The digits of lines, one after the other.
 fn digits_of(alloc: Global, lines: &str) -> Result<Vec<u8>, AllocError> {
     let mut digits = Vec::new(alloc);
     for line in lines.as_bytes().split(|byte| *byte == b'\n') {

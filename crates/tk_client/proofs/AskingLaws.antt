@@ -1,4 +1,4 @@
--- Vectors that lie one behind the other, and the frames that carry them.
+-- Vectors that lie one after the other, and the frames that carry them.
 use Rattle.std.proofs.Common.{◌≡◌, ◌≢◌, ap, ap₂, sym, ◌∙◌, subst, arith, IsTrue}
 use Rattle.std.proofs.Common.{ℕ, zero, suc, ◌+◌, ◌-◌, ◌*◌, ◌/◌, ◌%◌, ◌^◌, ◌<◌, ◌≤◌}
 use Rattle.std.proofs.Common.{List, [], ◌∷◌, ◌++◌, length, map, get_or, take, drop, append_assoc}
@@ -53,9 +53,9 @@ whole_vectors count size some =
     let same : count * size ≡ count * size + 0 = omega arith in
     ap (λ n. n % size) same ∙ mod-mul-add count size 0 some
 
--- ---- vectors one behind the other
+-- ---- vectors one after the other
 
--- of several vectors the last lies behind the others
+-- of several vectors the last lies after the others
 pub last_behind : (count size : ℕ) → 2 ≤ count → (count - 1) * size + size ≡ count * size
 last_behind zero size h = absurd (omega arith)
 last_behind (suc n) size h =
@@ -91,7 +91,7 @@ all_pieces-last size (b ∷ bs) last some h e =
     ∙ all_pieces-append size b (concat bs ++ last) some h.0
     ∙ ap (λ ps. b ∷ ps) (all_pieces-last size bs last some h.1 e)
 
--- the drawn vectors and the last share behind them are the shares of a bucket
+-- the drawn vectors and the last share after them are the shares of a bucket
 pub shares_behind : (size bucket : ℕ) (drawn_bytes last all : List ℕ) → 0 < size →
     length drawn_bytes % size ≡ 0 → length last ≡ size →
     last ≡ last_share size bucket (all_pieces size drawn_bytes) → all ≡ drawn_bytes ++ last →
@@ -113,7 +113,7 @@ written_back len items new same =
 
 -- ---- the drawn vectors
 
--- all of them, the second bucket's behind the first's
+-- all of them, the second bucket's after the first's
 abbrev pub joined_vectors : DrawnVectors → List ℕ
 joined_vectors vectors = flat_map (λ v. v) vectors.first ++ flat_map (λ v. v) vectors.second
 
@@ -131,7 +131,7 @@ all_pieces-joined : (size : ℕ) (vs : List (List ℕ)) → 0 < size → AllSize
 all_pieces-joined size vs some h =
     ap (all_pieces size) (sym (concat_is vs)) ∙ all_pieces-concat size vs some h
 
--- the vectors of either bucket, where the second's lie behind the first's
+-- the vectors of either bucket, where the second's lie after the first's
 pub record AreHalves (shape : Shape) (vectors : DrawnVectors) (front back : List ℕ) : Type 0 where
   pub front_is : all_pieces (vector_len shape) front ≡ vectors.first
   pub back_is : all_pieces (vector_len shape) back ≡ vectors.second

@@ -133,7 +133,7 @@ refused-err {T} r fault e is memory none =
     let P : Result T SayError → Type 0 = λ x. IfErr x (IsRefusedFor fault) in
     subst P (sym is) (subst (λ f. IsRefusedFor f e) (sym none) memory)
 
--- what an outbox has after a text was put behind the others
+-- what an outbox has after a text was put after the others
 pub said : (log number : ℕ) (logs logs' : List Written) (waiting waiting' : List Waiting)
     (text kept : List ℕ) →
     logs' ≡ map (one_more_of log) logs →

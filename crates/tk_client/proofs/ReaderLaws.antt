@@ -152,7 +152,7 @@ target-anew shape shown e r =
     ∙ first_some-append gives behind (range_with_len 0 r.cursor)
     ∙ ap (λ n. option_or (first_some gives behind) (first_some gives (range_with_len 0 n))) all
 
--- the reader after a read that is for nothing, and after one that is for a target
+-- the reader after a dummy read, and after one that is for a target
 pub after-nothing : (shape : Shape) (e : ℕ) (r : Reader) (answer : Option (List ℕ)) (new : Reader) →
     new
     ≡ record { follows = follows_anew (not (e == r.last)) r.follows; cursor = r.cursor; last = e } →

@@ -48,7 +48,7 @@ refused-name shape c g e replies frames x frames_are none named =
     (ap (λ o. option_or o (first_other c g e 1 (frames_in shape replies))) none
     ∙ ap (first_other c g e 1) (sym frames_are) ∙ sym named)
 
--- a fault of a frame that isn't want of memory is what a reply can't be read for
+-- a fault of a frame, other than that memory ran out, is what a reply can't be read for
 pub unread-for : (shape : Shape) (server : ℕ) (reply : List ℕ) (e : FrameError) →
     (e ≡ frame_fault.Memory → ⊥) → IsRefusal (first_fault (reply_checks shape reply)) e →
     unread shape server reply ≡ Some (fault.Frame server e)
@@ -69,7 +69,7 @@ told-frame shape server reply e x other frame is =
       subst IsPlain (sym same) other,
     )
 
--- a fault that is told is what a reply can't be read for, unless it is want of memory
+-- a fault that is told is what a reply can't be read for, unless it is that memory ran out
 pub told-for : (shape : Shape) (server : ℕ) (reply : List ℕ) (e : FrameError) (x : TakeError) →
     (e ≡ frame_fault.Memory → x ≡ fault.Memory) →
     ((e ≡ frame_fault.Memory → ⊥) → x ≡ fault.Frame server e) →

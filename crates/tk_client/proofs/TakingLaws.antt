@@ -104,7 +104,7 @@ accepted_nothing pair opens slot closed =
 
 -- ---- what a block's slots give, slot by slot
 
--- the earliest that whole slots one behind the other give
+-- the earliest that whole slots one after the other give
 abbrev pub given : Shape → ℕ × ℕ → (List ℕ → Option (List ℕ)) → List ℕ → Option Accepted
 given shape pair opens bytes =
     earliest (filter_map (accepted pair opens) (map slot_from (all_pieces (slot_len shape) bytes)))

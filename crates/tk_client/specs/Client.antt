@@ -61,7 +61,7 @@ refusal_in replies s = refusal_of s.shape s.number replies s.read
 
 -- ---- what a client keeps
 
--- a read that is open is for a number of one of so many logs, or for nothing
+-- a read that is open is for a number of one of so many logs, or a dummy
 abbrev pub IsOpenOrNone : Shape → ℕ → Option OpenRead → Type 0
 IsOpenOrNone shape count None = Unit {0}
 IsOpenOrNone shape count (Some o) = IsTargetOrNone shape count o.target

@@ -1,4 +1,4 @@
--- What a read gives whose two buckets lie open, and one who follows logs so.
+-- What a read gives whose two buckets are at hand, and one who follows logs so.
 use Rattle.std.specs.Prelude.{ℕ, Bool, List, [], slice_index_or, Option, Some, None}
 use Rattle.tk_shape.specs.declared.shape.Shape.{Shape}
 use Rattle.tk_words.specs.Words.{BookWords, opened}

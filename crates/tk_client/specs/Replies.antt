@@ -71,11 +71,11 @@ refusal shape client turn epoch replies =
     option_or (first_unread shape 1 replies)
     (first_other client turn epoch 1 (frames_in shape replies))
 
--- refused for this, or for want of memory
+-- refused for this, or because memory ran out
 abbrev pub IsRefusedForOrMemory : Option TakeError → TakeError → Type 0
 IsRefusedForOrMemory found e = (e ≡ fault.Memory) ⊎ (found ≡ Some e)
 
--- want of memory is never told as a fault of a frame
+-- that memory ran out is never told as a fault of a frame
 abbrev pub IsPlain : TakeError → Type 0
 IsPlain (fault.Frame server error) = error ≢ frame_fault.Memory
 IsPlain (fault.Named server want got) = Unit {0}

@@ -25,7 +25,7 @@ abbrev pub fault_of : Shape → List Written → ℕ → List ℕ → Option Say
 fault_of shape logs log text =
     if is_written log logs then text_fault shape text else Some (NotWriter log)
 
--- A text with a fault is refused for it; want of memory refuses only a text without.
+-- A text with a fault is refused for it; only a text without one is refused because memory ran out.
 abbrev pub IsRefusedFor : Option SayError → SayError → Type 0
 IsRefusedFor None e = e ≡ Memory
 IsRefusedFor (Some f) e = e ≡ f

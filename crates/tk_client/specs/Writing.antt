@@ -24,7 +24,7 @@ count_of log (f ∷ logs) = cond (f.log == log) f.count (count_of log logs)
 abbrev pub one_more_of : ℕ → Written → Written
 one_more_of log f = cond (f.log == log) (record f { count = f.count + 1 }) f
 
--- A text is said: it waits behind the others, and its number is how many texts its log was given
+-- A text is said: it waits after the others, and its number is how many texts its log was given
 -- before it.
 abbrev pub with_text : ℕ → List ℕ → Writing → Writing
 with_text log text w =

@@ -18,7 +18,7 @@ use tk_shape::{Bytes, Memory, Shape};
 use tk_words::Draws;
 
 /// What a client asks of every server in a read, server by server, and what is kept of its buckets.
-/// A read that is for nothing asks for buckets that are drawn, and otherwise as any other.
+/// A dummy read asks for buckets that are drawn, and otherwise as any other.
 pub(crate) fn read_frames<D: Draws>(
     alloc: Global,
     shape: &Shape,
@@ -74,7 +74,7 @@ fn buckets<D: Draws>(
     }
 }
 
-/// The vectors of all servers for a bucket, one behind the other: those that are drawn, and the one
+/// The vectors of all servers for a bucket, one after the other: those that are drawn, and the one
 /// that completes them.
 fn all_shares(alloc: Global, shape: &Shape, bucket: u32, drawn: &[u8]) -> Result<Vec<u8>, Memory>
     requires bucket_in { bucket < shape.now.buckets }

@@ -104,7 +104,7 @@ impl Client {
     }
 
     /// Says a text on a log that the client writes. It waits until its turn to be written comes. A
-    /// text beyond those that 32 bits can count is refused as for want of memory.
+    /// text beyond those that 32 bits can count is refused as if memory had run out.
     pub fn say(&mut self, alloc: Global, log: u32, text: &[u8]) -> Result<(), SayError>
         ensures may { OnOk result
             (fault_of self.old.shape self.old.writing.logs log text.now ≡ None) }

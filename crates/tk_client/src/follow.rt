@@ -124,7 +124,7 @@ impl Follow {
     }
 }
 
-/// What is known of so many absent numbers, and of the one behind them, which gave a text.
+/// What is known of so many absent numbers, and of the one after them, which gave a text.
 fn settled(alloc: Global, absent: u32, text: Bytes) -> Result<Vec<Got>, Memory>
     ensures { IfOk result (λ got. got.items ≡ replicate absent Absent ++ Text text ∷ []) }
 {

@@ -19,7 +19,7 @@ use tk_frames::ReadFrame;
 use tk_shape::{Memory, Shape};
 use tk_words::Draws;
 
-/// One who follows logs and looks into buckets that lie open, where a client would ask servers.
+/// One who follows logs and looks into buckets that it has at hand, where a client would ask servers.
 /// What it reads next, and what its logs have given, is as it is of a client that asks.
 #[derive(Debug, Drop)]
 pub struct Follower {

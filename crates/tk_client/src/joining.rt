@@ -27,7 +27,7 @@ pub(crate) fn joined(
     Ok((first, second))
 }
 
-/// Writes the sums, without carries, of what replies have for either bucket.
+/// Writes the XOR of what replies have for either bucket.
 fn add_up(replies: &[ReplyFrame], first: &mut [u8], second: &mut [u8])
     requires first_sized { AllSized (length first.old) (map (λ r. r.first) replies.now) }
     requires second_sized { AllSized (length second.old) (map (λ r. r.second) replies.now) }

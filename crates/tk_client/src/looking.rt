@@ -1,4 +1,4 @@
-//! What a read gives whose two buckets lie open.
+//! What a read gives whose two buckets are at hand.
 ghost use Rattle.std.specs.Prelude.{◌≡◌, ◌<◌, [], length, slice_index_or, IfSome, IfOk};
 ghost use Rattle.tk_shape.specs.Lengths.{turn_count, width};
 ghost use Rattle.tk_words.specs.Words.{words_of};

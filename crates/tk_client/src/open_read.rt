@@ -5,6 +5,6 @@ use crate::target::Target;
 pub struct OpenRead {
     pub turn: u32,
     pub epoch: u32,
-    /// What it is for; none where it is for nothing.
+    /// What it is for; none where it is a dummy.
     pub target: Option<Target>,
 }

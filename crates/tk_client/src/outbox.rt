@@ -62,8 +62,8 @@ impl Outbox {
         })
     }
 
-    /// Puts a text behind those that wait. Where that can't be, nothing changes. As many texts as
-    /// 32 bits can count may wait, and no more: that counts as want of memory.
+    /// Puts a text after those that wait. Where that can't be, nothing changes. As many texts as
+    /// 32 bits can count may wait, and no more: that counts as out of memory.
     pub(crate) fn say(&mut self, alloc: Global, log: u32, text: &[u8]) -> Result<(), SayError>
         ensures shape { self.new.shape ≡ self.old.shape }
         ensures may { let logs = self.old.writing.logs in

@@ -17,7 +17,7 @@ seat_at [] y k d lt = absurd (omega (arith, lt))
 seat_at (x ∷ xs) y zero d lt = refl
 seat_at (x ∷ xs) y (suc k) d lt = seat_at xs y k d (omega (arith, lt))
 
--- the publisher's seat stands behind those of the passes
+-- the publisher's seat stands after those of the passes
 pub seat_behind : (xs : List Passing) (y : Seated) →
     slice_get (map seat_of xs ++ y ∷ []) (length xs) ≡ Some y
 seat_behind [] y = refl

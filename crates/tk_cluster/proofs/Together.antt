@@ -77,7 +77,7 @@ unanswered shape number bytes r none spells other =
     (ne_eqb r.epoch number other)
 
 module _ {X Y : Type 0} (f : X → Option Y) where
-  -- behind some that give nothing comes the one that gives y
+  -- after some that give nothing comes the one that gives y
   first-at : (xs : List X) (i : ℕ) (x : X) (y : Y) → first_some f (take i xs) ≡ None →
       i < length xs → x ≡ slice_index_or xs i x → f x ≡ Some y → first_some f xs ≡ Some y
   first-at [] i x y none low at is = absurd (omega (arith, low))

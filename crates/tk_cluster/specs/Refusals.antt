@@ -77,7 +77,7 @@ answer_refusal shape number bytes =
 abbrev pub first_unanswered : Shape → ℕ → List (List ℕ) → Option AnswerError
 first_unanswered shape number frames = first_some (answer_refusal shape number) frames
 
--- want of memory, or the refusal that there is
+-- memory ran out, or the refusal that there is
 abbrev pub IsManyRefusal : Option AnswerError → AnswerError → Type 0
 IsManyRefusal refusal error = (error ≡ Memory) ⊎ (refusal ≡ Some error)
 

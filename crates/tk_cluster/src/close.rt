@@ -127,7 +127,7 @@ impl<B: Naming> Cluster<B> {
     }
 }
 
-/// All passes, taken apart, and the publisher's seat behind theirs.
+/// All passes, taken apart, and the publisher's seat after theirs.
 fn taken_apart<B: Naming>(
     alloc: Global,
     clients: u32,

@@ -21,7 +21,7 @@ replies-append shape m (x ∷ xs) ys =
     ap (λ (rs : List Reply). (world_step shape m x).reply ∷ rs) (replies-append shape
     (world_step shape m x).machine xs ys)
 
--- an event behind some others
+-- an event after some others
 pub after-push : (shape : Shape) (m next : Machine) (xs : List Event) (x : Event) (reply : Reply) →
     stays next reply ≡ world_step shape (machine_after shape m xs) x →
     machine_after shape m (xs ++ x ∷ []) ≡ next

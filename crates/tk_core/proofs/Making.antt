@@ -89,7 +89,7 @@ apply-several shape E shown front back x (suc k) low =
     ∙ apply-several shape E shown front back (x + 1) k (omega (arith, low))
     ∙ ap (λ n. with_applied E shown (front ++ n ∷ back)) next
 
--- the servers behind the first ones, each of which applies k entries
+-- the servers after the first ones, each of which applies k entries
 apply-each : (shape : Shape) (E : List Placed) (shown done k c a : ℕ) (front : List ℕ) →
     done + k ≤ length E →
     a ≡ length front + 1 →
@@ -226,7 +226,7 @@ number-push E p (Marks e) at number =
     one_if : Entry → ℕ
     one_if y = cond (is_mark y) 1 0
 
--- the entries behind the next one
+-- the entries after the next one
 pub later-entries : (shape : Shape) (E ps : List Placed) (p : Placed) →
     IsNext shape E p → IsOrderFrom shape (length E + 1 + 1) (number_after
     (mark_count E + 1) p.entry) ps →

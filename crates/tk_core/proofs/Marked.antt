@@ -11,7 +11,7 @@ use Rattle.tk_frames.specs.Order.{is_mark, is_mark_of, is_mark_numbered}
 use Rattle.tk_frames.specs.InOrder.{mark_count, HasNumber, number_after, IsOrderFrom, IsOrder}
 use Rattle.tk_frames.proofs.Offers.{marks-cons, due-next}
 
--- what is found stands behind those before the first
+-- what is found stands after those before the first
 found-low : (shape : Shape) (place due e : ℕ) (E : List Placed) (p : Placed) →
     IsOrderFrom shape place due E → find (is_mark_of e) E ≡ Some p → place ≤ p.position
 found-low shape place due e [] p order found = absurd cc

@@ -25,7 +25,7 @@ EventsMayCome =
     → length (records J) ≤ shape.clients * turn_count shape
     → MayAllCome shape (new_machine shape) (events shape J)
 
--- Behind the events of an order the machine has that order, each server has applied it up to its
+-- After the events of an order the machine has that order, each server has applied it up to its
 -- last mark, and that mark's epoch is shown.
 abbrev pub EventsMakeOrders : Type 0
 EventsMakeOrders =
@@ -36,7 +36,7 @@ EventsMakeOrders =
       shown = mark_count J;
     }
 
--- Behind the events of a front of an order each server reads, in the epoch of the front's last
+-- After the events of a front of an order each server reads, in the epoch of the front's last
 -- mark, the layout of what stands before that mark in the whole order.
 abbrev pub EpochsAreRead : Type 0
 EpochsAreRead =

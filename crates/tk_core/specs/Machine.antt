@@ -82,7 +82,7 @@ world_step shape m Show = show_next m (next_mark m)
 world_step shape m (Read server first second) =
     stays m (replies.Blocks m.shown (shown_bucket shape m first) (shown_bucket shape m second))
 
--- the replies to a list of events, and the machine behind it
+-- the replies to a list of events, and the machine after it
 unfoldable pub replies_of : Shape → Machine → List Event → List Reply
 replies_of shape m [] = []
 replies_of shape m (x ∷ xs) =

@@ -12,12 +12,12 @@ pub fn events_may_come()
     ensures { EventsMayCome }
 {}
 
-/// Behind the events of an order the machine has that order, and its last mark is shown.
+/// After the events of an order the machine has that order, and its last mark is shown.
 pub fn events_make_orders()
     ensures { EventsMakeOrders }
 {}
 
-/// Behind the events of a front of an order each server reads what stands before the front's last
+/// After the events of a front of an order each server reads what stands before the front's last
 /// mark.
 pub fn epochs_are_read()
     ensures { EpochsAreRead }

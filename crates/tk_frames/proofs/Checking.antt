@@ -9,7 +9,7 @@ use Rattle.tk_frames.specs.declared.fault.Name.TheVariants as name
 use Rattle.tk_frames.specs.Fields.{number_at, numbers}
 use Rattle.tk_frames.specs.Faults.{Check, first_fault, hit_check}
 
--- behind a check that is passed, and behind one that isn't
+-- after a check that is passed, and after one that isn't
 pub passes : (b : Bool) (x : Option FrameError) (f : FrameError) → None ≡ cond b None (Some f) → cond b x (Some f) ≡ x
 passes true x f e = refl
 passes false x f e = absurd cc
@@ -18,7 +18,7 @@ pub fails : (b : Bool) (x : Option FrameError) (f d : FrameError) → Some d ≡
 fails true x f d e = absurd cc
 fails false x f d e = sym e
 
--- behind checks that are passed
+-- after checks that are passed
 pub first_fault-after : (a b : List Check) → None ≡ first_fault a → first_fault (a ++ b) ≡ first_fault b
 first_fault-after [] b e = refl
 first_fault-after (c ∷ cs) b e =

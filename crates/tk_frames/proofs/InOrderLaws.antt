@@ -69,7 +69,7 @@ pub order-take : (shape : Shape) (n : ℕ) (E : List Placed) →
     IsOrder shape E → IsOrder shape (take n E)
 order-take shape n E order = from-take shape 1 1 n E order
 
--- ---- what counts on behind
+-- ---- what counts on after
 
 from-append : (shape : Shape) (place due : ℕ) (E F : List Placed) →
     IsOrderFrom shape place due E →
@@ -133,7 +133,7 @@ from-entry shape place due (p ∷ E) (suc i) d order low =
     (slice_index_or E i d) (omega arith) (due-next due p (take i E))
     (from-entry shape (place + 1) (number_after due p.entry) E i d order.1 (omega (arith, low)))
 
--- entry i is next behind the first i
+-- entry i is next after the first i
 pub order-entry : (shape : Shape) (E : List Placed) (i : ℕ) (d : Placed) →
     IsOrder shape E → i < length E →
     IsNextAt shape (i + 1) (mark_count (take i E) + 1) (slice_index_or E i d)

@@ -31,7 +31,7 @@ pub marks-mark : (E : List Placed) (p : Placed) (e : ℕ) → p.entry ≡ Mark e
 marks-mark E p e at =
     omega (arith, marks-push E p, ap {B = ℕ} (λ (x : Entry). cond (is_mark x) 1 0) at)
 
--- the number due behind an entry, and as many more
+-- the number due after an entry, and as many more
 pub number-next : (due n : ℕ) (x : Entry) →
     number_after due x + n ≡ due + (cond (is_mark x) 1 0 + n)
 number-next due n (Write w) = omega arith

@@ -10,7 +10,7 @@ up_to_mark-append e (p ∷ E) F h =
     elim (is_mark_of e p) as (λ b. (b || has_mark e E) ≡ true → cond b [] (p ∷ up_to_mark e (E ++ F)) ≡ cond b [] (p ∷ up_to_mark e E))
     [ true ↦ λ _. refl | false ↦ λ rest. ap (λ ps. p ∷ ps) (up_to_mark-append e E F rest) ] h
 
--- up to the first mark behind entries without one
+-- up to the first mark after entries without one
 up_to_mark-at : (e : ℕ) (E F : List Placed) (m : Placed) → has_mark e E ≡ false → is_mark_of e m ≡ true → up_to_mark e (E ++ m ∷ F) ≡ E
 up_to_mark-at e [] F m none at = ap (λ b. cond b [] (m ∷ up_to_mark e F)) at
 up_to_mark-at e (p ∷ E) F m none at =

@@ -6,12 +6,12 @@ pub use Rattle.tk_frames.proofs.Frames.{read-again, reply-again}
 pub use Rattle.tk_frames.proofs.Bounds.{turn_count_small}
 -- What stands before a mark.
 pub use Rattle.tk_frames.proofs.Marks.{before-none, before-settled, before-marked, before-unmarked}
--- The writes of entries, with one more or with others behind them.
+-- The writes of entries, with one more or with others after them.
 pub use Rattle.tk_frames.proofs.Records.{record_of, records-append, records-write, records-mark}
 -- How many marks stand among entries, and how many writes.
 pub use Rattle.tk_frames.proofs.MarkCounts.{marks-cons, marks-append, marks-push, marks-write, marks-mark}
 pub use Rattle.tk_frames.proofs.MarkCounts.{length-writes_and_marks, due-next}
--- Entries in order: none, one more, a front, others behind, each one, and each write.
+-- Entries in order: none, one more, a front, others after, each one, and each write.
 pub use Rattle.tk_frames.proofs.InOrderLaws.{order-none, order-push, order-front, order-take}
 pub use Rattle.tk_frames.proofs.InOrderLaws.{order-append, order-rest, order-entry, order-records}
 pub use Rattle.tk_frames.proofs.InOrderLaws.{from-push, from-front, from-entry}

@@ -101,11 +101,11 @@ placed_checks shape bytes =
 
 -- ---- what a decoder answers
 
--- Bytes with a fault are refused for their first one; want of memory refuses only bytes without.
+-- Bytes with a fault are refused for their first one; only bytes without one are refused because memory ran out.
 abbrev pub IsRefusal : Option FrameError → FrameError → Type 0
 IsRefusal None e = e ≡ fault.Memory
 IsRefusal (Some f) e = e ≡ f
 
--- the value, or want of memory
+-- the value, or that memory ran out
 abbrev pub GivesUnlessMemory : {V : Type 0} → Result V FrameError → V → Type 0
 GivesUnlessMemory result v = MatchResult result (λ x. x ≡ v) (λ e. e ≡ fault.Memory)

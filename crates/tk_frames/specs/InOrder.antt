@@ -21,7 +21,7 @@ abbrev pub HasNumber : ℕ → Entry → Type 0
 HasNumber due (Write w) = Unit {0}
 HasNumber due (Mark e) = e ≡ due
 
--- the number that is due for a mark behind an entry
+-- the number that is due for a mark after an entry
 abbrev pub number_after : ℕ → Entry → ℕ
 number_after due (Write w) = due
 number_after due (Mark e) = due + 1
@@ -43,6 +43,6 @@ IsOrderFrom shape place due (p ∷ ps) =
 abbrev pub IsOrder : Shape → List Placed → Type 0
 IsOrder shape E = IsOrderFrom shape 1 1 E
 
--- an entry that may stand next behind these
+-- an entry that may stand next after these
 abbrev pub IsNext : Shape → List Placed → Placed → Type 0
 IsNext shape E p = IsNextAt shape (length E + 1) (mark_count E + 1) p

@@ -41,7 +41,7 @@ fill_via_u32-is key stream place n low short =
     let all = word_bytes_are key stream place ((n + 3) / 4) (omega arith) in
     ap (λ (b : List ℕ × ChaCha). take n b.0) all ∙ ap (λ k. take n (flat_map (bytes_at key stream) (range_with_len place k))) count
 
--- and the generator is behind them
+-- and the generator is after them
 fill_via_u32-moves : (key : List ℕ) (stream place n : ℕ) → place < 2 ^ 33 → n ≤ 65536 →
     (fill_via_u32 (next_word 10) n (generator_at key stream place)).1 ≡ generator_at key stream (place + div_ceil n 4)
 fill_via_u32-moves key stream place n low short =

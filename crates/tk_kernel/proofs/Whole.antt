@@ -149,7 +149,7 @@ module _ (size first : ℕ) (blocks : List ℕ) (vectors start : List (Vec ℕ G
       IsBegun size first blocks vectors start (done + 8) new
   passed_64 done sums new h before count each = passed done 8 sums new h before count each
 
-  -- the bytes of so many blocks, eight by eight, behind the first
+  -- the bytes of so many blocks, eight by eight, after the first
   pub behind : (done now : ℕ) → done + now ≡ length blocks / size / 8 →
       length (drop (8 * done * size) blocks) ≡ 8 * now * size
   behind done now e =

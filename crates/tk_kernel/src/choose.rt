@@ -10,7 +10,7 @@ use crate::stripes::add_listed;
 /// The most blocks that are added in one pass over the sum.
 const PASS: usize = 64;
 
-/// Adds to `dst` the blocks that the vector chooses, without carries. The blocks lie one behind the other, each as
+/// XORs into `dst` the blocks that the vector chooses. The blocks lie one after the other, each as
 /// long as `dst`, and bit `from` of the vector stands for the first of them. Bits are counted through the bytes in
 /// order, the least bit of each first.
 pub fn xor_choose(dst: &mut [u8], blocks: &[u8], vector: &[u8], from: u32)

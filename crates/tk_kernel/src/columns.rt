@@ -13,7 +13,7 @@ use crate::nibbles::{add_entries, fill_table};
 use crate::words::{MOST, words_of};
 use std::simd::prelude::*;
 
-/// Blocks of `size` bytes one behind the other, of which the first 64 are added, and the vectors, whose eight
+/// Blocks of `size` bytes one after the other, of which the first 64 are added, and the vectors, whose eight
 /// bytes from number `first` on choose of these.
 #[derive(Clone, Copy)]
 pub(crate) struct Pass<'a> {

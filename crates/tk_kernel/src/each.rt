@@ -14,7 +14,7 @@ use std::simd::prelude::*;
 /// From so many vectors on it pays to make the sums of all choices of four blocks.
 const MANY: usize = 24;
 
-/// Adds to each sum, without carries, the blocks that its vector chooses. The blocks lie one behind the other, each of
+/// XORs into each sum the blocks that its vector chooses. The blocks lie one after the other, each of
 /// `size` bytes as the sums are, and eight of them stand under each byte of a vector, from number `first` on.
 pub fn xor_choose_each(
     sums: &mut [Vec<u8>],

@@ -1,4 +1,4 @@
-//! Sums of bytes without carries, over whole slices: one slice added to another, and of many blocks those that a bit
+//! XOR over whole slices of bytes: one slice XORed into another, and of many blocks those that a bit
 //! vector chooses, or each of many vectors.
 #![tactic(auto)]
 

@@ -91,7 +91,7 @@ pub(crate) fn add_entries<const N: usize>(
     sum.copy_to_slice(&mut dst[i..]);
 }
 
-// Adds the entry that the lowest four bits name, and goes on to the bits behind them.
+// Adds the entry that the lowest four bits name, and goes on to the bits after them.
 #[inline(always)]
 fn add_entry<const N: usize>(sum: &mut Simd<u8, N>, table: &[Simd<u8, N>; 16], left: &mut u64)
     ensures sum { sum.new ≡ xor_bytes sum.old (slice_index_or table.now (left.old % 16) []) }

@@ -18,7 +18,7 @@ range_more a n j is =
     ∙ map-range_with_len_more {X = ℕ} (λ k. k) a n j is
     ∙ ap (λ (ks : List ℕ). ks ++ j ∷ []) (map-id (range_with_len a n))
 
--- what one more number gives stands behind what the ones before it gave
+-- what one more number gives stands after what the ones before it gave
 pub flat_map_range_more : {A : Type 0} (f : ℕ → List A) (a n j : ℕ) → a + n ≡ j →
     flat_map f (range_with_len a (n + 1)) ≡ flat_map f (range_with_len a n) ++ f j
 flat_map_range_more {A} f a n j is =
@@ -26,7 +26,7 @@ flat_map_range_more {A} f a n j is =
     ∙ flat_map-append f (range_with_len a n) (j ∷ [])
     ∙ ap (λ (xs : List A). flat_map f (range_with_len a n) ++ xs) (append-nil (f j))
 
--- and behind what was there before
+-- and after what was there before
 pub behind_range : {A : Type 0} (f : ℕ → List A) (a j : ℕ) (old : List A)
     {before new : List A} → a ≤ j →
     before ≡ old ++ flat_map f (range_with_len a (j - a)) → new ≡ before ++ f j →

@@ -18,7 +18,7 @@ made_numbers = 3 ∷ 256 ∷ 4 ∷ 512 ∷ 256 ∷ 4096 ∷ 3 ∷ 4 ∷ 12 ∷ 8
 
 -- ---- keys
 
--- the number behind 24 zeros, high byte first
+-- the number after 24 zeros, high byte first
 abbrev pub root_of : ℕ → List ℕ
 root_of n = replicate 24 0 ++ to_be_bytes w64 n
 
@@ -28,7 +28,7 @@ made_handle root log = handle_from log root
 abbrev pub made_handles : List ℕ → List Handle
 made_handles root = map (made_handle root) (range_with_len 0 4)
 
--- the seed of a client: the front of a stream behind those of the handles
+-- the seed of a client: the front of a stream after those of the handles
 abbrev pub made_seed : List ℕ → ℕ → List ℕ
 made_seed root client = key_bytes root (4294967296 + client) 0 32
 

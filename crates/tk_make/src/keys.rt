@@ -16,7 +16,7 @@ pub(crate) fn make_keys(alloc: Global, number: u64) -> Result<Keys, Memory>
     Ok(Keys { handles, seeds })
 }
 
-/// The number behind zeros, high byte first.
+/// The number after zeros, high byte first.
 fn root_of(number: u64) -> [u8; 32]
     ensures { result ≡ root_of number }
 {
@@ -47,7 +47,7 @@ fn make_seeds(alloc: Global, root: &[u8; 32]) -> Result<ClientSeeds, Memory>
     Ok(ClientSeeds::from_vec(seeds))
 }
 
-/// The seed of a client: the front of a stream of its own, behind those of the handles.
+/// The seed of a client: the front of a stream of its own, after those of the handles.
 fn seed_of(root: &[u8; 32], client: u32) -> [u8; 32]
     ensures { result ≡ made_seed root.now client }
 {

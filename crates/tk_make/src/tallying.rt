@@ -8,7 +8,7 @@ use tk_report::Outcome;
 use tk_script::push_numbers_line;
 use tk_shape::Memory;
 
-/// Appends the counts of what a run left, a line for each. Where memory is wanting nothing is
+/// Appends the counts of what a run left, a line for each. If memory runs out, nothing is
 /// appended.
 pub fn tally(outcome: &Outcome, out: &mut Vec<u8>) -> Result<(), Memory>
     ensures ok { OnOk result (out.new.items ≡ out.old.items ++ tally_left outcome.now) }

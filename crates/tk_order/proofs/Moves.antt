@@ -125,7 +125,7 @@ owned_else (c ∷ cs) log e not h = (of_else c.0 log c.1 e (λ is. not (inl (sym
 prefix_more : (xs ys : List Placed) (e : Placed) → IsPrefix xs ys → IsPrefix xs (ys ++ e ∷ [])
 prefix_more xs ys e p = prefix_trans xs ys (ys ++ e ∷ []) p (e ∷ [], refl)
 
--- what the rule says of another seat's view stays when a seat puts its entry behind the list
+-- what the rule says of another seat's view stays when a seat puts its entry after the list
 fits_else : (log : List Placed) (drawn : ℕ) (owner : ℕ → ℕ) (j id : ℕ) (v : View) (e : Placed) → owner (seat_of e) ≡ id → j ≢ id → Fits log drawn owner j v → Fits (log ++ e ∷ []) drawn owner j v
 fits_else log drawn owner j id v e own apart h =
     record {

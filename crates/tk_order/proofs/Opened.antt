@@ -7,7 +7,7 @@ use Rattle.tk_order.specs.Seats.{Seated, seated, opened}
 none_last : {A : Type 0} (ys : List A) (x y : A) → ¬ ([] ≡ ys ++ y ∷ [])
 none_last ys x y is = omega (arith, ap length is, length-append ys (y ∷ []))
 
--- lists that are the same with an element behind each are the same, and so are the elements
+-- lists that are the same with an element after each are the same, and so are the elements
 pub same_last : {A : Type 0} (xs ys : List A) (x y : A) → xs ++ x ∷ [] ≡ ys ++ y ∷ [] →
     (xs ≡ ys) × (x ≡ y)
 same_last [] [] x y is = (refl, cc is)

@@ -32,12 +32,12 @@ abbrev pub IsDue : Shape → List Placed → Entry → Type 0
 IsDue shape own (Write w) = length own < turn_count shape
 IsDue shape own (Mark e) = e ≡ length own + 1
 
--- an entry that a seat may order behind those that it ordered
+-- an entry that a seat may order after those that it ordered
 pub record MayFollow (shape : Shape) (own : List Placed) (e : Entry) : Type 0 where
   pub in_range : IsEntry shape e
   pub due : IsDue shape own e
 
--- a list with an entry behind it
+-- a list with an entry after it
 abbrev pub placed : List Placed → Entry → Placed
 placed E e = record { position = length E + 1; entry = e }
 

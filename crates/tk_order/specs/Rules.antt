@@ -89,7 +89,7 @@ abbrev pub added : Placed → List Claim → List Claim
 added p [] = []
 added p (c ∷ cs) = (c.0, c.1 ++ p ∷ []) ∷ added p cs
 
--- the entry was put behind the whole list
+-- the entry was put after the whole list
 pub record AppendsTo (shape : Shape) (v : View) (p : Placed) (found : ℕ) (w : View) : Type 0 where
   pub log : List Placed
   pub count : length log ≡ found

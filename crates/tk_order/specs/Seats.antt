@@ -48,7 +48,7 @@ pub record SeesMore (a b : Seated) : Type 0 where
   pub seen : IsPrefix a.seen b.seen
   pub own : own b ≡ own a
 
--- the same seat, which ordered the entry behind `stored`
+-- the same seat, which ordered the entry after `stored`
 pub record Puts (a : Seated) (stored : List Placed) (e : Entry) (b : Seated) : Type 0 where
   pub number : b.number ≡ a.number
   pub seen : IsPrefix a.seen stored

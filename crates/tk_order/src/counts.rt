@@ -79,7 +79,7 @@ impl<B: Naming> Counts<B> {
             .compare_exchange::<Number>(place, 1, due, due + 1)
     }
 
-    /// Puts an entry behind the list, if the list is this long. The answer is its length before.
+    /// Puts an entry after the list, if the list is this long. The answer is its length before.
     pub fn append(&self, place: &mut Place, old: u64, entry: &Placed) -> u64
         requires own { place.old.table_id ≡ B.table }
         requires may { MayAppend B.shape place.old.me.0 entry.now }

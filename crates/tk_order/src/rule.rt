@@ -67,7 +67,7 @@ impl Play<Placed, View> for Meet {
     ghost then = { Met };
 }
 
-/// A seat puts an entry behind the list.
+/// A seat puts an entry after the list.
 pub struct Append<B> {
     of: PhantomData<B>,
 }

@@ -159,7 +159,7 @@ impl<B: Naming> OrderSeat<B> {
         place
     }
 
-    /// Puts an entry behind the list that was noted. It fails where the whole list is longer.
+    /// Puts an entry after the list that was noted. It fails where the whole list is longer.
     pub(crate) fn append(
         &mut self,
         counts: &Counts<B>,

@@ -52,7 +52,7 @@ impl<B: Naming> Stored<B> {
         }
     }
 
-    /// Puts an entry behind the list and answers its position, or None where the list has grown
+    /// Puts an entry after the list and answers its position, or None where the list has grown
     /// elsewhere.
     pub(crate) fn append(
         &mut self,

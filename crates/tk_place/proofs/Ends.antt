@@ -48,7 +48,7 @@ pub goes_on : (T : Others) (n : ℕ) (before : List Reached) (p : Reached) (plac
 unfolding end_from
 goes_on T n before p places h = rw h refl
 
--- a level is looked at in a row, and what it names comes behind what was there
+-- a level is looked at in a row, and what it names comes after what was there
 level_taken : (T : Others) (n m : ℕ) (before level behind : List Reached) → n ≡ length level + m →
     end_from T n before (level ++ behind) ≡
     option_or (find (has_room T) level) (end_from T m (before ++ not_before before (names T level)) (behind ++ not_before before (names T level)))
@@ -151,7 +151,7 @@ search_end_is T depth new table a b =
 
 -- ---- with the queue as a list
 
--- so many places of the queue were looked at, and have no room; the search goes on behind them
+-- so many places of the queue were looked at, and have no room; the search goes on after them
 pub record IsSearching (T : Others) (new : ℕ × ℕ) (places : List Reached) (k : ℕ) : Type 0 where
   pub within : k ≤ length places
   pub distinct : AreDistinct (length T) places

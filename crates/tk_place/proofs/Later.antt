@@ -132,7 +132,7 @@ each_of P [] k d each low = absurd (omega (arith, low))
 each_of P (p ∷ ps) zero d each low = each.0
 each_of P (p ∷ ps) (suc k) d each low = each_of P ps k d each.1 (omega (arith, low))
 
--- what is queued behind is such a one where all that the entries name is
+-- what is queued after is such a one where all that the entries name is
 pub each_behind : (P : Reached → Type 0) (T : Others) (places later : List Reached) (from : Reached) →
     later ≡ places ++ not_before places (named_by T from) → AllOf P (named_by T from) →
     EachAt P later (length places) (length later)
@@ -146,7 +146,7 @@ each_behind P T places later from made all k low high =
     (each_of P next (k - length places) nowhere (new_of P places (named_by T from) all)
     (omega (arith, low, high, long)))
 
--- what comes behind is full where the entries lead to full buckets
+-- what comes after is full where the entries lead to full buckets
 pub full_behind : (T : Others) (places later : List Reached) (from : Reached) →
     later ≡ places ++ not_before places (named_by T from) →
     leads_to_full T from.bucket ≡ true → AreFull T later (length places) (length later)

@@ -1,4 +1,4 @@
--- A search ends behind the first place whose bucket leads to one that isn't full, before that place is gone through.
+-- A search ends after the first place whose bucket leads to one that isn't full, before that place is gone through.
 use Rattle.std.proofs.Common.{◌≡◌, ℕ, zero, suc, ◌+◌, ◌-◌, ◌<◌, ◌≤◌, ◌==◌, ◌||◌, List, [], ◌∷◌, ◌++◌, length}
 use Rattle.std.proofs.Common.{get_or, true, false, true≢false, cond, is_some, is_none, refl, ap, ap₂, sym, subst, ◌∙◌, arith}
 use Rattle.std.proofs.Common.{append_assoc, append-nil, eqb-true, map, ◌&&◌, All, inl, inr}
@@ -29,7 +29,7 @@ named_led T from i (Some b ∷ slots) all =
     let parts = and_parts (leads_to_full T b) (list_all (does_other_lead_to_full T) slots) all in
     (parts.0, named_led T from (i + 1) slots parts.1)
 
--- what comes behind leads to full buckets alone where the others of the entries do
+-- what comes after leads to full buckets alone where the others of the entries do
 pub led_behind : (T : Others) (places later : List Reached) (from : Reached) →
     later ≡ places ++ not_before places (named_by T from) →
     others_lead_to_full T from.bucket ≡ true → LeadToFull T later (length places) (length later)
@@ -191,7 +191,7 @@ ends_at T depth new places q free found table searching full low first =
     index_of P (p ∷ places) all zero low high = all.0
     index_of P (p ∷ places) all (suc k) low high = index_of P places all.1 k (omega arith) (omega (arith, high))
 
--- A search ends behind the first place that leads to a bucket that isn't full.
+-- A search ends after the first place that leads to a bucket that isn't full.
 pub ends_behind : (T : Others) (depth : ℕ) (new : ℕ × ℕ) (old later : List Reached) (k q : ℕ) (end : End) → IsTable depth T →
     IsSearching T new old k → AreFull T old 0 (length old) → k ≤ q → q < length old → LeadToFull T old 0 q →
     IsBehind T (place_at old q) old later end → IsEnd T new later end
@@ -294,7 +294,7 @@ found_behind T old new place slot free last row full e low before room queued at
       last = at;
     }
 
--- the end, if one was found behind the first place that leads to one
+-- the end, if one was found after the first place that leads to one
 pub ended_behind : (T : Others) (depth : ℕ) (new : ℕ × ℕ) (old later : List Reached) (k start q : ℕ) (result : Option End) →
     IsTable depth T → IsSearching T new old k → AreFull T old 0 (length old) → k ≤ start → LeadToFull T old 0 start →
     IsLeading T old start q → MatchOption result (leads_to_full T (place_at old q).bucket ≡ true) (IsBehind T (place_at old q) old later) →

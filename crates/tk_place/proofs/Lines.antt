@@ -84,7 +84,7 @@ module _ (rooms : List Queued) (len : ℕ) (seen : List Bool) (n : ℕ) (line : 
       let below = below_of_distinct n places k line.distinct (omega (arith, length-places)) in
       omega (arith, ap (λ (p : Reached). p.bucket) read)
 
-  -- what is written behind the last place changes nothing
+  -- what is written after the last place changes nothing
   pub line_beyond : (q : Queued) → IsLine (set rooms len q) len seen n
   line_beyond q =
       let same : take len rooms ≡ take len (set rooms len q) = sym (take-set rooms len q) in

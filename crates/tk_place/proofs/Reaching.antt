@@ -90,7 +90,7 @@ pub AllOf-append : (P : Reached → Type 0) (xs ys : List Reached) → AllOf P x
 AllOf-append P [] ys h k = k
 AllOf-append P (x ∷ xs) ys h k = (h.0, AllOf-append P xs ys h.1 k)
 
--- What holds of the places so far, and goes on to hold with each new one behind them, holds with all new ones behind them.
+-- What holds of the places so far, and goes on to hold with each new one after them, holds with all new ones.
 pub kept_by : (Kept : List Reached → Type 0) (IsNew : Reached → Type 0) →
     ((ps : List Reached) (p : Reached) → Kept ps → IsNew p → has_bucket ps p.bucket ≡ false → Kept (ps ++ p ∷ [])) →
     (before ps : List Reached) → Kept before → AllOf IsNew ps → Kept (before ++ not_before before ps)

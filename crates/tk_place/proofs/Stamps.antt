@@ -41,7 +41,7 @@ marks-set stamp stamps bucket =
 abbrev pub places_with : List Reached → Queued → List Reached
 places_with places q = places ++ not_before places (reached_by places q.bucket q.link ∷ [])
 
--- A bucket was met and written behind the last place, and so many are queued now.
+-- A bucket was met and written after the last place, and so many are queued now.
 pub record IsMet (rooms : List Queued) (len : ℕ) (stamps : List ℕ) (stamp n : ℕ) (q : Queued) (taken : ℕ)
     : Type 0 where
   pub stamped : IsStamped (set rooms len q) taken (set stamps q.bucket stamp) stamp n

@@ -44,7 +44,7 @@ pub record IsFirstNamed (T : Others) (from found : Reached) (free : ℕ) : Type 
   pub before : (i : ℕ) → i < slot → is_other_full T (slot_at T from.bucket i) ≡ true
   pub empty : lowest_empty T found.bucket ≡ Some free
 
--- that bucket is queued behind all others, and the search ends there
+-- that bucket is queued after all others, and the search ends there
 pub record IsBehind (T : Others) (from : Reached) (old new : List Reached) (end : End) : Type 0 where
   pub found : Reached
   pub first : IsFirstNamed T from found end.slot

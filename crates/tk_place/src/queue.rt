@@ -23,7 +23,7 @@ pub struct Queued {
 
 /// The buckets in the order in which they were reached, each once. A bucket has the stamp of the
 /// last search that reached it, so that the next one has nothing to clear. There is room for one
-/// more than there are buckets, since each that is met is written behind the last, be it new or not.
+/// more than there are buckets, since each that is met is written after the last, be it new or not.
 #[derive(Drop)]
 pub struct Queue {
     places: Vec<Queued>,
@@ -44,7 +44,7 @@ impl Model for Queue {
     ghost invariant = { IsQueue };
 }
 
-/// Writes a bucket behind those that are queued, and queues it if it is new. It asks that by no branch, since none
+/// Writes a bucket after those that are queued, and queues it if it is new. It asks that by no branch, since none
 /// could be foretold.
 fn take_place(places: &mut [Queued], stamps: &mut [u32], len: u32, stamp: u32, place: Queued) -> u32
     requires stamped { IsStamped places.old len stamps.old stamp (length stamps.old) }

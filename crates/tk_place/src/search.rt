@@ -108,7 +108,7 @@ fn first_with_room<V: Slots>(slots: &V, queue: &Queue) -> Option<End>
     None
 }
 
-/// The first place from one on whose full bucket leads to one that isn't full. The search ends behind
+/// The first place from one on whose full bucket leads to one that isn't full. The search ends after
 /// it, long before its turn comes to have its entries gone through.
 fn first_leading<V: Slots>(slots: &V, queue: &Queue, from: u32) -> Option<u32>
     requires size { queue.now.buckets ≡ length (V.others slots.now) }

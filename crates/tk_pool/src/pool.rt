@@ -43,7 +43,7 @@ impl PagePool {
         }
     }
 
-    /// Makes at least `n` pages spare. Where memory is wanting, nothing changes.
+    /// Makes at least `n` pages spare. If memory runs out, nothing changes.
     pub fn reserve(&mut self, alloc: Global, n: u32) -> Result<(), Memory>
         ensures len { self.new.page_len ≡ self.old.page_len }
         ensures spare { IfOk result (λ _. self.new.spare ≡ max self.old.spare n) }
@@ -84,7 +84,7 @@ impl PagePool {
     }
 }
 
-/// Makes pages until there are `n`. Where memory is wanting, nothing changes.
+/// Makes pages until there are `n`. If memory runs out, nothing changes.
 fn make_spare(alloc: Global, pages: &mut Vec<Page>, page_len: u32, n: u32) -> Result<(), Memory>
     requires { IsPool page_len (vec_capacity pages.old) pages.old.items }
     ensures pool { IsPool page_len (vec_capacity pages.new) pages.new.items }

@@ -24,7 +24,7 @@ numbers-more n =
     ∙ map-range_with_len_more {X = ℕ} (λ k. k) 0 n n (zero-add n)
     ∙ ap (λ numbers. numbers ++ n ∷ []) (map-id (range_with_len 0 n))
 
--- one cell more, behind what was there and those before it
+-- one cell more, after what was there and those before it
 pub next_cell : (f : ℕ → List ℕ) (n : ℕ) (old before new : List ℕ) → before ≡ old ++ cells n f →
     new ≡ before ++ f n → new ≡ old ++ cells (n + 1) f
 next_cell f n old before new before_is new_is =
@@ -51,7 +51,7 @@ pub keyed-none : (way : Way) (shape : Shape) (u : List ℕ) (c log s : ℕ) →
 keyed-none Show shape u c log s = refl
 keyed-none Regain shape u c log s = refl
 
--- the words, the masked pad and the tag, one behind the other
+-- the words, the masked pad and the tag, one after the other
 pub masked_parts : (shape : Shape)
     (text cell old words block pad tag masked one two three : List ℕ) →
     words ≡ take (8 + 4 * shape.hits) cell → block ≡ drop (8 + 4 * shape.hits) cell →
@@ -73,7 +73,7 @@ masked_parts shape text cell old words block pad tag masked one two three words_
     (ap₂ (λ (front back : List ℕ). front ++ back)
     (masked_is ∙ ap (λ (p : List ℕ). xor_bytes p (plain (length p) text)) pad_cell) tag_cell)
 
--- three parts, one behind the other
+-- three parts, one after the other
 pub three_parts : (none one two three a b c : List ℕ) → none ≡ [] → one ≡ none ++ a →
     two ≡ one ++ b → three ≡ two ++ c → three ≡ a ++ (b ++ c)
 three_parts none one two three a b c none_is one_is two_is three_is =

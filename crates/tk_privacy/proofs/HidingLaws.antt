@@ -16,11 +16,11 @@ take_none : (xs : List ℕ) → take 0 xs ≡ []
 take_none [] = refl
 take_none (x ∷ xs) = refl
 
--- what stands before the piece, the other one, and what stands behind it
+-- what stands before the piece, the other one, and what stands after it
 abbrev pub replaced : ℕ → ℕ → List ℕ → List ℕ → List ℕ
 replaced at size other bytes = take at bytes ++ (other ++ drop (at + size) bytes)
 
--- the same behind a whole piece
+-- the same after a whole piece
 replaced-behind : (size at : ℕ) (other front back : List ℕ) → length front ≡ size →
     replaced (size + at) size other (front ++ back) ≡ front ++ replaced at size other back
 replaced-behind size at other front back whole =

@@ -147,7 +147,7 @@ module _ (shape : Shape) (text cell : List ℕ) (whole : length cell ≡ cell_le
 
 -- ---- a write made of a masked cell
 
--- a word in the front of a list doesn't depend on what stands behind the front
+-- a word in the front of a list doesn't depend on what stands after the front
 pub word_in_front : (i n : ℕ) (xs rest : List ℕ) → i + 4 ≤ n → n ≤ length xs →
     word_at_byte i (take n xs ++ rest) ≡ word_at_byte i xs
 unfolding word_at_byte

@@ -183,7 +183,7 @@ changed shape h pair vs =
       second = with_hidden shape h pair.1 vs.second;
     }
 
--- the bytes of a read cell behind its words
+-- the bytes of a read cell after its words
 abbrev vectors_in : Shape → List ℕ → DrawnVectors
 vectors_in shape cell = vectors_of shape (drop 8 cell)
 

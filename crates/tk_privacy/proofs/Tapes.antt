@@ -32,7 +32,7 @@ pub length-cells : (size : ℕ) (cell : ℕ → List ℕ) (n : ℕ) → HasCells
     length (cells n cell) ≡ n * size
 length-cells size cell n h = length-cells_from size cell 0 n (λ k l. h k (omega arith))
 
--- what stands behind the first i cells begins with cell i
+-- what stands after the first i cells begins with cell i
 abbrev Follows : (ℕ → List ℕ) → ℕ → List ℕ → Type 0
 Follows cell k xs = (more : List ℕ) × (xs ≡ cell k ++ more)
 
@@ -93,7 +93,7 @@ piece-rows size cell n m g c rest h lg lc =
     ∙ ap (λ k. take k (cell g c ++ one.0)) (sym (h g lg c lc))
     ∙ take-append_seam (cell g c) one.0
 
--- the same where nothing stands behind the cells
+-- the same where nothing stands after the cells
 pub piece-rows_alone : (size : ℕ) (cell : ℕ → ℕ → List ℕ) (n m g c : ℕ) →
     ((g : ℕ) → g < n → HasCells size m (cell g)) → g < n → c < m →
     piece size (g * m + c) (cells n (λ g. cells m (cell g))) ≡ cell g c

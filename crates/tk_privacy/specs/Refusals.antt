@@ -20,7 +20,7 @@ shapes_refusal None behind = behind
 abbrev pub mirror_refusal : Shape → Shape → ℕ → Option MirrorError
 mirror_refusal a b h = shapes_refusal (first_difference a b) (hidden_refusal a h)
 
--- a refusal is this one; where there is none, want of memory
+-- a refusal is this one; where there is none, that memory ran out
 abbrev pub IsMirrorRefusal : Option MirrorError → MirrorError → Type 0
 IsMirrorRefusal None error = error ≡ Memory
 IsMirrorRefusal (Some refusal) error = error ≡ refusal

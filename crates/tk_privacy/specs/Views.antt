@@ -21,7 +21,7 @@ use Rattle.tk_privacy.specs.Hiding.{read_in}
 abbrev pub frame_in : Shape → List ReadFrame → ℕ → ℕ → List (List ℕ)
 frame_in shape reads g c = read_frame (read_in shape reads g c) ∷ []
 
--- behind these entries, which are in order, as many were counted
+-- after these entries, which are in order, as many were counted
 pub record HasEntered (shape : Shape) (E : List Placed) (seen : Seen) : Type 0 where
   pub order : IsOrder shape E
   pub count : seen.entries ≡ length E

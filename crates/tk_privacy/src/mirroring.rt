@@ -19,7 +19,7 @@ use tk_words::{DrawnDraws, Tape};
 
 /// The tape over which one script shows every server but the hidden one what another of the same
 /// shape shows over a tape. The tape is lost with a refusal: shapes that differ come first, then
-/// the hidden server, then want of memory.
+/// the hidden server, then that memory ran out.
 pub fn mirror(
     alloc: Global,
     a: &Script,

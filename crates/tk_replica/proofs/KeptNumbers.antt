@@ -55,7 +55,7 @@ step-release floor last e low high =
     in
     ap (λ (ks : List ℕ). record { last = last; floor = e; kept = ks }) kept
 
--- the number that is due behind an entry
+-- the number that is due after an entry
 due-step : (last : ℕ) (x : Entry) → number_after (last + 1) x ≡ last + cond (is_mark x) 1 0 + 1
 due-step last (Write w) = omega arith
 due-step last (Mark e) = omega arith

@@ -18,7 +18,7 @@ use Rattle.tk_replica.proofs.MarksAmong.{mark-within, mark-among, marks_among-mo
 
 -- ---- which of the epochs that are kept it is
 
--- an epoch whose mark stands behind the first entries has a greater number
+-- an epoch whose mark stands after the first entries has a greater number
 pub epoch-behind : (shape : Shape) (E : List Placed) (e upto : ℕ) (epoch : Epoch) →
     IsOrder shape E → IsEpochOf shape E e epoch → marks_among upto E ≤ e → upto < epoch.upto →
     marks_among upto E < e

@@ -1,6 +1,6 @@
 -- What the proofs of other crates may cite.
 
--- What may stand next behind the entries of a state may come next to it.
+-- What may stand next after the entries of a state may come next to it.
 pub use Rattle.tk_replica.proofs.Standing.{entry-next}
 -- A state without its first epochs stands for the same entries.
 pub use Rattle.tk_replica.proofs.Standing.{stands-released}
@@ -15,7 +15,7 @@ pub use Rattle.tk_replica.proofs.LastMarks.{epoch-more}
 pub use Rattle.tk_replica.proofs.Vectors.{vector_bits}
 -- A reply over the epoch that a read names is the one that is due to the bytes of the read.
 pub use Rattle.tk_replica.proofs.Replying.{over-epoch, for-spelled}
--- The vectors of one more read come behind those of the others.
+-- The vectors of one more read come after those of the others.
 pub use Rattle.tk_replica.proofs.Paired.{both-push}
 -- Two sums for each asker give the frames over an epoch.
 pub use Rattle.tk_replica.proofs.Paired.{frames-over, two-for-each}

@@ -24,7 +24,7 @@ use Rattle.tk_replica.proofs.Replying.{over-epoch, for-bytes}
 -- ---- what is refused
 
 module _ {X Y : Type 0} (f : X → Option Y) where
-  -- behind some that give nothing comes the one that gives y
+  -- after some that give nothing comes the one that gives y
   first-at : (xs : List X) (i : ℕ) (x : X) (y : Y) → first_some f (take i xs) ≡ None →
       i < length xs → x ≡ slice_index_or xs i x → f x ≡ Some y → first_some f xs ≡ Some y
   first-at [] i x y none low at is = absurd (omega (arith, low))
@@ -116,7 +116,7 @@ row-replies shape E e epoch (r ∷ row) is named =
     (ap reply_frame (over-epoch shape E e epoch r is named.0))
     (row-replies shape E e epoch row is named.1)
 
--- the replies to a row, and those to what is behind it
+-- the replies to a row, and those to what is after it
 pub row-served : (shape : Shape) (E : List Placed) (e : ℕ) (epoch : Epoch)
     (row behind rest : List ReadFrame) (old new all : List (List ℕ)) →
     IsEpochOf shape E e epoch → AllByRecursion (λ r. r.epoch ≡ e) row → rest ≡ row ++ behind →

@@ -89,7 +89,7 @@ epoch-new shape E s p n epoch is at new taken =
 
 -- ---- the next entry
 
--- what may come next to a state may stand behind its entries
+-- what may come next to a state may stand after its entries
 pub next-entry : (shape : Shape) (E : List Placed) (s : ReplicaView) (p : Placed) →
     StandsFor shape E s → IsNextAt s.shape (s.applied + 1) (s.last + 1) p → IsNext shape E p
 next-entry shape E s p is next =

@@ -28,7 +28,7 @@ following state list = record { state = state; list = list }
 abbrev pub applied_in : Following → List Placed
 applied_in f = take f.state.applied f.list
 
--- the first epoch that is kept behind a release: never a lesser one, nor one above the last
+-- the first epoch that is kept after a release: never a lesser one, nor one above the last
 abbrev pub floor_after : ℕ → ReplicaView → ℕ
 floor_after e s = max s.floor (min e s.last)
 

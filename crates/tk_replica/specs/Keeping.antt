@@ -27,7 +27,7 @@ spanning floor last =
 abbrev pub opening : Numbers
 opening = record { last = 0; floor = 0; kept = 0 ∷ [] }
 
--- a mark puts its number behind the others
+-- a mark puts its number after the others
 abbrev pub numbers_with : Numbers → Entry → Numbers
 numbers_with n (Write w) = n
 numbers_with n (Mark e) = record { last = e; floor = n.floor; kept = n.kept ++ e ∷ [] }

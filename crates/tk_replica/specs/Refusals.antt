@@ -17,7 +17,7 @@ pin_refusal s e =
     cond (nat_lt s.last e) (Some (Ahead s.last))
     (cond (nat_lt e s.floor) (Some (Retired s.floor)) None)
 
--- a refusal is this one; where there is none, want of memory
+-- a refusal is this one; where there is none, that memory ran out
 abbrev pub IsPinRefusal : Option PinError → PinError → Type 0
 IsPinRefusal None error = error ≡ Memory
 IsPinRefusal (Some refusal) error = error ≡ refusal
@@ -43,7 +43,7 @@ serve_refusal s bytes =
     refusal_behind (first_fault (read_checks s.shape bytes))
     (option_map serve_error (pin_refusal s (read_in s.shape bytes).epoch))
 
--- want of memory, or the refusal that there is
+-- memory ran out, or the refusal that there is
 abbrev pub IsServeRefusal : Option ServeError → ServeError → Type 0
 IsServeRefusal refusal error = (error ≡ serves.Memory) ⊎ (refusal ≡ Some error)
 

@@ -23,7 +23,7 @@ impl Epoch {
         Asker::of(read).reply(alloc, first, second)
     }
 
-    /// Puts the reply frames to several reads behind the others, in their order. All vectors are
+    /// Puts the reply frames to several reads after the others, in their order. All vectors are
     /// answered in one pass over the blocks.
     pub(crate) fn reply_all(
         &self,

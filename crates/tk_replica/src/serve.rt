@@ -71,7 +71,7 @@ impl ReplicaState {
     }
 }
 
-/// This read, and behind it those of the others that name its epoch in a row.
+/// This read, and after it those of the others that name its epoch in a row.
 fn in_a_row(
     alloc: Global,
     first: ReadFrame,

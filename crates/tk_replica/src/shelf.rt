@@ -76,7 +76,7 @@ impl Shelf {
         &self.epochs[(number - self.floor) as usize]
     }
 
-    /// Puts the next epoch behind the others.
+    /// Puts the next epoch after the others.
     pub(crate) fn push(&mut self, number: u32, epoch: Arc<Epoch>) -> Result<(), Memory>
         requires { number ≡ self.old.last + 1 }
         ensures pushed { OnOk result (self.new ≡ record self.old {

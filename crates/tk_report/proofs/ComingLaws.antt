@@ -183,7 +183,7 @@ come-next shape g all Publish low is =
     let same = mul_comm shape.clients (turn_count shape) in
     (omega (arith, writes, most, same), ap (λ n. n + 1) marks)
 
--- each item of a legal turn may come behind those before it
+-- each item of a legal turn may come after those before it
 pub item-may_come : (shape : Shape) (write : ℕ → ℕ → WriteFrame) (H : History) (g i : ℕ)
     (items : List Item) (d : Item) (all : List Placed) → IsLegal shape H → g < turn_count shape →
     items ≡ order_at H g → i < length items →
@@ -312,7 +312,7 @@ module _ (S : Script) (w : BookWords) (H : History) (g : ℕ) where
       (take_all (length (order_at H g)) (order_at H g) (omega arith))
       ∙ ap (entries_before (write_at S w) H) (sym (add-one g))
 
--- each item may come behind those so far
+-- each item may come after those so far
 so_far-may_come : (S : Script) (w : BookWords) (H : History) (g i : ℕ) (d : Item) →
     IsLegal S.shape H → g < turn_count S.shape → i < length (order_at H g) →
     MayCome S.shape g (placed_so_far S w H g i) (get_or (order_at H g) i d)

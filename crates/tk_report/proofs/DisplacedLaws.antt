@@ -9,7 +9,7 @@ use Rattle.tk_table.specs.Table.{fit_together, unexpired, retained_with, retaine
 use Rattle.tk_table.specs.Table.{is_displaced}
 use Rattle.tk_report.specs.Displaced.{displaced_on}
 
--- whether w finds no place behind R, of which K is retained, as a number
+-- whether w finds no place after R, of which K is retained, as a number
 abbrev without_place : Shape → List Record → List Record → Record → ℕ
 without_place shape R K w = cond (fit_together shape (unexpired shape R w K ++ w ∷ [])) 0 1
 

@@ -36,7 +36,7 @@ same_count (x ∷ xs) =
       ap one_if (same_test x),
     )
 
--- a turn behind turn g, in a phase of t turns
+-- a turn after turn g, in a phase of t turns
 next_in_phase : (t g : ℕ) → 0 < t → (g + 1) / t ≡ g / t + cond ((g + 1) % t == 0) 1 0
 next_in_phase t g some =
     let split : g / t * t + g % t ≡ g = div-add-mod' g t in

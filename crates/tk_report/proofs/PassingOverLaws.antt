@@ -207,7 +207,7 @@ absent-before zero (suc i) text e = absurd (cc e)
 absent-before (suc j) zero text e = omega arith
 absent-before (suc j) (suc i) text e = let low = absent-before j i text e in omega (arith, low)
 
--- what comes behind changes nothing
+-- what comes after changes nothing
 passed-more : (S : Script) (w : BookWords) (H : History) (c log : ℕ) (got more : List Got) (s : ℕ) →
     IsRightlyPassed S w H c log got s → IsRightlyPassed S w H c log (got ++ more) s
 passed-more S w H c log got more s p =

@@ -41,7 +41,7 @@ use Rattle.tk_report.proofs.TextLines.{lines_of-line, first-whole, stop-first, f
 use Rattle.tk_report.proofs.KindLaws.{kind_text, IsOwn, own-order, own-reads}
 use Rattle.tk_report.proofs.KindLaws.{said-no_end}
 
--- ---- an end stands behind all
+-- ---- an end stands after all
 
 pub ends-once : (n : ℕ) (ls : List Line) → ends_once (raw_from n ls) ≡ true
 unfolding raw_from
@@ -65,7 +65,7 @@ kind_line k = kind_text k ++ 0x0A ∷ []
 abbrev pub kind_lines : List RawKind → List ℕ
 kind_lines ks = flat_map kind_line ks
 
--- a text that these lines are the front of, and behind them one that stops
+-- a text that these lines are the front of, and after them one that stops
 pub record Fronts (ks : List RawKind) (text : List ℕ) : Type 0 where
   pub rest : List ℕ
   pub whole : text ≡ kind_lines ks ++ rest

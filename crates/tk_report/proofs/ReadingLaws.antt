@@ -113,7 +113,7 @@ follower-next S b H g c e held old new served legal is epoch was looks =
 
 -- ---- lists of which each element has something of its place
 
--- a new one at a place, behind those below it
+-- a new one at a place, after those below it
 pub below-set : {X : Type 0} (P : ℕ → X → Type 0) (xs : List X) (i : ℕ) (x : X) → i < length xs →
     ((k : ℕ) (d : X) → k < i → P k (slice_index_or xs k d)) → P i x →
     (k : ℕ) (d : X) → k < i + 1 → P k (slice_index_or (set xs i x) k d)

@@ -12,7 +12,7 @@ use Rattle.tk_report.specs.Report.{line}
 abbrev pub spaced : {X : Type 0} → (X → List ℕ) → List X → List ℕ
 spaced field xs = flat_map (λ x. 0x20 ∷ field x) xs
 
--- more fields behind a word and some fields
+-- more fields after a word and some fields
 pub fields_more : {X : Type 0} (field : X → List ℕ) (word : List ℕ) (fields : List (List ℕ))
     (xs : List X) →
     join_with_byte 0x20 (word ∷ (fields ++ map field xs))
@@ -24,7 +24,7 @@ fields_more field word (next ∷ fields) xs =
     ap (λ rest. word ++ 0x20 ∷ rest) (fields_more field next fields xs)
     ∙ sym (append_assoc word (0x20 ∷ join_with_byte 0x20 (next ∷ fields)) (spaced field xs))
 
--- a line, behind what was there: a word and some fields, more fields, and the end
+-- a line, after what was there: a word and some fields, more fields, and the end
 pub line_of_more : {X : Type 0} (field : X → List ℕ) (word : List ℕ) (fields : List (List ℕ))
     (xs : List X) (old : List ℕ) {some more new : List ℕ} →
     some ≡ old ++ join_with_byte 0x20 (word ∷ fields) → more ≡ some ++ spaced field xs →
@@ -42,7 +42,7 @@ line_of_more field word fields xs old {more = more} some_is more_is new_is =
 
 -- ---- one more of a list
 
--- what one more number gives, behind what the ones below it gave
+-- what one more number gives, after what the ones below it gave
 pub next_number : {A : Type 0} (f : ℕ → List A) (n : ℕ) (old : List A) {before here new : List A} →
     before ≡ old ++ flat_map f (range_with_len 0 n) → new ≡ before ++ here → here ≡ f n →
     new ≡ old ++ flat_map f (range_with_len 0 (n + 1))
@@ -58,7 +58,7 @@ next_number f n old before_is new_is here_is =
         ∙ map-range_with_len_more {X = ℕ} (λ k. k) 0 n n (zero-add n)
         ∙ ap (λ numbers. numbers ++ n ∷ []) (map-id (range_with_len 0 n))
 
--- what one more element gives, behind what the ones before it gave
+-- what one more element gives, after what the ones before it gave
 pub next_element : {X A : Type 0} (f : X → List A) (xs : List X) (i : ℕ) (d : X) (old : List A)
     {before here new : List A} →
     i < length xs → before ≡ old ++ flat_map f (take i xs) → new ≡ before ++ here →
@@ -70,7 +70,7 @@ next_element f xs i d old within before_is new_is here_is =
     ∙ flat_map_more f old (take i xs) (get_or xs i d)
     ∙ ap (λ elements. old ++ flat_map f elements) (sym (take_more xs i d within))
 
--- five parts, one behind the other, behind what was there
+-- five parts, one after the other, after what was there
 pub five_parts : {A : Type 0} (old a b c d e : List A) {to_a to_b to_c to_d to_e : List A} →
     to_a ≡ old ++ a → to_b ≡ to_a ++ b → to_c ≡ to_b ++ c → to_d ≡ to_c ++ d → to_e ≡ to_d ++ e →
     to_e ≡ old ++ (a ++ b ++ c ++ d ++ e)

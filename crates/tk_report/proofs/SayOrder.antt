@@ -175,7 +175,7 @@ none-before shape g (y ∷ says) from =
     let rest = none-before shape g says from.1 in
     omega (arith, more, here, rest)
 
--- those behind one that is said in this turn or later
+-- those after one that is said in this turn or later
 from-here : (shape : Shape) (g : ℕ) (y : Say) (says : List Say) → Rising shape (y ∷ says) →
     g ≤ turn_said shape y → AreFrom shape g says
 from-here shape g y says rise low =
@@ -328,7 +328,7 @@ pub none-earlier : (S : Script) (g : ℕ) →
     filter (is_now S.shape g) (take (said_before S g) S.says) ≡ []
 none-earlier S g = below-none S.shape g S.says (rising S)
 
--- and none behind
+-- and none after
 pub all-now : (S : Script) (g : ℕ) →
     filter (is_now S.shape g) (take (said_before S (g + 1)) S.says) ≡ says_in S g
 all-now S g =

@@ -13,11 +13,11 @@ use Rattle.tk_report.specs.Report.{report_text, report_of}
 use Rattle.tk_report.specs.Shown.{begins_with}
 use Rattle.tk_report.specs.Histories.{ReportsShow}
 
--- what may come behind a history
+-- what may come after a history
 abbrev is_rest : List ℕ → Bool
 is_rest rest = begins_with (codes "log") rest || begins_with (codes "unsent") rest
 
--- lines for each, in front of what may come behind a history, may come behind one too
+-- lines for each, in front of what may come after a history, may come after one too
 each-rest : {X : Type 0} (f : X → List ℕ) →
     ((x : X) (behind : List ℕ) → is_rest behind ≡ true → is_rest (f x ++ behind) ≡ true) →
     (xs : List X) (behind : List ℕ) → is_rest behind ≡ true → is_rest (flat_map f xs ++ behind)

@@ -1,4 +1,4 @@
--- The first line of a text, and the line that stands behind a history.
+-- The first line of a text, and the line that stands after a history.
 use Rattle.std.proofs.Common.{◌≡◌, ◌≢◌, refl, ap, ◌∙◌, ◌⊎◌, inl, inr, ne_eqb, eqb-true}
 use Rattle.std.proofs.Common.{arith}
 use Rattle.std.proofs.Common.{ℕ, Bool, true, false, cond, ◌||◌, ◌==◌}
@@ -128,7 +128,7 @@ first-whole (b ∷ bs) line behind e =
               );
         }
 
--- ---- the line behind a history
+-- ---- the line after a history
 
 begins-is : (word text : List ℕ) → begins_with word text ≡ true →
     text ≡ word ++ drop (length word) text

@@ -97,7 +97,7 @@ marks-placed_from write position e (Publish ∷ xs) =
       item_cons Publish xs,
     )
 
--- one more item of a turn: its entry stands behind all
+-- one more item of a turn: its entry stands after all
 pub placed_after-append : (write : ℕ → WriteFrame) (E : List Placed) (xs : List Item) (x : Item) →
     let all = E ++ placed_after write E xs in
     E ++ placed_after write E (xs ++ x ∷ [])

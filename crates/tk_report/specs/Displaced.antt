@@ -8,7 +8,7 @@ use Rattle.tk_frames.specs.Order.{Record, records}
 use Rattle.tk_table.specs.Table.{retained_with, unexpired, fit_together}
 use Rattle.tk_report.specs.Entries.{entries}
 
--- how many of these writes find no place when they come, behind R of which K is retained
+-- how many of these writes find no place when they come, after R of which K is retained
 unfoldable pub displaced_on : Shape → List Record → List Record → List Record → ℕ
 displaced_on shape R K [] = 0
 displaced_on shape R K (w ∷ ws) =

@@ -30,7 +30,7 @@ placed_from write position e (Publish ∷ items) =
     record { position = position; entry = Mark e }
     ∷ placed_from write (position + 1) (e + 1) items
 
--- a turn's entries behind those of the turns before: positions from 1, marks numbered from 1
+-- a turn's entries after those of the turns before: positions from 1, marks numbered from 1
 abbrev pub placed_after : (ℕ → WriteFrame) → List Placed → List Item → List Placed
 placed_after write E items = placed_from write (length E + 1) (count_by is_mark_entry E + 1) items
 

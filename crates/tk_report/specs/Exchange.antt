@@ -32,7 +32,7 @@ read_at S b H g c j =
     (shares size pair.1 drawn.second)
     j
 
--- a read frame, and behind it the reply over these writes
+-- a read frame, and after it the reply over these writes
 unfoldable pub with_reply : Shape → List Record → ReadFrame → List (List ℕ)
 with_reply shape R r = read_frame r ∷ reply_frame (reply_to shape R r) ∷ []
 
@@ -57,7 +57,7 @@ frames_before shape H write reads g =
 abbrev pub read_seen : Script → WordBook → History → ℕ → ℕ → ℕ → List (List ℕ)
 read_seen S b H j g c = read_frame (read_at S b H g c j) ∷ []
 
--- the same with the reply of server j behind it
+-- the same with the reply of server j after it
 abbrev pub read_answered : Script → WordBook → History → ℕ → ℕ → ℕ → List (List ℕ)
 read_answered S b H j g c =
     with_reply S.shape (read_over S (words_of S.shape b) H g c) (read_at S b H g c j)
@@ -68,12 +68,12 @@ view S b H j =
     let w = words_of S.shape b in
     frames_before S.shape H (write_at S w) (read_seen S b H j) (turn_count S.shape)
 
--- the same with each read's reply behind it
+-- the same with each read's reply after it
 abbrev pub exchange : Script → WordBook → History → ℕ → List (List ℕ)
 exchange S b H j =
     let w = words_of S.shape b in
     frames_before S.shape H (write_at S w) (read_answered S b H j) (turn_count S.shape)
 
--- frames one behind the other
+-- frames one after the other
 abbrev pub bytes_of : List (List ℕ) → List ℕ
 bytes_of frames = flat_map (λ f. f) frames

@@ -15,7 +15,7 @@ use Rattle.tk_report.specs.Turns.{placed_before, next_placed}
 use Rattle.tk_report.specs.Queues.{said_before}
 use Rattle.tk_report.specs.declared.folding.Fold.{Fold}
 
--- an entry may be applied to a replica: it stands next behind those that were
+-- an entry may be applied to a replica: it stands next after those that were
 pub record MayPlace (entry : Entry) (replica : ReplicaView) : Type 0 where
   pub shape : Shape
   pub E : List Placed

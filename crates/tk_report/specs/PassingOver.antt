@@ -38,7 +38,7 @@ pub record Reads (S : Script) (w : BookWords) (H : History) (c g log s : ℕ) (t
   pub of_number : target.number ≡ s
   pub answer : lookup S.shape w (read_over S w H g c) log s ≡ Some text
 
--- behind number s, number n is the next that gave a text
+-- after number s, number n is the next that gave a text
 pub record IsNextText (got : List Got) (s n : ℕ) (text : List ℕ) : Type 0 where
   pub behind : s < n
   pub gave : slice_get got n ≡ Some (Text text)

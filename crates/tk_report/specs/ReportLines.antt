@@ -26,12 +26,12 @@ kind_said line = kind_or (read_turn line)
 
 -- ---- the lines of a history
 
--- the first line behind a history
+-- the first line after a history
 abbrev pub stops : Line → Bool
 stops line = begins_with (codes "log") line || begins_with (codes "unsent") line
 
 -- The lines up to the first that stops, numbered from this number on, with an end in the place of
--- that one. Where none stops, a line that is never due stands behind them.
+-- that one. Where none stops, a line that is never due stands after them.
 unfoldable pub raw_from : ℕ → List Line → List RawLine
 raw_from n [] =
     record { line = n; kind = no_line } ∷ record { line = n; kind = End } ∷ []

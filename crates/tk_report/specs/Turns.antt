@@ -30,6 +30,6 @@ abbrev pub entry_due : (ℕ → WriteFrame) → ℕ → Item → Entry
 entry_due write e (Client c) = Write (write c)
 entry_due write e Publish = Mark e
 
--- an entry at the next place behind these
+-- an entry at the next place after these
 abbrev pub next_placed : List Placed → Entry → Placed
 next_placed E entry = record { position = length E + 1; entry = entry }

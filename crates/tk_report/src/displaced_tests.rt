@@ -6,7 +6,7 @@ use tk_script::{Form, parse};
 use tk_shape::Memory;
 use tk_words::{DrawnDraws, Tape};
 
-/// What a script of two clients has behind the size of its table, over two phases of one tick: one
+/// What a script of two clients has after the size of its table, over two phases of one tick: one
 /// text.
 const SAID: &str = " 24 64 1 0 2 2 1 1
 drawn

@@ -8,7 +8,7 @@ use std::alloc::Global;
 use tk_shape::Memory;
 
 /// Appends the report of what a run left: its history, what each log gave to each follower, and how
-/// many texts each client has left over. Where memory is wanting nothing is appended.
+/// many texts each client has left over. If memory runs out, nothing is appended.
 pub fn print_outcome(alloc: Global, outcome: &Outcome, out: &mut Vec<u8>) -> Result<(), Memory>
     ensures ok { OnOk result (out.new.items ≡ out.old.items ++ outcome_text outcome.now) }
     ensures err { OnErr result (out.new.items ≡ out.old.items) }

@@ -12,7 +12,7 @@ use tk_script::next_line;
 use tk_shape::Shape;
 
 /// The history that a report shows. An error names the first line that isn't the one due: of a
-/// report that ends where a line is due, the one behind the last.
+/// report that ends where a line is due, the one after the last.
 pub fn parse_history(alloc: Global, shape: &Shape, bytes: &[u8]) -> Result<History, HistoryError>
     ensures shown { IfOk result (λ h. ShowsHistory shape.now bytes.now h) }
     ensures only { (h : List TurnOrder) → ShowsHistory shape.now bytes.now h →

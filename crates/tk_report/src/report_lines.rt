@@ -8,14 +8,14 @@ use tk_schedule::{RawHistory, RawKind, RawLine};
 use tk_script::next_line;
 use tk_shape::Memory;
 
-/// Whether a line stands behind the history of a report.
+/// Whether a line stands after the history of a report.
 fn is_behind(line: &[u8]) -> bool
     ensures { result ≡ stops line.now }
 {
     line.starts_with(b"log") || line.starts_with(b"unsent")
 }
 
-/// The lines of a history in a text that stands behind a report's first line.
+/// The lines of a history in a text that stands after a report's first line.
 pub(crate) fn raw_lines(alloc: Global, text: &[u8]) -> Result<RawHistory, Memory>
     requires { length text.now + 3 < 2 ^ 64 }
     ensures { IfOk result (λ raw. raw ≡ raw_from 2 (lines_of text.now)) }

@@ -12,7 +12,7 @@ use tk_script::push_numbers_line;
 use tk_shape::Memory;
 
 /// Appends a report: the turns of its history, what each log gave to each follower, and how many
-/// texts each client has left over. Where memory is wanting nothing is appended.
+/// texts each client has left over. If memory runs out, nothing is appended.
 pub(crate) fn print_told<L: Left>(
     alloc: Global,
     told: &Telling<L>,

@@ -13,7 +13,7 @@ use tk_shape::Memory;
 use tk_words::Draws;
 
 /// Appends the report of a run of a script whose history is this one: what each log gives to each
-/// follower where each read goes over the epoch that the history gives it. Where memory is wanting
+/// follower where each read goes over the epoch that the history gives it. If memory runs out,
 /// nothing is appended.
 pub fn report<D: Draws>(
     alloc: Global,

@@ -10,7 +10,7 @@ use tk_schedule::turn;
 use tk_script::Script;
 use tk_shape::Memory;
 
-/// How many texts a script says. More than 32 bits can count are as much as want of memory.
+/// How many texts a script says. More than 32 bits can count are as if memory had run out.
 pub fn count_said(script: &Script) -> Result<u32, Memory>
     ensures { IfOk result (λ n. n ≡ length script.now.says) }
 {

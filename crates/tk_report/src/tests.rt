@@ -28,7 +28,7 @@ reads 2 1 2 1
 /// line that isn't the one due; 0 where each is.
 const CHANGED: [(usize, usize, &str, u64); 24] = [
     (9, 0, "report\n", 0),
-    // no more is read than the word of the line behind the turns
+    // no more is read than the word of the line after the turns
     (6, 5, "log", 0),
     (9, 5, "unsents", 0),
     // a line changed

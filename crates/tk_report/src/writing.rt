@@ -61,7 +61,7 @@ pub fn write_turn<D: Draws>(
     Ok(())
 }
 
-/// Applies an entry behind all others.
+/// Applies an entry after all others.
 fn place_next(alloc: Global, entry: Entry, replica: &mut ReplicaState) -> Result<(), Memory>
     requires { MayPlace entry replica.old }
     ensures stands { (shape : Shape) (E : List Placed) → StandsFor shape E replica.old

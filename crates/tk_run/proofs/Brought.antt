@@ -1,4 +1,4 @@
--- What a turn puts behind the entries so far.
+-- What a turn puts after the entries so far.
 use Rattle.std.proofs.Common.{◌≡◌, ℕ, zero, suc, ◌+◌, ◌<◌, ◌≤◌, List, [], ◌∷◌, length}
 use Rattle.std.proofs.Common.{ap, sym, subst, arith, All}
 use Rattle.std.specs.Prelude.{slice_index_or}
@@ -30,7 +30,7 @@ each_one write E off (d ∷ ds) at zero low c is =
 each_one write E off (d ∷ ds) at (suc k) low c is =
     each_one write E (off + 1) ds at.1 k (omega (arith, low)) c (omega (arith, is))
 
--- what a turn with these slips put behind a list, in a legal order
+-- what a turn with these slips put after a list, in a legal order
 pub record Brings (shape : Shape) (write : ℕ → WriteFrame) (g : ℕ) (E T : List Placed)
     (ds : List Slip) : Type 0 where
   pub order : IsOrderFrom shape (length E + 1) (mark_count E + 1) T

@@ -20,7 +20,7 @@ use Rattle.tk_run.proofs.Cuts.{take_one_more, length-take, flat_map-more}
 abbrev pub at_place : ℕ → Entry → Placed
 at_place p e = record { position = p; entry = e }
 
--- one item more, where the mark isn't behind another
+-- one item more, where the mark isn't after another
 pub from-more : (write : ℕ → WriteFrame) (p e : ℕ) (xs : List Item) (x : Item) →
     count_by is_mark (xs ++ x ∷ []) ≤ 1 →
     placed_from write p e (xs ++ x ∷ [])

@@ -33,7 +33,7 @@ fronts-here i n bytes old mid new gave keep front stay j low high =
       ]
     ]
 
--- no tap behind the last one changed
+-- no tap after the last one changed
 pub kept-here : (i n : ℕ) (old mid new : ℕ → Option (List ℕ)) → i < n →
     TapsKeepBut i old mid → ((j : ℕ) → j ≢ i + 1 → new j ≡ mid j) → TapsKeepBut n old new
 kept-here i n old mid new within keep stay j (inl none) =

@@ -19,7 +19,7 @@ use Rattle.tk_schedule.proofs.Offers.{serial-IsLegal}
 use Rattle.tk_report.specs.Entries.{entries_before}
 use Rattle.tk_run.proofs.TurnNumbers.{entries_front, turn_last}
 
--- the turns so far, and serial ones behind
+-- the turns so far, and serial ones after
 abbrev pub filled : Shape → List TurnOrder → History
 filled shape K =
     K ++ map (serial_turn shape) (range_with_len (length K) (turn_count shape - length K))

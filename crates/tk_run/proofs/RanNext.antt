@@ -109,7 +109,7 @@ module _ (shape : Shape) (write : ℕ → ℕ → WriteFrame) (K : List TurnOrde
       passed_by (is_closing shape (length K)) refl t.acted t.told t.learned t.acts t.tells t.learns
       t.met
 
-  -- what it puts behind the entries so far
+  -- what it puts after the entries so far
   pub passed_brings : (t : Passed shape write K p q xs ds zs) →
       Brings shape (write (length K)) (length K) p.seen t.comes.begins.0 ds
   passed_brings t =

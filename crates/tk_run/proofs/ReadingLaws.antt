@@ -176,7 +176,7 @@ epoch-most S H g c legal low client_in =
 
 -- ---- rows of frames
 
--- what a client asks is put behind what those before it ask
+-- what a client asks is put after what those before it ask
 pub rows-asked : (S : Script) (b : WordBook) (H : History) (g c : ℕ)
     (old new : List (List Frame)) (frames : List Frame) →
     AreRows S.shape.servers (posed S b H g c) old →
@@ -189,7 +189,7 @@ rows-asked S b H g c old new frames rows are added =
     (λ i d low. frames-told frame 1 S.shape.servers frames are i d low ∙ ap frame (omega arith))
     (λ i. posed-next S b H g c i)
 
--- what a server replies is put behind what those before it reply
+-- what a server replies is put after what those before it reply
 pub rows-replied : (S : Script) (b : WordBook) (H : History) (g n : ℕ)
     (old new : List (List Frame)) (frames : List Frame) →
     AreRows S.shape.clients (replied S b H g n) old →

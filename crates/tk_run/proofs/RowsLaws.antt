@@ -75,7 +75,7 @@ rows-same n row other rows same are =
 
 -- ---- frames that are dealt
 
--- Of these frames the first ones are left, and each other lies behind the list of its place.
+-- Of these frames the first ones are left, and each other lies after the list of its place.
 pub record DealtFrom (left : List Frame) (old : List (List Frame)) (frames : List Frame)
     (new : List (List Frame)) : Type 0 where
   pub counted : length new ≡ length old

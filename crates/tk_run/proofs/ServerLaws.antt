@@ -53,7 +53,7 @@ pairs-next (f ∷ fs) (r ∷ rs) (suc i) d e low below =
     (pairs-next fs rs i d e (omega (arith, low)) (omega (arith, below)))
     ∙ sym (append_assoc (f ++ r) so_far both)
 
--- a read and its reply are seen behind the pairs so far
+-- a read and its reply are seen after the pairs so far
 pub pairs-seen : (fs rs : List Frame) (i : ℕ) (f r : Frame) (first old mid new : List ℕ) →
     i < length fs → i < length rs → f ≡ slice_index_or fs i f → r ≡ slice_index_or rs i r →
     old ≡ first ++ in_pairs (take i fs) (take i rs) → mid ≡ old ++ f → new ≡ mid ++ r →

@@ -1,4 +1,4 @@
--- Numbers of turns, and lists of turns with one more behind.
+-- Numbers of turns, and lists of turns with one more after.
 use Rattle.std.proofs.Common.{◌≡◌, ℕ, zero, suc, ◌+◌, ◌*◌, ◌/◌, ◌%◌, ◌<◌, ◌⊎◌, inl, inr}
 use Rattle.std.proofs.Common.{Bool, cond, List, [], ◌∷◌, ◌++◌, length}
 use Rattle.std.proofs.Common.{refl, ap, sym, ◌∙◌, arith, add-one, suc-mul, ne_eqb, length-append}
@@ -33,7 +33,7 @@ below_or_last (suc r) (suc n) h =
     elim (below_or_last r n (omega (arith, h)))
     [ inl l ↦ inl (omega (arith, l)) | inr e ↦ inr (omega (arith, e)) ]
 
--- a turn behind turn g, in a phase of t turns
+-- a turn after turn g, in a phase of t turns
 next_in_phase : (t g : ℕ) → 0 < t → (g + 1) / t ≡ g / t + cond ((g + 1) % t == 0) 1 0
 next_in_phase t g some =
     let split : g / t * t + g % t ≡ g = div-add-mod' g t in

@@ -12,14 +12,14 @@ pub record AreRows (count : ℕ) (row : ℕ → List Frame) (rows : List (List F
   pub counted : length rows ≡ count
   pub each : (i : ℕ) (d : List Frame) → i < length rows → slice_index_or rows i d ≡ row i
 
--- each list got the frame of its place behind its own
+-- each list got the frame of its place after its own
 pub record AreAdded (old : List (List Frame)) (frames : List Frame) (new : List (List Frame))
     : Type 0 where
   pub counted : length new ≡ length old
   pub each : (i : ℕ) (d : List Frame) (f : Frame) → i < length old →
       slice_index_or new i d ≡ slice_index_or old i d ++ slice_index_or frames i f ∷ []
 
--- frames of two lists in turn, one behind the other
+-- frames of two lists in turn, one after the other
 abbrev pub in_pairs : List Frame → List Frame → List ℕ
 in_pairs (f ∷ fs) (r ∷ rs) = f ++ r ++ in_pairs fs rs
 in_pairs [] rs = []

@@ -26,7 +26,7 @@ pub(crate) struct Cue<'a, B: Naming, G: Gate> {
     pub most: u32,
     /// Whether it closes a phase.
     pub closing: bool,
-    /// The publisher's number at the gate, which is behind those of the clients.
+    /// The publisher's number at the gate, which is after those of the clients.
     pub herald: u32,
     pub ghost turn_in: { turn < turn_count B.shape },
     pub ghost most_is: { most ≡ phases_over B.shape (turn + 1) },

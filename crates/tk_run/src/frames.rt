@@ -35,7 +35,7 @@ impl Frames {
         self.items.as_slice()
     }
 
-    /// Puts a frame behind the others.
+    /// Puts a frame after the others.
     pub(crate) fn push(&mut self, frame: Bytes) -> Result<(), Memory>
         ensures { OnOk result (self.new ≡ self.old ++ frame ∷ []) }
     {
@@ -55,7 +55,7 @@ pub(crate) fn empty_rows(alloc: Global, count: u32) -> Result<Vec<Frames>, Memor
     Ok(rows)
 }
 
-/// Puts each frame behind the frames of its place's list.
+/// Puts each frame after the frames of its place's list.
 pub(crate) fn deal(rows: &mut [Frames], mut frames: Vec<Bytes>) -> Result<(), Memory>
     requires { length frames.items ≡ length rows.old }
     ensures { OnOk result (AreAdded rows.old frames.items rows.new) }

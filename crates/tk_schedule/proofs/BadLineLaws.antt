@@ -128,7 +128,7 @@ first_is shape raw at ends f =
 pub first_bad_line : FirstBad
 first_bad_line shape raw at ends = (bad_first shape raw at, first_is shape raw at ends)
 
--- an error where no line is bad is want of memory
+-- an error where no line is bad is that memory ran out
 pub only_memory : {X Y : Type 0} (left : X → Option ℕ) (e : HistoryError) (bad : Option ℕ)
     (P : Y → Type 0)
     → bad ≡ None → Names left (Err e) bad → Gives (Err e) P

@@ -98,7 +98,7 @@ due_none shape (d ∷ ds) (l ∷ ls) e =
 
 -- ---- lines that end
 
--- nothing stands behind an End, and what ends behind a line isn't one
+-- nothing stands after an End, and what ends after a line isn't one
 pub none_behind : (kind : RawKind) (line : ℕ) (ls : List RawLine) → kind ≡ End →
     ends_once (record { line = line; kind = kind } ∷ ls) ≡ true → ls ≡ []
 none_behind (Order phase tick items) line ls e ends = absurd (cc)
@@ -116,7 +116,7 @@ not_end : (b : Bool) → not b ≡ true → b ≡ false
 not_end true e = absurd (cc)
 not_end false e = refl
 
--- an End behind lines of which none is one
+-- an End after lines of which none is one
 pub end_behind_told : (raw : List RawLine) (line : ℕ) →
     list_all (λ l. not (is_end l.kind)) raw ≡ true
     → ends_once (raw ++ record { line = line; kind = End } ∷ []) ≡ true
@@ -170,7 +170,7 @@ none_due shape (d ∷ ds) (l ∷ m ∷ ls) ends e =
 
 -- ---- the first bad line
 
--- the lines before the first bad one, and those behind it
+-- the lines before the first bad one, and those after it
 pub record Stops (shape : Shape) (ds : List Due) (ls : List RawLine) (at : ℕ) : Type 0 where
   pub before : List RawLine
   pub bad : RawLine
@@ -220,7 +220,7 @@ bad_stops shape (d ∷ ds) (l ∷ ls) at e =
           stops_here shape d ds l ls at p (cc (some, e))
     ] refl
 
--- no line stands behind an End
+-- no line stands after an End
 not_behind : (kind : RawKind) (line : ℕ) (ls behind : List RawLine) (bad : RawLine) → kind ≡ End
     → ends_once (record { line = line; kind = kind } ∷ (ls ++ bad ∷ behind)) ≡ true → ⊥
 not_behind kind line [] behind bad e ends = let none = none_behind kind line (bad ∷ behind) e
@@ -238,7 +238,7 @@ undue_alone : (a : Bool) → (a && true) ≡ false → a ≡ false
 undue_alone true e = e
 undue_alone false e = refl
 
--- lines of which a front is due and no longer one have the line behind that front for their bad one
+-- lines of which a front is due and no longer one have the line after that front for their bad one
 pub stops_bad : (shape : Shape) (ds : List Due) (before : List RawLine) (bad : RawLine)
     (behind : List RawLine)
     → ends_once (before ++ bad ∷ behind) ≡ true →

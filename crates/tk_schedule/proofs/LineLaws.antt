@@ -42,7 +42,7 @@ legal-push shape turns turn n counted legal here =
     (legal k l))
     (subst (IsTurn shape n) (sym (get_or_at turns turn [] blank_turn n counted)) here)
 
--- a turn's lines in front of those behind it
+-- a turn's lines in front of those after it
 pub told-push : (shape : Shape) (raw : List RawKind) (turns : List TurnOrder) (turn : TurnOrder)
     (n : ℕ) (lines behind : List RawKind)
     → length turns ≡ n → raw ≡ lines_from shape 0 turns ++ lines →

@@ -160,7 +160,7 @@ turn_lines-at shape g turn b e =
     ap (λ (x : Bool). Order (phase_of shape g) (tick_of shape g) turn.order
     ∷ cond x (Reads (phase_of shape g) (tick_of shape g) turn.epochs ∷ []) []) e
 
--- by what stands behind the order of a turn: nothing, or its epochs where it closes
+-- by what stands after the order of a turn: nothing, or its epochs where it closes
 extend_behind : (shape : Shape) (g n : ℕ) (items : List Item) → is_order shape g items ≡ true →
     (b : Bool) → is_closing shape g ≡ b
     → ((ks : List RawKind) → are_due shape (dues shape (g + 1) n) ks ≡ true →
@@ -292,7 +292,7 @@ lines_end_once shape g (turn ∷ turns) =
     (lines_from shape (g + 1) turns ++ End ∷ [])
     ∙ lines_end_once shape (g + 1) turns
 
--- so nothing is left of them behind lines that end
+-- so nothing is left of them after lines that end
 pub none_left : (ks rest : List RawKind) → end_once ks ≡ true → end_once (ks ++ rest) ≡ true →
     rest ≡ []
 none_left [] rest a b = absurd (cc (a))

@@ -15,7 +15,7 @@ pub data Due : Type 0 where
   epochs_of : (turn : ℕ) → Due
   the_end : Due
 
--- the order of a turn, and behind that of a closing one its epochs
+-- the order of a turn, and after that of a closing one its epochs
 abbrev pub turn_due : Shape → ℕ → List Due
 turn_due shape g = order_of g ∷ cond (is_closing shape g) (epochs_of g ∷ []) []
 

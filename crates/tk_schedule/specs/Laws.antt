@@ -21,7 +21,7 @@ abbrev pub EndsWhereTold : Type 0
 EndsWhereTold =
     (shape : Shape) (raw : List RawLine) (H : History) → Tells shape raw H → IsTrue (ends_once raw)
 
--- an End behind lines of which none is one ends them
+-- an End after lines of which none is one ends them
 abbrev pub EndsBehind : Type 0
 EndsBehind =
     (raw : List RawLine) (line : ℕ) → IsTrue (list_all (λ l. not (is_end l.kind)) raw) →

@@ -13,7 +13,7 @@ abbrev pub is_none_left : List RawLine → Bool
 is_none_left [] = true
 is_none_left (l ∷ ls) = false
 
--- there is an End, and behind the first one nothing: the last line alone is an End
+-- there is an End, and after the first one nothing: the last line alone is an End
 abbrev pub ends_once : List RawLine → Bool
 ends_once [] = false
 ends_once (l ∷ ls) = cond (is_end l.kind) (is_none_left ls) (ends_once ls)

@@ -11,7 +11,7 @@ use Rattle.tk_schedule.specs.declared.error.HistoryError.TheVariants.{Line, Memo
 use Rattle.tk_schedule.specs.Schedule.{phase_of, tick_of, is_closing, IsLegal}
 use Rattle.tk_schedule.specs.Raw.{kinds}
 
--- a turn's lines: its order, and behind that of a closing turn its epochs
+-- a turn's lines: its order, and after that of a closing turn its epochs
 abbrev pub turn_lines : Shape → ℕ → TurnOrder → List RawKind
 turn_lines shape g turn =
     Order (phase_of shape g) (tick_of shape g) turn.order
@@ -39,7 +39,7 @@ pub record Begins (shape : Shape) (raw : List RawLine) : Type 0 where
   pub lines : kinds raw ++ rest ≡ lines_due shape history
 
 -- the first bad line and its number: a legal history begins with the lines before it, and none with
--- it behind them
+-- it after them
 pub record IsFirstBad (shape : Shape) (raw : List RawLine) (at : ℕ) : Type 0 where
   pub before : List RawLine
   pub bad : RawLine

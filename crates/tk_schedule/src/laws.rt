@@ -3,7 +3,7 @@ ghost use Rattle.tk_schedule.specs.Laws.{TellsOne, EndsWhereTold, EndsBehind, Te
 ghost use Rattle.tk_schedule.specs.Laws.{NoneBad, FirstBad};
 
 /// Lines tell one history at most, and the last alone of those that tell one is an `End`, as it is where one is put
-/// behind lines without any. The serial history's lines tell it.
+/// after lines without any. The serial history's lines tell it.
 pub fn lines_tell()
     ensures one { TellsOne }
     ensures ends { EndsWhereTold }

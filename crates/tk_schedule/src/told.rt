@@ -36,7 +36,7 @@ pub(crate) fn turns_in(
     Ok(turns)
 }
 
-/// The turn that lines tell first, and the lines behind its own.
+/// The turn that lines tell first, and the lines after its own.
 fn turn_in<'a>(
     alloc: Global,
     shape: &Shape,
@@ -63,7 +63,7 @@ fn turn_in<'a>(
     Ok((TurnOrder { order, epochs }, behind))
 }
 
-/// The first of lines that have an end, and those behind it.
+/// The first of lines that have an end, and those after it.
 fn first_of(lines: &[RawLine]) -> (&RawLine, &[RawLine])
     requires { IsTrue (ends_once lines.now) }
     ensures { lines.now ≡ result.0.now ∷ result.1.now }
@@ -92,7 +92,7 @@ fn order_in<'a>(shape: &Shape, turn: u32, line: &'a RawLine) -> Result<&'a [Item
     Err(refused(line))
 }
 
-/// The epochs of a line, where it is the one due behind the order of a turn.
+/// The epochs of a line, where it is the one due after the order of a turn.
 fn epochs_in<'a>(shape: &Shape, turn: u32, line: &'a RawLine) -> Result<&'a [u32], HistoryError>
     requires { turn < turn_count shape.now }
     ensures said { IfOk result (λ epochs.

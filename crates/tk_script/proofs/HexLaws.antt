@@ -117,7 +117,7 @@ read_bytes-form word line count never =
     hex_form word count (parts_of line)
     (λ bytes e. never bytes (read_bytes-is word line count bytes e))
 
--- what is decoded of the digits behind a word is what the line gives
+-- what is decoded of the digits after a word is what the line gives
 pub read_bytes-by : (word line digits : List ℕ) (count : ℕ) → LacksSpace word →
     line ≡ fields (word ∷ digits ∷ []) →
     ((rest : List ℕ) → line ≡ fields (word ∷ rest ∷ []) → digits ≡ rest) →

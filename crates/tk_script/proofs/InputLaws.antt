@@ -40,7 +40,7 @@ abbrev lines_with : Option ScriptLines → Option (List RawLine) → Option RawT
 lines_with second history tape first =
     record { first = first; second = second; history = history; tape = tape }
 
--- ---- the tape behind the sections
+-- ---- the tape after the sections
 
 tape_read : (S : Script) (script : ScriptLines) (p : Place) (tape : Option RawTape) →
     script ≡ script_lines S → read_tape_of script p ≡ Ok tape → EndsWithTape S p.rest tape

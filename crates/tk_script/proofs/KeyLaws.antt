@@ -213,7 +213,7 @@ seed_lines (l ∷ lines) [] each are = absurd each
 seed_lines (l ∷ lines) (s ∷ seeds) each are =
     ((each.0, are.0), seed_lines lines seeds each.1 are.1)
 
--- the lines of handles, and of seeds behind them, spell keys
+-- the lines of handles, and of seeds after them, spell keys
 pub keys_spelled : (first second : List Line) (keys : Keys) →
     AllZip IsHandleLine first keys.handles → AllZip IsSeedLine second keys.seeds →
     SpellsKeys (first ++ second) (Some keys)

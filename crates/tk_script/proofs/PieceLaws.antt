@@ -90,7 +90,7 @@ le_or_lt a b = swap (cases_lt b a)
     swap (inl h) = inr h
     swap (inr h) = inl h
 
--- more bytes behind those that are kept
+-- more bytes after those that are kept
 pub kept-more : (want : ℕ) (all bytes : List ℕ) →
     take want all ++ take (want - length (take want all)) bytes ≡ take want (all ++ bytes)
 kept-more want all bytes = keep_by want all bytes (le_or_lt (length all) want)
@@ -107,7 +107,7 @@ replicate-push (suc n) b = ap (λ t. b ∷ t) (replicate-push n b) ∙ ap (λ k.
     more : suc (n + 1) ≡ suc n + 1
     more = omega arith
 
--- more bytes behind those that are kept and counted
+-- more bytes after those that are kept and counted
 pub kept_more : (want : ℕ) (parts : List (List ℕ)) (bytes kept new : List ℕ) →
     kept ≡ take want (joined parts) → new ≡ kept ++ take (want - length kept) bytes →
     new ≡ take want (joined (parts ++ bytes ∷ []))

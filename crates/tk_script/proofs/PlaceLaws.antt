@@ -11,7 +11,7 @@ use Rattle.tk_script.proofs.CauseLaws.{differ}
 pub same_place : (p q : Place) → p.line ≡ q.line → p.rest ≡ q.rest → p ≡ q
 same_place p q a b = λ i. record { line = a i; rest = b i }
 
--- the line here, and the place behind it
+-- the line here, and the place after it
 pub record Follows (p : Place) (l : Line) (q : Place) : Type 0 where
   pub number : q.line ≡ p.line + 1
   pub lines : p.rest ≡ l ∷ q.rest

@@ -48,7 +48,7 @@ turns_lack turns are = (
       (all_lack raw_line IsTurn turn_lacks turns are) (feed_by_test (codes "end") refl, tt),
 )
 
--- ---- the sections behind printed scripts
+-- ---- the sections after printed scripts
 
 -- what is printed of turns is their history
 turns_begin : (at : ℕ) (turns : List RawKind) (rest : List ℕ) → AllByRecursion IsTurn turns →
@@ -67,7 +67,7 @@ script_first : (S : Script) (rest : List ℕ) → HasKeys S.keys →
 unfolding printed
 script_first S rest has = lines_of-text_of (lines_of_script S) rest (script_lacks S has)
 
--- the number of the line behind so many lines
+-- the number of the line after so many lines
 number_after : (lines own rest : List Line) → lines ≡ own ++ rest →
     number_of_first lines rest ≡ length own + 1
 number_after lines own rest e = omega (arith, ap length e, length-append own rest)

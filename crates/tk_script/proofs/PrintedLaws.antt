@@ -113,7 +113,7 @@ prints_tapes bytes are rest = record {
 
 -- ---- inputs
 
--- nothing stands behind what is printed
+-- nothing stands after what is printed
 script_alone : (S : Script) → ReadsPrinted S → BeginsWithScript (lines_of (printed S)) S []
 script_alone S reads =
     subst (λ r. BeginsWithScript (lines_of (printed S)) S r) lines_of-empty

@@ -66,7 +66,7 @@ next_number_from read p x e = number_from read p.line p.rest x e
 
 -- ---- lines in a row
 
--- the lines begin with those of items, which come behind the items before them
+-- the lines begin with those of items, which come after the items before them
 pub record Row {X : Type 0} (R : Line → X → Type 0) (lines : List Line) (before all : List X)
     (behind : List Line) : Type 0 where
   pub own : List Line

@@ -31,7 +31,7 @@ and_true : (a : Bool) → (a && true) ≡ a
 and_true true = refl
 and_true false = refl
 
--- a text may come behind others where it is said no earlier than the last
+-- a text may come after others where it is said no earlier than the last
 pub in_order_push : (says : List Say) (y : Say) → IsTrue (are_in_order says) →
     is_by (last_when says) (y.phase, y.tick) ≡ are_in_order (says ++ y ∷ [])
 in_order_push [] y ordered = zero_by y.phase y.tick

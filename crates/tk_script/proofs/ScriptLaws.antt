@@ -36,7 +36,7 @@ same_input x y a b h t = λ i. record {
   tape = t i;
 }
 
--- what stands behind the first three lines of a script
+-- what stands after the first three lines of a script
 abbrev pub behind_head : Script → List Line → List Line → List Line
 behind_head S key_lines rest =
     map role_line S.roles ++ (key_lines ++ (map say_line S.says ++ codes "end" ∷ rest))

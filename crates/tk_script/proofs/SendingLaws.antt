@@ -9,7 +9,7 @@ use Rattle.tk_script.specs.declared.say.Say.{Say}
 use Rattle.tk_schedule.specs.Schedule.{turn_at}
 use Rattle.tk_script.specs.Sent.{Sending, sendings_from}
 
--- the first turn without a text behind these, where free was the first before them
+-- the first turn without a text after these, where free was the first before them
 abbrev pub free_after : Shape → ℕ → List Say → ℕ
 free_after shape free [] = free
 free_after shape free (y ∷ ys) = free_after shape (max (turn_at shape y.phase y.tick) free + 1) ys
@@ -40,7 +40,7 @@ abbrev sending : ℕ → Say → ℕ → Sending
 sending turn y number =
     record { turn = turn; log = y.log; number = number; text = y.text }
 
--- the text that comes behind these, where earlier ones came before them all
+-- the text that comes after these, where earlier ones came before them all
 abbrev pub sending_behind : Shape → ℕ → List Say → List Say → Say → Sending
 sending_behind shape free earlier ys y =
     record {

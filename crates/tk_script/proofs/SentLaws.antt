@@ -104,7 +104,7 @@ turns-behind shape free earlier (y ∷ says) =
     (All-weaker (λ (z : Sending). next ≤ z.turn) (λ (z : Sending). free ≤ z.turn)
     (λ z h. omega (arith, h)) later (turns-behind shape next (y ∷ earlier) says))
 
--- one that is sent later, with a number behind those of its log so far
+-- one that is sent later, with a number after those of its log so far
 comes-after : (y : Say) (earlier : List Say) (x z : Sending) → x.log ≡ y.log →
     x.number ≡ of_log y.log earlier → x.turn + 1 ≤ z.turn →
     of_log z.log (y ∷ earlier) ≤ z.number → IsBefore x z

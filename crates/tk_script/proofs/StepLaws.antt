@@ -26,7 +26,7 @@ one_step : (line : ℕ) (l : Line) (ls : List Line) →
     Steps (record { line = line; rest = l ∷ ls }) (record { line = line + 1; rest = ls })
 one_step line l ls = record { count = 1; number = omega arith; lines = omega arith }
 
--- the number of the first line behind what was read from the front
+-- the number of the first line after what was read from the front
 pub number_behind : (lines : List Line) (q : Place) →
     Steps (record { line = 1; rest = lines }) q → q.line ≡ number_of_first lines q.rest
 number_behind lines q s = omega (arith, s.number, s.lines)

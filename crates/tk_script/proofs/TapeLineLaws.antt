@@ -88,7 +88,7 @@ nothing : (xs : List ℕ) → length xs ≡ 0 → xs ≡ []
 nothing [] e = refl
 nothing (x ∷ xs) e = absurd (omega (arith, e))
 
--- a text of digits, and a number behind which nothing stands
+-- a text of digits, and a number after which nothing stands
 pub fill_spelled : (text digits rest behind : List ℕ) (n : ℕ) → text ≡ digits ++ rest →
     rest ≡ 0x20 ∷ (decimal n ++ behind) → length behind ≡ 0 → text ≡ digits ++ 0x20 ∷ decimal n
 fill_spelled text digits rest behind n whole e none =

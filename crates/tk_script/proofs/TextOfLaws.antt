@@ -1,4 +1,4 @@
--- What is printed, one line behind the other.
+-- What is printed, one line after the other.
 use Rattle.std.proofs.Common.{◌≡◌, ℕ, ◌+◌, ◌<◌, List, [], ◌∷◌, ◌++◌, length, map, take, get_or, codes, decimal, Option, Some, refl, ap, sym, ◌∙◌, append_assoc, append-nil}
 use Rattle.std.specs.List.{AllByRecursion}
 use Rattle.std.proofs.lemmas.List.{take_more, map-append}
@@ -16,7 +16,7 @@ text_of-append (l ∷ ls) ys =
     ap (λ t. l ++ 0x0A ∷ t) (text_of-append ls ys)
     ∙ sym (append_assoc l (0x0A ∷ text_of ls) (text_of ys))
 
--- more lines behind some
+-- more lines after some
 pub text_of-behind : (xs ys : List Line) (old : List ℕ) {before new : List ℕ} →
     before ≡ old ++ text_of xs → new ≡ before ++ text_of ys → new ≡ old ++ text_of (xs ++ ys)
 text_of-behind xs ys old before_is new_is =
@@ -59,7 +59,7 @@ fields_of : (word : List ℕ) (ns : List ℕ) →
 fields_of word [] = sym (append-nil word)
 fields_of word (n ∷ ns) = ap (λ t. word ++ 0x20 ∷ t) (fields_of (decimal n) ns)
 
--- numbers behind a word
+-- numbers after a word
 pub word_numbers : (word ns old : List ℕ) {new : List ℕ} →
     new ≡ (old ++ word) ++ number_fields ns → new ≡ old ++ fields (word ∷ map decimal ns)
 word_numbers word ns old new_is =
@@ -92,7 +92,7 @@ role_text writer followers seen old {to_word = to_word} {to_followers = to_follo
     in
     numbers_text (codes "log") (writer ∷ followers) old word_is numbers new_is
 
--- ---- parts, one behind the other
+-- ---- parts, one after the other
 
 -- the lines of handles, then those of seeds
 pub keys_text : (keys : Option Keys) (k : Keys) (handles : List Handle) (seeds : List (List ℕ))

@@ -1,4 +1,4 @@
--- A line of words alone, and what is read with lines behind it.
+-- A line of words alone, and what is read with lines after it.
 use Rattle.std.proofs.Common.{◌≡◌, ℕ, List, Result, Ok, refl}
 use Rattle.std.proofs.lemmas.Slice.Eq.{bytes_eq-Decides}
 use Rattle.std.specs.Str.{bytes_eq}
@@ -12,7 +12,7 @@ use Rattle.tk_script.proofs.PartLaws.{same_bytes}
 abbrev pub at : ℕ → List Line → Place
 at line lines = record { line = line; rest = lines }
 
--- this is read, and what is behind it comes next
+-- this is read, and what is after it comes next
 abbrev pub Comes : {X : Type 0} → Result (X × Place) Refusal → X → List Line → Type 0
 Comes r x behind = (n : ℕ) × (r ≡ Ok (x, at n behind))
 

@@ -4,7 +4,7 @@ use Rattle.tk_shape.specs.Names.{field_name}
 use Rattle.tk_script.specs.declared.cause.Cause.{Cause}
 use Rattle.tk_script.specs.declared.cause.Cause.TheVariants as cause
 
--- a number behind a space
+-- a number after a space
 abbrev pub spaced : ℕ → List ℕ
 spaced n = 0x20 ∷ decimal n
 

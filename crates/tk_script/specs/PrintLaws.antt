@@ -45,7 +45,7 @@ PrintsDrawn = (S : Script) (bytes : List ℕ) → S.keys ≡ None → IsBytes by
       tape = Some (kept_of S.shape bytes);
     })
 
--- what is kept of a tape behind a script
+-- what is kept of a tape after a script
 abbrev pub kept_behind_script : Shape → Option Keys → List ℕ → Option RawTape
 kept_behind_script shape None bytes = Some (kept_of shape bytes)
 kept_behind_script shape (Some keys) bytes = None

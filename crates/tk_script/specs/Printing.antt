@@ -81,7 +81,7 @@ lines_of_tape bytes = codes "tape" ∷ (lines_of_pieces bytes ++ codes "end" ∷
 unfoldable pub printed_tape : List ℕ → List ℕ
 printed_tape bytes = text_of (lines_of_tape bytes)
 
--- a tape behind a script: a keyed one has none
+-- a tape after a script: a keyed one has none
 abbrev pub tape_behind : Option Keys → List ℕ → List ℕ
 tape_behind None bytes = printed_tape bytes
 tape_behind (Some keys) bytes = []

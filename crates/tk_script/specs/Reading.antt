@@ -78,7 +78,7 @@ abbrev pub numbers_spelled : List (List ℕ) → Option (List ℕ)
 numbers_spelled [] = Some []
 numbers_spelled (t ∷ ts) = number_before (number_spelled t) (numbers_spelled ts)
 
--- the numbers behind a word
+-- the numbers after a word
 abbrev pub word_then : List ℕ → List (List ℕ) → Option (List ℕ)
 word_then word [] = None
 word_then word (w ∷ ts) = cond (bytes_eq w word) (numbers_spelled ts) None
@@ -304,7 +304,7 @@ why_behind n last when text (Some k) = Some (cause.Number k)
 why_behind n last when text None =
     cond (is_by last when) (why_text (n.block - 18) text) (Some cause.Order)
 
--- why a text may not be said in a phase, a tick and a log, behind one that is said at the last
+-- why a text may not be said in a phase, a tick and a log, after one that is said at the last
 abbrev pub why_not : Numbers → When → ℕ → ℕ → ℕ → List ℕ → Option Cause
 why_not n last phase tick log text =
     why_behind n last (phase, tick) text (out_of_range n phase tick log)
@@ -335,7 +335,7 @@ say_parts n last (w ∷ p ∷ t ∷ g ∷ x ∷ parts) =
     (say_numbers n last (join_with_byte 0x20 (x ∷ parts)) (numbers_spelled (p ∷ t ∷ g ∷ [])))
     (Err cause.Form)
 
--- the text of a line, behind one that is said at the last
+-- the text of a line, after one that is said at the last
 abbrev pub read_say : Numbers → When → Line → Verdict Say
 read_say n last line = say_parts n last (parts_of line)
 
@@ -367,14 +367,14 @@ line_at read line (l ∷ ls) = taken line ls (read l)
 abbrev pub next_line : {X : Type 0} → (Line → Verdict X) → Place → Result (X × Place) Refusal
 next_line read p = line_at read p.line p.rest
 
--- what the next count lines give, behind what was read before
+-- what the next count lines give, after what was read before
 abbrev pub next_lines : {X : Type 0} → ℕ → (Line → Verdict X) → List X → Place →
     Result (List X × Place) Refusal
 next_lines zero read before p = Ok (before, p)
 next_lines (suc count) read before p =
     next_line read p >>= λ x. next_lines count read (before ++ x.0 ∷ []) x.1
 
--- what the lines up to an `end` give, behind what was read before: each may look at all before it
+-- what the lines up to an `end` give, after what was read before: each may look at all before it
 abbrev pub to_end : {X : Type 0} → (List X → Line → Verdict X) → List X → ℕ → List Line →
     Result (List X × Place) Refusal
 to_end read before line [] = Err (line, cause.Early)
@@ -432,7 +432,7 @@ read_script may p = do
 abbrev pub read_next_turn : List RawKind → Line → Verdict RawKind
 read_next_turn kinds line = read_turn line
 
--- what lines say, numbered from this number on, and the end behind them
+-- what lines say, numbered from this number on, and the end after them
 abbrev pub numbered : ℕ → List RawKind → List RawLine
 numbered n [] = record { line = n; kind = End } ∷ []
 numbered n (k ∷ ks) = record { line = n; kind = k } ∷ numbered (n + 1) ks
@@ -467,7 +467,7 @@ read_tape want p = do
   first ← next_line (read_words (codes "tape")) p
   read_kept want first.1.line first.1.rest
 
--- nothing stands behind the last section
+-- nothing stands after the last section
 abbrev pub no_line : ℕ → List Line → Result (Unit {0}) Refusal
 no_line line [] = Ok tt
 no_line line (l ∷ ls) = Err (line, cause.After)
@@ -489,7 +489,7 @@ pub record InputLines : Type 0 where
   pub history : Option (List RawLine)
   pub tape : Option RawTape
 
--- the tape behind a script's form
+-- the tape after a script's form
 abbrev pub read_tape_of : ScriptLines → Place → Result (Option RawTape) Refusal
 read_tape_of script p = read_end script.keys (tape_in script.numbers) p
 

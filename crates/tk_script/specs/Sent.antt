@@ -23,7 +23,7 @@ blank_role = record { writer = 0; followers = [] }
 abbrev pub writer_of : Script → ℕ → ℕ
 writer_of S log = (slice_index_or S.roles log blank_role).writer
 
--- The texts of one client in order, behind the earlier ones, where free is the first turn without a
+-- The texts of one client in order, after the earlier ones, where free is the first turn without a
 -- text. Each is sent in the turn in which it is said, or in the first free one, whichever is later;
 -- its number is how many of its log came before it.
 unfoldable pub sendings_from : Shape → ℕ → List Say → List Say → List Sending

@@ -18,6 +18,6 @@ pub enum Cause {
     Room { room: u32 },
     /// The text may not be sent; so many bytes of it may.
     Text { at: u64 },
-    /// A line stands behind the last section.
+    /// A line stands after the last section.
     After,
 }

@@ -6,7 +6,7 @@ use crate::line_text::push_field;
 use std::alloc::Global;
 use tk_shape::Memory;
 
-/// Appends why a line is refused. Where memory is wanting a part may have been appended.
+/// Appends why a line is refused. If memory runs out, a part may have been appended.
 pub fn push_cause(alloc: Global, cause: &Cause, out: &mut Vec<u8>) -> Result<(), Memory>
     ensures ok { OnOk result (out.new.items ≡ out.old.items ++ cause_text cause.now) }
 {

@@ -36,7 +36,7 @@ fn next_field(text: &[u8]) -> (&[u8], &[u8])
     }
 }
 
-/// The number behind one space, and what follows it: nothing, or a space and more.
+/// The number after one space, and what follows it: nothing, or a space and more.
 pub(crate) fn next_number(text: &[u8]) -> Option<(u32, &[u8])>
     ensures found { IfSome result (λ x. text.now ≡ 0x20 ∷ (decimal x.0 ++ x.1.now)) }
     ensures end { IfSome result (λ x. IsFieldEnd x.1.now) }

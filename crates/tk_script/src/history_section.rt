@@ -10,7 +10,7 @@ use crate::{Cause, ScriptError};
 use std::alloc::Global;
 use tk_schedule::{RawHistory, RawKind, RawLine};
 
-/// The history section that begins here, and the place behind it. Whether its lines are the ones
+/// The history section that begins here, and the place after it. Whether its lines are the ones
 /// due is not asked here.
 pub(crate) fn history_of(
     alloc: Global,
@@ -22,7 +22,7 @@ pub(crate) fn history_of(
     turns_of(alloc, here)
 }
 
-/// The lines of a history up to the line `end`, with that, and the place behind it.
+/// The lines of a history up to the line `end`, with that, and the place after it.
 fn turns_of(alloc: Global, start: Place<'_>) -> Result<(RawHistory, Place<'_>), ScriptError>
     ensures { Agrees (λ x. (x.0, stands x.1)) result
         (read_turns start.entry.line (lines_of start.entry.rest.now)) }

@@ -13,7 +13,7 @@ use std::alloc::Global;
 use tk_handle::Handle;
 use tk_shape::Shape;
 
-/// The keys of a keyed script, and the place behind them: a drawn script has none.
+/// The keys of a keyed script, and the place after them: a drawn script has none.
 pub(crate) fn keys_of<'a>(
     alloc: Global,
     shape: &Shape,
@@ -31,7 +31,7 @@ pub(crate) fn keys_of<'a>(
     Ok((Some(Keys { handles, seeds }), rest))
 }
 
-/// As many handles as there are logs, a line for each, and the place behind them.
+/// As many handles as there are logs, a line for each, and the place after them.
 fn handles_of(
     alloc: Global,
     logs: u32,
@@ -53,7 +53,7 @@ fn handles_of(
     Ok((Handles::from_vec(handles), here))
 }
 
-/// As many seeds as there are clients, a line for each, and the place behind them.
+/// As many seeds as there are clients, a line for each, and the place after them.
 fn seeds_of(
     alloc: Global,
     clients: u32,

@@ -12,7 +12,7 @@ use tk_shape::{Field, Shape};
 const MOST_TAPE: u64 = 2097152;
 
 /// Whether a script of a shape is keyed, where it may be, by the line that stands here, and the
-/// place behind it. A drawn script's tape may not be too long.
+/// place after it. A drawn script's tape may not be too long.
 pub(crate) fn kind_of<'a>(
     shape: &Shape,
     may: bool,

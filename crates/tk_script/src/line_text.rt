@@ -5,7 +5,7 @@ ghost use Rattle.tk_script.specs.Printing.{text_of, bytes_line, number_fields};
 use std::alloc::Global;
 use tk_shape::Memory;
 
-/// Appends the plain decimal of a number, or nothing where memory is wanting. The other calls may
+/// Appends the plain decimal of a number, or nothing if memory runs out. The other calls may
 /// then have appended a part of what they append.
 pub fn push_number(alloc: Global, number: u64, out: &mut Vec<u8>) -> Result<(), Memory>
     ensures ok { OnOk result (out.new.items ≡ out.old.items ++ decimal number) }

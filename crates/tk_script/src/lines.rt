@@ -17,7 +17,7 @@ pub(crate) fn place_of(text: &[u8], byte: u8) -> Option<usize>
     None
 }
 
-/// The first line of a text, without its line feed, and the text behind it.
+/// The first line of a text, without its line feed, and the text after it.
 pub fn next_line(text: &[u8]) -> Option<(&[u8], &[u8])>
     ensures line { IfSome result (λ x. lines_of text.now ≡ x.0.now ∷ lines_of x.1.now) }
     ensures shorter { IfSome result (λ x. length x.1.now < length text.now) }

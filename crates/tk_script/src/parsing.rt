@@ -14,7 +14,7 @@ use crate::{Form, Input, RawTape, Script, ScriptError};
 use std::alloc::Global;
 
 /// The input of a form that a text spells, or the first of its lines that is refused: that may also
-/// be one behind its last.
+/// be one after its last.
 pub fn parse(alloc: Global, text: &[u8], form: Form) -> Result<Input, ScriptError>
     ensures found { IfOk result (λ input. Spells form text.now input) }
     ensures read { Agrees input_lines result (read_input form (lines_of text.now)) }
@@ -79,7 +79,7 @@ fn mirror_of(alloc: Global, text: &[u8]) -> Result<Input, ScriptError>
     })
 }
 
-/// The tape behind a script of drawn words, where it is all that stands from here on; behind a
+/// The tape after a script of drawn words, where it is all that stands from here on; after a
 /// keyed script nothing may stand.
 fn tape_behind(
     alloc: Global,

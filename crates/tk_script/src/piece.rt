@@ -93,7 +93,7 @@ fn bytes_piece(alloc: Global, digits: &[u8]) -> Result<Result<Piece, Cause>, Mem
     }
 }
 
-/// The piece of the two digits of a byte and, behind a space, how many times it is repeated: 1 to
+/// The piece of the two digits of a byte and, after a space, how many times it is repeated: 1 to
 /// 2,097,152 times.
 fn fill_piece(text: &[u8]) -> Result<Piece, Cause>
     ensures { IsRead piece_bytes result (read_fill (parts_of text.now)) }

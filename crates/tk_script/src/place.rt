@@ -30,7 +30,7 @@ impl<'a> Place<'a> {
         }
     }
 
-    /// The line that stands here, and the place behind it.
+    /// The line that stands here, and the place after it.
     pub(crate) fn next(self) -> Result<(&'a [u8], Place<'a>), ScriptError>
         ensures line { IfOk result (λ x.
             lines_of self.entry.rest.now ≡ x.0.now ∷ lines_of x.1.rest.now) }
@@ -61,7 +61,7 @@ impl<'a> Place<'a> {
         }
     }
 
-    /// The place behind a line that reads so.
+    /// The place after a line that reads so.
     pub(crate) fn behind(self, words: &[u8]) -> Result<Place<'a>, ScriptError>
         ensures { Agrees (λ x. (tt, stands x)) result
             (next_line (read_words words.now) (stands self.entry)) }

@@ -11,9 +11,9 @@ use crate::{Keys, Script};
 use std::alloc::Global;
 use tk_shape::{Memory, Shape};
 
-/// Appends a script in its one printed form, or nothing where memory is wanting. `parse` answers
+/// Appends a script in its one printed form, or nothing if memory runs out. `parse` answers
 /// with the same script: for a script of keys see `parse_printed`, and for one of drawn words,
-/// which wants a tape behind it, `parse_printed_with`.
+/// which wants a tape after it, `parse_printed_with`.
 pub fn print(script: &Script, out: &mut Vec<u8>) -> Result<(), Memory>
     ensures ok { OnOk result (out.new.items ≡ out.old.items ++ printed script.now) }
     ensures err { OnErr result (out.new.items ≡ out.old.items) }

@@ -11,7 +11,7 @@ use crate::{Cause, Role, Roles, ScriptError};
 use std::alloc::Global;
 use tk_shape::{Memory, Shape, Words};
 
-/// The roles of a shape's logs, a line for each, and the place behind them.
+/// The roles of a shape's logs, a line for each, and the place after them.
 pub(crate) fn roles_of<'a>(
     alloc: Global,
     shape: &Shape,

@@ -17,7 +17,7 @@ pub fn parse_printed(alloc: Global, script: &Script) -> Result<Input, ScriptErro
     parse(alloc, text.as_slice(), Form::Run)
 }
 
-/// What `parse` answers of a printed script of drawn words with a printed tape behind it: the same
+/// What `parse` answers of a printed script of drawn words with a printed tape after it: the same
 /// script, and what is kept of the same tape.
 pub fn parse_printed_with(alloc: Global, script: &Script, tape: &[u8]) -> Result<Input, ScriptError>
     ensures same { script.now.keys ≡ None →

@@ -13,7 +13,7 @@ use std::alloc::Global;
 use tk_seal::allowed;
 use tk_shape::{Bytes, Memory, Shape};
 
-/// The texts up to the line `end`, and the place behind it.
+/// The texts up to the line `end`, and the place after it.
 pub(crate) fn says_of<'a>(
     alloc: Global,
     shape: &Shape,
@@ -50,7 +50,7 @@ fn last_when(says: &[Say]) -> (u32, u32)
     }
 }
 
-/// The text that a line says behind one of the phase and tick `last`: it has room in a block and is
+/// The text that a line says after one of the phase and tick `last`: it has room in a block and is
 /// allowed, and is all after the space that follows the log.
 fn say_of(
     alloc: Global,
@@ -93,7 +93,7 @@ fn fields_of(line: &[u8]) -> Option<(u32, u32, u32, &[u8])>
     Some((phase, tick, log, text))
 }
 
-/// Why a text may not be said on a log, in a phase and a tick, behind one of the phase and tick
+/// Why a text may not be said on a log, in a phase and a tick, after one of the phase and tick
 /// `last`.
 fn why_not(
     shape: &Shape,

@@ -12,7 +12,7 @@ use crate::{Script, ScriptError};
 use std::alloc::Global;
 use tk_shape::Shape;
 
-/// The script section that begins here, which may be keyed or not, and the place behind it.
+/// The script section that begins here, which may be keyed or not, and the place after it.
 pub(crate) fn script_of(
     alloc: Global,
     may_be_keyed: bool,
@@ -34,7 +34,7 @@ pub(crate) fn script_of(
     Ok((script, rest))
 }
 
-/// The shape of the three lines at the front of a script, whether it is keyed, and the place behind
+/// The shape of the three lines at the front of a script, whether it is keyed, and the place after
 /// them.
 fn head_of(
     alloc: Global,

@@ -9,7 +9,7 @@ use crate::{Cause, ScriptError};
 use std::alloc::Global;
 use tk_shape::{Memory, Shape};
 
-/// The shape of the line that stands here, and the place behind it.
+/// The shape of the line that stands here, and the place after it.
 pub(crate) fn shape_of(alloc: Global, here: Place<'_>) -> Result<(Shape, Place<'_>), ScriptError>
     ensures { Agrees (λ x. (named x.0, stands x.1)) result
         (next_line read_shape (stands here.entry)) }

@@ -10,7 +10,7 @@ use crate::{RawTape, ScriptError};
 use std::alloc::Global;
 use tk_shape::Bytes;
 
-/// The tape section that begins here, and the place behind it. No more than `want` bytes are kept;
+/// The tape section that begins here, and the place after it. No more than `want` bytes are kept;
 /// all are counted, as far as 64 bits go.
 pub(crate) fn tape_of(
     alloc: Global,
@@ -23,7 +23,7 @@ pub(crate) fn tape_of(
     pieces_of(alloc, want, here)
 }
 
-/// The tape of the pieces up to the line `end`, and the place behind it.
+/// The tape of the pieces up to the line `end`, and the place after it.
 fn pieces_of(
     alloc: Global,
     want: usize,

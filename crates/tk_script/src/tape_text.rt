@@ -9,7 +9,7 @@ use tk_shape::Memory;
 /// The bytes of a line of a tape.
 const PIECE: usize = 32;
 
-/// Appends a tape in its one printed form, or nothing where memory is wanting. Behind a printed
+/// Appends a tape in its one printed form, or nothing if memory runs out. After a printed
 /// script of drawn words `parse` reads the same bytes, as `parse_printed_with` says.
 pub fn print_tape(tape: &[u8], out: &mut Vec<u8>) -> Result<(), Memory>
     ensures ok { OnOk result (out.new.items ≡ out.old.items ++ printed_tape tape.now) }

@@ -85,7 +85,7 @@ fn head_of(line: &[u8]) -> Option<Head<'_>>
     })
 }
 
-/// The part of a text up to its first space, and what stands behind it.
+/// The part of a text up to its first space, and what stands after it.
 fn first_part(text: &[u8]) -> (&[u8], Option<&[u8]>)
     ensures some { IfSome result.1 (λ r. parts_of text.now ≡ result.0.now ∷ parts_of r.now) }
     ensures shorter { IfSome result.1 (λ r. length r.now < length text.now) }

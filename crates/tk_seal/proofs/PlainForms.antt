@@ -23,7 +23,7 @@ two_bytes a b h k zero = h
 two_bytes a b h k (suc zero) = k
 two_bytes a b h k (suc (suc i)) = lit< tt
 
--- bytes that have a text's length in front, and nothing but zeros behind it
+-- bytes that have a text's length in front, and nothing but zeros after it
 pub form_of_parts : (bytes : List ℕ) (n : ℕ) → ((i : ℕ) → get_or bytes i 0 < 256) → n ≡ get_or bytes 0 0 * 256 + get_or bytes 1 0 → 2 + n ≤ length bytes →
     drop n (drop 2 bytes) ≡ replicate (length (drop n (drop 2 bytes))) 0 → bytes ≡ plain (length bytes) (take n (drop 2 bytes))
 form_of_parts [] n small e fits zeros = absurd (omega arith)

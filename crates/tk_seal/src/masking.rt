@@ -24,7 +24,7 @@ pub fn mask(pad: &[u8], text: &[u8], out: &mut [u8])
 }
 
 /// The length of the text whose plain form is behind a pad, if there is one that may be sent: `out` has it,
-/// and zeros behind it. With none `out` is zeros.
+/// and zeros after it. With none `out` is zeros.
 pub fn unmask(pad: &[u8], masked: &[u8], out: &mut [u8]) -> Option<usize>
     requires whole { length masked.now ≡ length pad.now }
     requires room { length out.old + 2 ≡ length pad.now }

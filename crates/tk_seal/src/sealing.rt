@@ -8,7 +8,7 @@ use crate::{LONGEST_PAD, hmac, mask, unmask};
 use tk_handle::{Handle, Stream};
 
 /// Seals a text as message `number` of a log: its plain form is masked by a pad, and the tag of what is
-/// masked stands behind.
+/// masked stands after.
 pub fn seal(handle: &Handle, number: u32, text: &[u8], out: &mut [u8])
     requires low { 24 ≤ length out.old }
     requires high { length out.old ≤ 1024 }
@@ -26,7 +26,7 @@ pub fn seal(handle: &Handle, number: u32, text: &[u8], out: &mut [u8])
 }
 
 /// The length of the text that seals to a block as message `number` of a log, if there is one: `out` has it, and zeros
-/// behind it. With none `out` is zeros.
+/// after it. With none `out` is zeros.
 pub fn open(handle: &Handle, number: u32, block: &[u8], out: &mut [u8]) -> Option<usize>
     requires low { 24 ≤ length block.now }
     requires high { length block.now ≤ 1024 }

@@ -79,7 +79,7 @@ impl<B: Naming> Desk<'_, B> {
         self.order.append(rt, seat, &Entry::Mark(done + 1)).ok()
     }
 
-    /// The seat of the marks, behind three writes with a mark behind each.
+    /// The seat of the marks, after three writes with a mark after each.
     fn three_marks<R: Wait>(&self, rt: &R, mut seats: Vec<OrderSeat<B>>) -> Option<OrderSeat<B>>
         requires { seats.items ≡ opened 2 }
     {
@@ -165,7 +165,7 @@ fn replicas_advance_to_lengths_of_their_own(rt: HostRuntime) -> Result<(), Fail>
     three_lengths::<Brand, _>(&rt, alloc, blank(alloc)?)
 }
 
-/// Behind three marks the epochs below 2 are let go, and what is asked then.
+/// After three marks the epochs below 2 are let go, and what is asked then.
 fn released<B: Naming, R: Wait + Abort>(rt: &R, alloc: Global, blank: Blank) -> Result<(), Fail>
     requires table { blank.table ≡ B.table }
     requires shape { blank.shape ≡ B.shape }

@@ -4,7 +4,7 @@ use std::test::Fail;
 use tk_cli::Status;
 use tk_script::Cause;
 
-/// How many lines of the script of one text and of its tape are whole, what stands behind them, and
+/// How many lines of the script of one text and of its tape are whole, what stands after them, and
 /// how `serial` ends.
 const ENDS: [(usize, &str, Status); 6] = [
     (18, "", Status::Done),
@@ -43,7 +43,7 @@ const ENDS: [(usize, &str, Status); 6] = [
     ),
 ];
 
-/// Some lines of that text, and what stands behind them.
+/// Some lines of that text, and what stands after them.
 fn cut(alloc: Global, lines: usize, end: &str) -> Result<Vec<u8>, AllocError> {
     let mut text = Vec::new(alloc);
     for line in ONE_TEXT.split(|byte| *byte == b'\n').take(lines) {

@@ -8,7 +8,7 @@ use Rattle.std.proofs.lemmas.List.Sorted.{IsPermutation-refl, IsPermutation-cons
 use Rattle.std.proofs.lemmas.List.Sorted.{IsPermutation-middle, IsPermutation-sym}
 use Rattle.std.proofs.lemmas.List.Sorted.{IsPermutation-trans}
 
--- one that passes, with what stands before and behind it
+-- one that passes, with what stands before and after it
 pub record Found {X : Type 0} (test : X → Bool) (xs : List X) : Type 0 where
   pub front : List X
   pub item : X

@@ -38,7 +38,7 @@ LayoutHolds =
     (shape : Shape) (R : List Record) → AreOrdered shape R
     → IsLaidOut shape (retained shape R) (layout shape R)
 
--- what is left of the table when w comes behind R
+-- what is left of the table when w comes after R
 abbrev pub left_for : Shape → List Record → Record → SlotTable
 left_for shape R w = without_expired shape (window shape (R ++ w ∷ [])) (layout shape R)
 

@@ -4,7 +4,7 @@ use Rattle.tk_shape.specs.declared.shape.Shape.{Shape}
 use Rattle.tk_frames.specs.Order.{Record}
 use Rattle.tk_table.specs.Table.{retained, unexpired, is_displaced}
 
--- w comes behind R, and fewer records stay retained beside it than a bucket has slots
+-- w comes after R, and fewer records stay retained beside it than a bucket has slots
 abbrev pub FewFindPlaces : Type 0
 FewFindPlaces =
     (shape : Shape) (R : List Record) (w : Record) →

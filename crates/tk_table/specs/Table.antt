@@ -28,11 +28,11 @@ fit_together shape R = fit shape.buckets shape.depth (map pair_in R)
 
 -- ---- what is retained
 
--- the records that are still in the window when w comes behind R
+-- the records that are still in the window when w comes after R
 abbrev pub unexpired : Shape → List Record → Record → List Record → List Record
 unexpired shape R w K = filter (λ r. has_position (window shape (R ++ w ∷ [])) r.position) K
 
--- what is retained when w comes behind R, of which K is retained
+-- what is retained when w comes after R, of which K is retained
 unfoldable pub retained_with : Shape → List Record → List Record → Record → List Record
 retained_with shape R K w =
     let kept = unexpired shape R w K in
@@ -47,7 +47,7 @@ retained_on shape R K (w ∷ ws) = retained_on shape (R ++ w ∷ []) (retained_w
 abbrev pub retained : Shape → List Record → List Record
 retained shape R = retained_on shape [] [] R
 
--- w finds no place when it comes behind R
+-- w finds no place when it comes after R
 abbrev pub is_displaced : Shape → List Record → Record → Bool
 is_displaced shape R w = not (fit_together shape (unexpired shape R w (retained shape R) ++ w ∷ []))
 
@@ -99,7 +99,7 @@ placed_in T s = placed_at T s (search_end (others_from 0 T) (s.first, s.second))
 abbrev pub without_expired : Shape → List Record → SlotTable → SlotTable
 without_expired shape W T = map (map (λ s. cond (has_position W s.position) s (empty_slot shape))) T
 
--- the table when w comes behind R, for which it was T
+-- the table when w comes after R, for which it was T
 unfoldable pub layout_with : Shape → List Record → SlotTable → Record → SlotTable
 layout_with shape R T w =
     placed_in (without_expired shape (window shape (R ++ w ∷ [])) T) (slot_of w)

@@ -1,4 +1,4 @@
--- An end behind lines of which none is one.
+-- An end after lines of which none is one.
 use Rattle.std.proofs.Common.{◌≡◌, ℕ, List, [], ◌∷◌, ◌++◌, Bool, true, false, refl, ap, ◌∙◌}
 use Rattle.std.specs.Prelude.{cond, not}
 use Rattle.std.specs.List.{list_all}

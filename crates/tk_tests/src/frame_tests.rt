@@ -13,7 +13,7 @@ fn small_shape() -> Result<Shape, Fail> {
     }
 }
 
-/// Bytes, with zeros behind them up to a length.
+/// Bytes, with zeros after them up to a length.
 fn padded(alloc: Global, front: &[u8], len: usize) -> Result<Vec<u8>, AllocError> {
     let mut bytes = Vec::from_slice(alloc, front)?;
     bytes.resize(len, 0)?;
@@ -56,7 +56,7 @@ fn spell_placed(
     Ok(encode_placed(&placed.clone()?, out)?)
 }
 
-/// The front of a frame, its length with zeros behind, and the first fault that it has.
+/// The front of a frame, its length with zeros after, and the first fault that it has.
 type Refused = (Frame, &'static [u8], usize, FrameError);
 
 const REFUSED: [Refused; 21] = [

@@ -108,7 +108,7 @@ fn printed_tape_parsed(rt: HostRuntime) -> Result<(), ScriptError> {
 /// 32 bytes as they are printed.
 const FULL: &[u8] = b"x 0f0f0f0f0f0f0f0f0f0f0f0f0f0f0f0f0f0f0f0f0f0f0f0f0f0f0f0f0f0f0f0f\n";
 
-/// How many bytes a tape has, and what is printed of it behind another text.
+/// How many bytes a tape has, and what is printed of it after another text.
 const TAPES: [(usize, Parts); 4] = [
     (0, &[b"talek", b"tape\nend\n"]),
     (1, &[b"talek", b"tape\nx 0f\nend\n"]),

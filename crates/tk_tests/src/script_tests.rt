@@ -19,7 +19,7 @@ const FOUR: &[u8] = b"00000000000000aB00000000000000aB00000000000000aB0000000000
 const SEED: &[u8] =
     b"00000000000000aB\nseed 0123456789abcDEF0123456789abcDEF0123456789abcDEF0123456789abcDEF";
 
-/// The parts of a text, one behind the other.
+/// The parts of a text, one after the other.
 pub(crate) type Parts = &'static [&'static [u8]];
 
 /// Appends the parts of a text.

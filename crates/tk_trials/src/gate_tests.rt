@@ -65,7 +65,7 @@ const GATES: [(u32, u32, &[u8], &[u8]); 3] = [
     (1, 0, b"0", b"1"),
 ];
 
-/// The place of a word in the line of a report that begins so, behind its phase and tick.
+/// The place of a word in the line of a report that begins so, after its phase and tick.
 fn place_of(report: &[u8], start: &[u8], word: &[u8]) -> Option<usize> {
     let line = report
         .split(|byte| *byte == b'\n')

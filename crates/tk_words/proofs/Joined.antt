@@ -4,7 +4,7 @@ use Rattle.std.specs.List.{flat_map}
 use Rattle.std.proofs.lemmas.List.{take-take, drop-take, take-append-drop, take_all}
 use Rattle.tk_kernel.specs.Pieces.{pieces}
 
--- the first a + b bytes are the first a and the b behind them
+-- the first a + b bytes are the first a and the b after them
 take_two : (a b : ℕ) (xs : List ℕ) → take (a + b) xs ≡ take a xs ++ take b (drop a xs)
 take_two a b xs =
     sym (take-append-drop a (take (a + b) xs))

@@ -155,7 +155,7 @@ unfoldable pub fresh_write : Shape → WordBook → ℕ → ℕ → FreshWrite
 fresh_write shape (keyed handles seeds) g c = keyed_write shape (seed_at seeds c) g
 fresh_write shape (drawn tape) g c = cell_write shape (write_cell shape tape g c)
 
--- the two buckets of a read that is for nothing
+-- the two buckets of a dummy read
 unfoldable pub fresh_pair : Shape → WordBook → ℕ → ℕ → ℕ × ℕ
 fresh_pair shape (keyed handles seeds) g c =
     (word (seed_at seeds c) (2 * g + 1) 0 % shape.buckets, word (seed_at seeds c) (2 * g + 1) 1 % shape.buckets)

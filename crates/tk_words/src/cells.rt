@@ -40,7 +40,7 @@ pub(crate) fn cell_pair(shape: &Shape, cell: &[u8]) -> (u32, u32)
     )
 }
 
-// The filter positions behind them.
+// The filter positions after them.
 pub(crate) fn cell_hits(shape: &Shape, cell: &[u8], out: &mut [u32])
     requires cell_whole { length cell.now ≡ cell_len shape.now }
     requires room { length out.old ≡ shape.now.hits }
@@ -52,7 +52,7 @@ pub(crate) fn cell_hits(shape: &Shape, cell: &[u8], out: &mut [u32])
     }
 }
 
-// The block behind those.
+// The block after those.
 pub(crate) fn cell_block<'a>(shape: &Shape, cell: &'a [u8]) -> &'a [u8]
     requires { length cell.now ≡ cell_len shape.now }
     ensures block { result.now ≡ cell_block shape.now cell.now }

@@ -65,7 +65,7 @@ pub trait Draws: Sync {
         ensures { out.new
             ≡ sealed (words_of (shape self.now) (book self.now)) log number text.now };
 
-    /// The length of the text that seals to a block, if there is one: `out` has it, and zeros behind it. With
+    /// The length of the text that seals to a block, if there is one: `out` has it, and zeros after it. With
     /// none `out` is zeros.
     fn open(&self, log: u32, number: u32, block: &[u8], out: &mut [u8]) -> Option<usize>
         requires log_in { log < (shape self.now).logs }
@@ -99,7 +99,7 @@ pub trait Draws: Sync {
         ensures second_in { result.1 < (shape self.now).buckets }
         ensures hits_in { AllByRecursion (λ h. h < (shape self.now).filter_bits) hits.new };
 
-    /// The two buckets of a read that is for nothing, and the drawn vectors of any read: for the first bucket a vector
+    /// The two buckets of a dummy read, and the drawn vectors of any read: for the first bucket a vector
     /// for each server but the last, and then likewise for the second.
     fn fresh_read(&self, client: u32, turn: u32, vectors: &mut [u8]) -> (u32, u32)
         requires client_in { client < (shape self.now).clients }

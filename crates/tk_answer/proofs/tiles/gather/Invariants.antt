@@ -1,4 +1,4 @@
--- The blocks so far lie one behind the other.
+-- The blocks so far lie one after the other.
 use Rattle.std.proofs.Common.{◌≡◌, ◌-◌, ◌≤◌, take, drop}
 use Rattle.std.specs.List.{concat}
 use Rattle.tk_answer.proofs.tiles.gather.Given as goal

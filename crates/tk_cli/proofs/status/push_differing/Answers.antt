@@ -1,4 +1,4 @@
--- The name behind the word.
+-- The name after the word.
 use Rattle.std.proofs.Common.{◌∙◌, ◌++◌, ap, append_assoc, codes, ℕ, List}
 use Rattle.tk_cli.proofs.status.push_differing.Goals as goal
 

@@ -1,4 +1,4 @@
--- The last share lies behind the drawn vectors.
+-- The last share lies after the drawn vectors.
 use Rattle.std.proofs.Common.{◌≡◌, ◌∙◌, ap, ap₂, List, ℕ, ◌++◌, ◌-◌, ◌*◌, ◌%◌, length, arith}
 use Rattle.std.proofs.Common.{length-append}
 use Rattle.tk_shape.specs.Lengths.{vector_len}
@@ -8,7 +8,7 @@ use Rattle.tk_client.proofs.AskingLaws.{vector_bits, vector_some, whole_vectors,
 use Rattle.tk_client.proofs.AskingLaws.{last_behind, written_back}
 use Rattle.tk_client.proofs.asking.all_shares.Goals as goal
 
--- what is behind the drawn vectors is one vector
+-- what is after the drawn vectors is one vector
 long : (c : goal.After-all-5-1) →
     length c.split_at_mut-others.result.1.now ≡ vector_len c.args.shape.now
 long c =

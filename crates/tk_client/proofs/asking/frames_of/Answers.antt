@@ -1,4 +1,4 @@
--- The frame of the next server comes behind the earlier ones.
+-- The frame of the next server comes after the earlier ones.
 use Rattle.tk_shape.specs.Lengths.{vector_len}
 use Rattle.tk_kernel.specs.Pieces.{all_pieces}
 use Rattle.tk_client.proofs.AskingLaws.{frames_more}

@@ -1,4 +1,4 @@
--- The next frame's spelling comes behind the earlier ones.
+-- The next frame's spelling comes after the earlier ones.
 use Rattle.std.proofs.Common.{◌∙◌, ap, ap₂, sym, ◌∷◌, [], ◌++◌, List, ℕ}
 use Rattle.std.proofs.lemmas.List.{map_more}
 use Rattle.tk_frames.specs.Spelling.{read_frame}

@@ -1,4 +1,4 @@
--- One more handle stands behind the others.
+-- One more handle stands after the others.
 use Rattle.std.proofs.Common.{◌∙◌, ap}
 use Rattle.tk_make.specs.Making.{made_handle}
 use Rattle.tk_make.proofs.Ranges.{map_next}

@@ -1,4 +1,4 @@
--- One more seed stands behind the others.
+-- One more seed stands after the others.
 use Rattle.tk_make.specs.Making.{made_seed}
 use Rattle.tk_make.proofs.Ranges.{map_next}
 use Rattle.tk_make.proofs.keys.make_seeds.Goals as goal

@@ -1,4 +1,4 @@
--- One more role stands behind the others.
+-- One more role stands after the others.
 use Rattle.tk_make.specs.Making.{made_role}
 use Rattle.tk_make.proofs.Ranges.{map_next}
 use Rattle.tk_make.proofs.roles.make_roles.Goals as goal

@@ -1,4 +1,4 @@
--- What is said in one more tick stands behind the others, and at the end all is.
+-- What is said in one more tick stands after the others, and at the end all is.
 use Rattle.std.proofs.Common.{◌≡◌, ◌∙◌, ℕ, ◌-◌, ◌++◌, ap, arith, flat_map}
 use Rattle.std.specs.List.{range_with_len}
 use Rattle.tk_make.specs.Making.{said_in_tick}

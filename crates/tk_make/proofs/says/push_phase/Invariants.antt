@@ -1,4 +1,4 @@
--- What is said in the ticks so far stands behind what was there.
+-- What is said in the ticks so far stands after what was there.
 use Rattle.std.proofs.Common.{◌≡◌, ◌++◌, ◌-◌, flat_map}
 use Rattle.std.specs.List.{range_with_len}
 use Rattle.tk_make.specs.Making.{said_in_tick}

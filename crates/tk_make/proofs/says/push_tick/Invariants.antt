@@ -1,4 +1,4 @@
--- What is said on the logs so far stands behind what was there.
+-- What is said on the logs so far stands after what was there.
 use Rattle.std.proofs.Common.{◌≡◌, ◌++◌, map, filter}
 use Rattle.std.specs.List.{range_with_len}
 use Rattle.tk_make.specs.Making.{is_said, made_say}

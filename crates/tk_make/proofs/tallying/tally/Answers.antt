@@ -1,4 +1,4 @@
--- The lines of the counts stand behind what was there.
+-- The lines of the counts stand after what was there.
 use Rattle.std.proofs.Common.{◌∙◌, ℕ, List, ◌++◌, ap}
 use Rattle.tk_make.specs.Tallies.{lines_of_counts, tally_left}
 use Rattle.tk_make.proofs.tallying.tally.Goals as goal

@@ -1,4 +1,4 @@
--- Behind the last turn the reads are those of the whole run.
+-- After the last turn the reads are those of the whole run.
 use Rattle.std.proofs.Common.{◌≡◌, ℕ, subst, arith}
 use Rattle.tk_shape.specs.Lengths.{turn_count}
 use Rattle.tk_privacy.specs.Reads.{reads_before}

@@ -1,4 +1,4 @@
--- Behind the last turn all were seen.
+-- After the last turn all were seen.
 use Rattle.std.proofs.Common.{◌≡◌, ℕ, subst, arith}
 use Rattle.tk_shape.specs.Lengths.{turn_count}
 use Rattle.tk_words.specs.Words.{words_of}

@@ -1,4 +1,4 @@
--- What is seen of a turn stands behind what was seen before it.
+-- What is seen of a turn stands after what was seen before it.
 use Rattle.std.proofs.Common.{◌≡◌, ◌∙◌, ◌+◌, sym, subst, arith, length}
 use Rattle.std.proofs.lemmas.List.{with_items_is}
 use Rattle.tk_words.specs.Words.{words_of}

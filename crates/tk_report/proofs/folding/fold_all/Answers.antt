@@ -1,4 +1,4 @@
--- Behind the last turn the clients, with what those in their place know, are as at the end of the
+-- After the last turn the clients, with what those in their place know, are as at the end of the
 -- history.
 use Rattle.std.proofs.Common.{◌≡◌, ℕ, subst, arith}
 use Rattle.tk_shape.specs.Lengths.{turn_count}

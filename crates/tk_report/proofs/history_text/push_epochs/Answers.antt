@@ -1,4 +1,4 @@
--- One more epoch stands behind the others.
+-- One more epoch stands after the others.
 use Rattle.std.proofs.Common.{ℕ, ◌∷◌, ◌∙◌, ap, decimal}
 use Rattle.tk_schedule.specs.Schedule.{epoch_at}
 use Rattle.tk_report.proofs.ReportLaws.{next_number}

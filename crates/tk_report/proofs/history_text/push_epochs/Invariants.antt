@@ -1,4 +1,4 @@
--- The epochs of the clients so far stand behind what was there.
+-- The epochs of the clients so far stand after what was there.
 use Rattle.std.proofs.Common.{◌≡◌, ℕ, ◌++◌, ◌∷◌, flat_map, decimal}
 use Rattle.std.specs.List.{range_with_len}
 use Rattle.tk_schedule.specs.Schedule.{epoch_at}

@@ -1,4 +1,4 @@
--- One more turn stands behind the others, and at the end all do.
+-- One more turn stands after the others, and at the end all do.
 use Rattle.std.proofs.Common.{◌≡◌, ℕ, ◌++◌, ◌∙◌, ap, refl, flat_map, arith}
 use Rattle.std.specs.List.{range_with_len}
 use Rattle.tk_shape.specs.Lengths.{turn_count}

@@ -1,4 +1,4 @@
--- The turns so far stand behind what was there.
+-- The turns so far stand after what was there.
 use Rattle.std.proofs.Common.{◌≡◌, ◌++◌, flat_map}
 use Rattle.std.specs.List.{range_with_len}
 use Rattle.tk_report.specs.Report.{turn_lines}

@@ -1,4 +1,4 @@
--- The items so far stand behind what was there.
+-- The items so far stand after what was there.
 use Rattle.std.proofs.Common.{◌≡◌, ◌++◌, take}
 use Rattle.tk_script.specs.Grammar.{item_word}
 use Rattle.tk_report.proofs.ReportLaws.{spaced}

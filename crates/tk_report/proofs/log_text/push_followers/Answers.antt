@@ -1,4 +1,4 @@
--- What the log gave to one more follower stands behind the others, and at the end all do.
+-- What the log gave to one more follower stands after the others, and at the end all do.
 use Rattle.std.proofs.Common.{◌≡◌, ◌<◌, ℕ, List, ◌++◌, ◌∙◌, ap, sym, subst, length, take, flat_map}
 use Rattle.std.proofs.Common.{get_or, rules, arith}
 use Rattle.std.proofs.lemmas.List.{take_all}

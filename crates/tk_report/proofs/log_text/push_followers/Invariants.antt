@@ -1,4 +1,4 @@
--- What the log gave to the followers so far stands behind what was there.
+-- What the log gave to the followers so far stands after what was there.
 use Rattle.std.proofs.Common.{◌≡◌, ℕ, ◌++◌, flat_map, take}
 use Rattle.tk_report.specs.Leaving.{got_by}
 use Rattle.tk_report.specs.Report.{log_lines}

@@ -1,4 +1,4 @@
--- What one more log gave stands behind the others, and at the end all do.
+-- What one more log gave stands after the others, and at the end all do.
 use Rattle.std.proofs.Common.{◌≡◌, ℕ, ◌++◌, ◌∙◌, ap, refl, flat_map, arith}
 use Rattle.std.specs.List.{range_with_len}
 use Rattle.tk_report.specs.Leaving.{got_by}

@@ -1,4 +1,4 @@
--- What the logs so far gave stands behind what was there.
+-- What the logs so far gave stands after what was there.
 use Rattle.std.proofs.Common.{◌≡◌, ◌++◌, ℕ, flat_map}
 use Rattle.std.specs.List.{range_with_len}
 use Rattle.tk_report.specs.Leaving.{got_by}

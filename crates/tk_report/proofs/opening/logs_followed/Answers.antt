@@ -1,4 +1,4 @@
--- A log that is followed comes behind the earlier ones, and another changes nothing.
+-- A log that is followed comes after the earlier ones, and another changes nothing.
 use Rattle.std.proofs.Common.{◌≡◌, ◌∙◌, sym, ap, List, ℕ, [], ◌∷◌, ◌++◌, Vec, Global}
 use Rattle.std.specs.Prelude.{◌==◌}
 use Rattle.std.specs.List.{list_any}

@@ -1,4 +1,4 @@
--- A log that is written comes behind the earlier ones, and another changes nothing.
+-- A log that is written comes after the earlier ones, and another changes nothing.
 use Rattle.std.proofs.Common.{◌≡◌, ◌∙◌, sym, ap, List, ℕ, [], ◌∷◌, ◌++◌, Vec, Global, eq-eqb}
 use Rattle.std.proofs.Common.{ne_eqb}
 use Rattle.std.specs.Prelude.{◌==◌}

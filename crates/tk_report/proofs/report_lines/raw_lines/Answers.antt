@@ -1,4 +1,4 @@
--- One line more is told, and at one that stops, or behind all, the end.
+-- One line more is told, and at one that stops, or after all, the end.
 use Rattle.std.proofs.Common.{◌≡◌, ◌∙◌, ◌+◌, ap, sym, subst, ◌∷◌, ◌++◌, [], List, ℕ, arith}
 use Rattle.std.proofs.Common.{append_assoc, IsTrue}
 use Rattle.tk_schedule.specs.declared.raw.RawLine.{RawLine}
@@ -22,7 +22,7 @@ stopped old new n line rest behind text pushed stop lines told =
     ∙ ap (λ (xs : List RawLine). old ++ xs) (sym (ap (raw_from n) lines ∙ stop))
     ∙ told
 
--- behind all lines
+-- after all lines
 ended : (old more new : List RawLine) (n : ℕ) (kind : RawKind) (rest text : List ℕ) →
     more ≡ old ++ record { line = n; kind = kind } ∷ [] → kind ≡ no_line →
     new ≡ more ++ record { line = n; kind = End } ∷ [] → lines_of rest ≡ [] →

@@ -1,4 +1,4 @@
--- One more client's line stands behind the others, and at the end all do.
+-- One more client's line stands after the others, and at the end all do.
 use Rattle.std.proofs.Common.{◌≡◌, ◌∙◌, ◌++◌, ℕ, ap, flat_map, arith}
 use Rattle.std.specs.List.{range_with_len}
 use Rattle.tk_report.specs.Leaving.{unsent_by}

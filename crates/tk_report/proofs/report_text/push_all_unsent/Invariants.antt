@@ -1,4 +1,4 @@
--- The lines of the clients so far stand behind what was there.
+-- The lines of the clients so far stand after what was there.
 use Rattle.std.proofs.Common.{◌≡◌, ℕ, ◌++◌, flat_map}
 use Rattle.std.specs.List.{range_with_len}
 use Rattle.tk_report.specs.Leaving.{unsent_by}

@@ -1,4 +1,4 @@
--- The texts of the turn so far were said, and the place is not behind all of them.
+-- The texts of the turn so far were said, and the place is not after all of them.
 use Rattle.std.proofs.Common.{◌≡◌, ◌+◌, ◌≤◌, ℕ, length}
 use Rattle.tk_client.specs.Reader.{Reader}
 use Rattle.tk_report.specs.Clients.{AreClients, client_knowing}

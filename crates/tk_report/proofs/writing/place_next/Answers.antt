@@ -1,4 +1,4 @@
--- The entry stands behind those that were applied.
+-- The entry stands after those that were applied.
 use Rattle.std.proofs.Common.{◌∙◌, ◌+◌, ◌++◌, ◌∷◌, [], sym, subst, arith}
 use Rattle.std.specs.Prelude.{OnOk}
 use Rattle.tk_frames.specs.declared.entry.Placed.{Placed}

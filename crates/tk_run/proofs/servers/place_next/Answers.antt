@@ -1,4 +1,4 @@
--- The entry stands behind those that each server has taken.
+-- The entry stands after those that each server has taken.
 use Rattle.std.proofs.Common.{◌∙◌, ◌++◌, ◌∷◌, [], sym, subst, arith}
 use Rattle.std.specs.Prelude.{OnOk}
 use Rattle.tk_frames.specs.declared.entry.Placed.{Placed}

@@ -1,4 +1,4 @@
--- The reads so far are seen behind the entries.
+-- The reads so far are seen after the entries.
 use Rattle.std.proofs.Common.{◌≡◌, ◌++◌, take}
 use Rattle.std.specs.Prelude.{flat_map}
 use Rattle.tk_run.specs.Courses.{talk_seen}

@@ -1,4 +1,4 @@
--- One more client stands behind the others.
+-- One more client stands after the others.
 use Rattle.std.proofs.Common.{zero-add}
 use Rattle.std.proofs.lemmas.List.FromFn.{map-range_with_len_more}
 use Rattle.tk_schedule.specs.declared.item.Item.{Item}

@@ -1,4 +1,4 @@
--- One more turn has the next lines, and the bad line is left to those behind them.
+-- One more turn has the next lines, and the bad line is left to those after them.
 use Rattle.std.proofs.Common.{◌≡◌, ◌∙◌, ◌+◌, ◌-◌, ◌++◌, [], ◌∷◌, length, ap, arith, length-append, rules, refl, List}
 use Rattle.std.specs.Prelude.{ℕ, None}
 use Rattle.std.proofs.lemmas.Result.{err_from_is_err_and}

@@ -1,4 +1,4 @@
--- The turns so far have the first lines, and the bad line is left to those behind them.
+-- The turns so far have the first lines, and the bad line is left to those after them.
 use Rattle.std.proofs.Common.{◌≡◌, ℕ, ◌-◌, ◌<◌, ◌++◌, length, get_or, IsTrue}
 use Rattle.tk_shape.specs.Lengths.{turn_count}
 use Rattle.tk_schedule.specs.Due.{first_bad, bad_line}

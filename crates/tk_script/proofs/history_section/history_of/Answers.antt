@@ -1,4 +1,4 @@
--- What is behind the first line is the turns.
+-- What is after the first line is the turns.
 use Rattle.std.proofs.Common.{◌≡◌, Err, rules}
 use Rattle.tk_script.specs.Grammar.{lines_of}
 use Rattle.tk_script.specs.Reading.{read_history, read_turns}

@@ -1,4 +1,4 @@
--- The handles are read, and the seeds behind them.
+-- The handles are read, and the seeds after them.
 use Rattle.std.proofs.Common.{◌≡◌, Err, true, rules}
 use Rattle.tk_script.specs.Reading.{named, read_keys}
 use Rattle.tk_script.specs.Stands.{stands}

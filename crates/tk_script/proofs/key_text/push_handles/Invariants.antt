@@ -1,4 +1,4 @@
--- The lines of the handles so far stand behind what was there, and their arrays are of bytes.
+-- The lines of the handles so far stand after what was there, and their arrays are of bytes.
 use Rattle.std.proofs.Common.{◌≡◌, ◌++◌, map, take}
 use Rattle.std.specs.List.{AllByRecursion}
 use Rattle.tk_script.specs.Printing.{text_of, handle_line, HasHandle}

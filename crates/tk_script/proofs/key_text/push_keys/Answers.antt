@@ -1,4 +1,4 @@
--- The lines of the seeds stand behind those of the handles.
+-- The lines of the seeds stand after those of the handles.
 use Rattle.tk_script.proofs.TextOfLaws.{keys_text}
 use Rattle.tk_script.proofs.key_text.push_keys.Goals as goal
 

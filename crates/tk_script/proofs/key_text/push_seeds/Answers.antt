@@ -1,4 +1,4 @@
--- One more line stands behind the others.
+-- One more line stands after the others.
 use Rattle.std.proofs.Common.{◌<◌, length, arith}
 use Rattle.std.proofs.lemmas.List.{get_or_default}
 use Rattle.tk_script.specs.Printing.{seed_line, HasSeed}

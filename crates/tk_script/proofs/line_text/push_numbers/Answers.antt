@@ -1,4 +1,4 @@
--- At the end all numbers stand behind the word.
+-- At the end all numbers stand after the word.
 use Rattle.std.proofs.Common.{◌≡◌, ◌++◌, ◌∙◌, ap, rules, take}
 use Rattle.std.proofs.lemmas.List.{take_all}
 use Rattle.tk_script.specs.Printing.{number_fields}

@@ -1,4 +1,4 @@
--- The word and the numbers so far stand behind what was there.
+-- The word and the numbers so far stand after what was there.
 use Rattle.std.proofs.Common.{◌≡◌, ◌++◌, take}
 use Rattle.tk_script.specs.Printing.{number_fields}
 use Rattle.tk_script.proofs.line_text.push_numbers.Given as goal

@@ -1,4 +1,4 @@
--- The text up to its first line feed, and the text behind it.
+-- The text up to its first line feed, and the text after it.
 use Rattle.std.proofs.Common.{◌≡◌, ◌<◌, ◌∷◌, ◌-◌, [], length, take, drop, arith, rules, ap, sym, ◌∙◌, List, ℕ}
 use Rattle.std.proofs.lemmas.List.{take_rest}
 use Rattle.tk_script.specs.Grammar.{lines_of}

@@ -1,4 +1,4 @@
--- The scripts are read one after the other, then the history, and then what is behind it.
+-- The scripts are read one after the other, then the history, and then what is after it.
 use Rattle.std.proofs.Common.{◌≡◌, ◌∙◌, Err, false, ap, sym, subst, rules}
 use Rattle.tk_script.specs.Answer.{IsRefusal}
 use Rattle.tk_script.specs.Grammar.{lines_of}

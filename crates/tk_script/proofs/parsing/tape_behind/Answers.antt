@@ -1,4 +1,4 @@
--- The tape of a drawn script is read, and nothing stands behind it.
+-- The tape of a drawn script is read, and nothing stands after it.
 use Rattle.std.proofs.Common.{◌≡◌, ◌∙◌, Err, true, false, ap, sym, subst, rules}
 use Rattle.std.specs.Prelude.{is_some}
 use Rattle.tk_shape.specs.Lengths.{tape_len}

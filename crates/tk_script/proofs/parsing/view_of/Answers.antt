@@ -1,4 +1,4 @@
--- The script is read, then the history, and then what is behind it.
+-- The script is read, then the history, and then what is after it.
 use Rattle.std.proofs.Common.{◌≡◌, ◌∙◌, Err, true, ap, sym, subst, rules}
 use Rattle.tk_script.specs.Answer.{IsRefusal}
 use Rattle.tk_script.specs.Grammar.{lines_of}

@@ -1,4 +1,4 @@
--- The parts of a script stand one behind the other.
+-- The parts of a script stand one after the other.
 use Rattle.std.proofs.Common.{◌≡◌, ◌++◌, ◌∷◌, [], codes}
 use Rattle.std.proofs.lemmas.Result.{on_ok_weaker}
 use Rattle.tk_script.specs.Printing.{text_of}

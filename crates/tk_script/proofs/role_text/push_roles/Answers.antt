@@ -1,4 +1,4 @@
--- One more line stands behind the others.
+-- One more line stands after the others.
 use Rattle.std.proofs.Common.{◌<◌, length, arith}
 use Rattle.tk_script.specs.Grammar.{role_line}
 use Rattle.tk_script.proofs.TextOfLaws.{text_of-next}

@@ -1,4 +1,4 @@
--- The lines of the texts so far stand behind what was there.
+-- The lines of the texts so far stand after what was there.
 use Rattle.std.proofs.Common.{◌≡◌, ◌++◌, map, take}
 use Rattle.tk_script.specs.Grammar.{say_line}
 use Rattle.tk_script.specs.Printing.{text_of}

@@ -1,4 +1,4 @@
--- The text up to its first space, and the text behind it.
+-- The text up to its first space, and the text after it.
 use Rattle.std.proofs.lemmas.List.{take_rest}
 use Rattle.tk_script.proofs.TurnParts.{parts-first, parts-whole}
 use Rattle.tk_script.proofs.turn_line.first_part.Goals as goal

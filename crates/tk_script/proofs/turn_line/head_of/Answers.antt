@@ -5,7 +5,7 @@ use Rattle.tk_script.proofs.OptionLaws.{none-then, some-then, if-none}
 use Rattle.tk_script.proofs.TurnParts.{kind-one, kind-two, kind-three, kind-no_phase, kind-no_tick, parts-four}
 use Rattle.tk_script.proofs.turn_line.head_of.Goals as goal
 
--- what stands behind a part
+-- what stands after a part
 abbrev IsBehind : List ℕ → List ℕ → Bor (List ℕ) → Type 0
 IsBehind text part rest = parts_of text ≡ part ∷ parts_of rest.now
 

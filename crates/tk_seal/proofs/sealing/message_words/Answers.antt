@@ -1,4 +1,4 @@
--- The key's words come first, and behind the next eight those of the pad.
+-- The key's words come first, and after the next eight those of the pad.
 use Rattle.std.proofs.Common.{◌≡◌, ℕ, ap, ◌∙◌, arith}
 use Rattle.tk_handle.specs.Handle.{Place, key_bytes}
 use Rattle.tk_handle.proofs.Offers.{placed}

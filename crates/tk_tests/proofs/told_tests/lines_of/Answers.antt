@@ -1,4 +1,4 @@
--- The End stands behind lines of which none is one.
+-- The End stands after lines of which none is one.
 use Rattle.tk_tests.proofs.EndLaws.{end_behind_told}
 use Rattle.tk_tests.proofs.told_tests.lines_of.Goals as goal
 

@@ -1,4 +1,4 @@
--- All blocks behind some are a run.
+-- All blocks after some are a run.
 use Rattle.std.proofs.Common.{◌≡◌, ◌∙◌, ◌-◌, ◌*◌, ◌/◌, ◌<◌, length, take, drop, arith, rules}
 use Rattle.tk_kernel.specs.Pieces.{all_pieces}
 use Rattle.tk_kernel.proofs.Offers.{length-pieces}

@@ -1,4 +1,4 @@
--- A frame for each server comes behind the others.
+-- A frame for each server comes after the others.
 use Rattle.std.proofs.Common.{◌∙◌, ap, ◌+◌, List, ℕ, length, map, length-append}
 use Rattle.std.proofs.lemmas.List.{length-map}
 use Rattle.tk_frames.specs.declared.read_frame.ReadFrame.{ReadFrame}

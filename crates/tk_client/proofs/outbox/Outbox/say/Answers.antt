@@ -1,4 +1,4 @@
--- A text is refused for its first fault, or waits behind the others.
+-- A text is refused for its first fault, or waits after the others.
 use Rattle.std.proofs.Common.{◌≡◌, sym, ap, subst, ◌∙◌, map}
 use Rattle.std.proofs.Common.{arith}
 use Rattle.std.specs.Prelude.{position, Some, None, IfErr, set}

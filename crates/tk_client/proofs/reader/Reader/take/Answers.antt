@@ -1,4 +1,4 @@
--- The logs are as the answer has them, and the cursor stands behind the place.
+-- The logs are as the answer has them, and the cursor stands after the place.
 use Rattle.std.proofs.Common.{◌≡◌, ◌∙◌, ap, ◌+◌, ◌%◌, arith, rules, List, length}
 use Rattle.std.specs.Prelude.{◌==◌, not, slice_set}
 use Rattle.tk_client.specs.Reader.{Follow, Reader, follow_after}

@@ -1,4 +1,4 @@
--- Each frame comes behind those that were read.
+-- Each frame comes after those that were read.
 use Rattle.std.proofs.Common.{◌≡◌, ◌∙◌, ap, sym, subst, List, [], ◌∷◌, ◌++◌, ℕ, ◌+◌, take, Err}
 use Rattle.std.proofs.Common.{IfErr, rules}
 use Rattle.std.proofs.lemmas.List.{take_more}

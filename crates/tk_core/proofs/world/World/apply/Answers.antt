@@ -1,4 +1,4 @@
--- The next entry is the one behind those that the server has applied.
+-- The next entry is the one after those that the server has applied.
 use Rattle.std.proofs.Common.{◌∙◌, ◌-◌}
 use Rattle.std.proofs.Common.{ap, arith}
 use Rattle.tk_core.specs.declared.event.Event.TheVariants as events

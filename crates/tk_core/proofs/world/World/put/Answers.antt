@@ -1,4 +1,4 @@
--- The write stands behind the others.
+-- The write stands after the others.
 use Rattle.std.proofs.Common.{◌≡◌, ◌∙◌, ◌+◌, ◌++◌, ◌∷◌, [], length}
 use Rattle.std.proofs.Common.{ap, sym, subst, arith}
 use Rattle.tk_frames.specs.declared.entry.Placed.{Placed}

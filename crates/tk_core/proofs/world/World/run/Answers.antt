@@ -1,4 +1,4 @@
--- Each event comes behind those before it.
+-- Each event comes after those before it.
 use Rattle.std.proofs.Common.{◌≡◌, ◌∙◌, ap, ap₂, sym, subst, refl, List, [], ◌∷◌, ◌++◌}
 use Rattle.std.proofs.Common.{append_assoc}
 use Rattle.tk_shape.specs.declared.shape.Shape.{Shape}

@@ -1,4 +1,4 @@
--- The bytes of the next words, and the place behind them.
+-- The bytes of the next words, and the place after them.
 use Rattle.std.proofs.Common.{◌<◌, ◌^◌, ap, length, arith}
 use Rattle.rand_chacha.specs.ChaCha.{ChaCha}
 use Rattle.tk_handle.specs.Handle.{Place}

@@ -1,4 +1,4 @@
--- The word at the place, and the place behind it.
+-- The word at the place, and the place after it.
 use Rattle.std.proofs.Common.{◌≡◌, ℕ, ◌+◌, ◌%◌, ◌^◌, ap, ap₂, ◌∙◌, arith}
 use Rattle.rand_chacha.specs.ChaCha.{ChaCha, word_at}
 use Rattle.tk_handle.specs.Handle.{Place, word}

@@ -1,4 +1,4 @@
--- One cell more stands behind the others, and at the end all do.
+-- One cell more stands after the others, and at the end all do.
 use Rattle.std.proofs.Common.{◌≡◌, ◌∙◌, ◌++◌, ℕ, ap, arith}
 use Rattle.tk_shape.specs.Lengths.{turn_count}
 use Rattle.tk_script.specs.Sent.{sent_as, writer_of}

@@ -1,4 +1,4 @@
--- The cells of the numbers so far stand behind what was there.
+-- The cells of the numbers so far stand after what was there.
 use Rattle.std.proofs.Common.{◌≡◌, ◌++◌, ℕ}
 use Rattle.tk_script.specs.Sent.{sent_as, writer_of}
 use Rattle.tk_privacy.specs.Privacy.{cells}

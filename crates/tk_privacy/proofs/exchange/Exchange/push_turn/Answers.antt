@@ -1,4 +1,4 @@
--- One cell more stands behind the others.
+-- One cell more stands after the others.
 use Rattle.std.proofs.Common.{ℕ}
 use Rattle.tk_script.specs.Sent.{sent}
 use Rattle.tk_privacy.specs.Exchanging.{write_exchanged}

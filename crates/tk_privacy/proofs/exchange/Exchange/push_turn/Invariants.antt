@@ -1,4 +1,4 @@
--- The cells of the clients so far stand behind what was there.
+-- The cells of the clients so far stand after what was there.
 use Rattle.std.proofs.Common.{◌≡◌, ◌++◌, ℕ}
 use Rattle.tk_script.specs.Sent.{sent}
 use Rattle.tk_privacy.specs.Privacy.{cells}

@@ -1,4 +1,4 @@
--- The cells of one turn more stand behind the others, and at the end all do.
+-- The cells of one turn more stand after the others, and at the end all do.
 use Rattle.std.proofs.Common.{◌≡◌, ◌∙◌, ◌++◌, ℕ, ap, arith}
 use Rattle.tk_shape.specs.Lengths.{turn_count}
 use Rattle.tk_privacy.specs.Privacy.{cells}

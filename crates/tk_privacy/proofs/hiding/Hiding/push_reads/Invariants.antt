@@ -1,4 +1,4 @@
--- The cells of the turns so far stand behind what was there.
+-- The cells of the turns so far stand after what was there.
 use Rattle.std.proofs.Common.{◌≡◌, ◌++◌}
 use Rattle.tk_privacy.specs.Privacy.{cells}
 use Rattle.tk_privacy.specs.Hiding.{reads_of_turn}

@@ -1,4 +1,4 @@
--- One cell more stands behind the others.
+-- One cell more stands after the others.
 use Rattle.tk_privacy.specs.Hiding.{hidden_read}
 use Rattle.tk_privacy.proofs.ExchangingLaws.{next_cell}
 use Rattle.tk_privacy.proofs.hiding.Hiding.push_turn.Goals as goal

@@ -1,4 +1,4 @@
--- An epoch lies as far behind the first as its number is above that of the first.
+-- An epoch lies as far after the first as its number is above that of the first.
 use Rattle.std.proofs.Common.{◌≡◌, ◌-◌, subst}
 use Rattle.std.specs.Arc.{arc_value}
 use Rattle.tk_replica.specs.Replica.{ReplicaView, replica_with}

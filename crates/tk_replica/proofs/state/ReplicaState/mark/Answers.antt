@@ -1,4 +1,4 @@
--- The new epoch stands behind the others.
+-- The new epoch stands after the others.
 use Rattle.std.proofs.Common.{◌≡◌, ap₂, subst, [], ◌∷◌, ◌++◌}
 use Rattle.std.specs.Arc.{arc_value}
 use Rattle.tk_replica.specs.declared.epoch.Epoch.{Epoch}

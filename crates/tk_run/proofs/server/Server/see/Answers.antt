@@ -1,4 +1,4 @@
--- A read and its reply are seen behind the earlier ones.
+-- A read and its reply are seen after the earlier ones.
 use Rattle.std.proofs.Common.{◌∙◌, ◌<◌, ◌++◌, List, ℕ, ap, arith, length}
 use Rattle.tk_run.proofs.ServerLaws.{pairs-seen}
 use Rattle.tk_run.proofs.server.Server.see.Goals as goal

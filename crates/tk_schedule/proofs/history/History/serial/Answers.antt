@@ -1,4 +1,4 @@
--- One more turn of the serial history stands behind the others.
+-- One more turn of the serial history stands after the others.
 use Rattle.std.proofs.Common.{zero-add, rules, sym, subst}
 use Rattle.std.proofs.lemmas.List.FromFn.{map-range_with_len_more}
 use Rattle.tk_schedule.specs.Schedule.{serial_turn, serial_history, IsLegal}
