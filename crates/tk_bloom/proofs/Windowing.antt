@@ -1,10 +1,11 @@
 -- A window of positions, as one of pushes.
-use Rattle.std.proofs.Common.{◌≡◌, ℕ, suc, ◌-◌, ◌*◌, ◌/◌, ◌%◌, ◌<◌, ◌≤◌, List, [], ◌∷◌, ◌++◌, length, drop, All, sym, ap, ◌∙◌, mul_comm, add-zero, arith, length-append, length-drop}
+use Rattle.std.proofs.Common.{◌≡◌, ℕ, suc, ◌+◌, ◌-◌, ◌*◌, ◌/◌, ◌%◌, ◌<◌, ◌≤◌, List, [], ◌∷◌, ◌++◌, length, get_or, take, drop, All, sym, ap, ◌∙◌, mul_comm, add-zero, arith, length-append, length-drop}
 use Rattle.std.proofs.Math.Nat.{mul-sub, mul-le-mul_right}
 use Rattle.std.proofs.lemmas.Nat.{div-add-mod', div-mul-add, mod-mul-add}
 use Rattle.std.proofs.lemmas.List.{drop-append-le}
 use Rattle.std.proofs.lemmas.Grind.{common_steps}
 use Rattle.tk_kernel.specs.Pieces.{pieces}
+use Rattle.tk_kernel.proofs.Offers.{get_or-pieces}
 use Rattle.tk_bloom.specs.Windows.{window, pushes_in, HoldsPushes}
 use Rattle.tk_bloom.specs.Counts.{Counted}
 use Rattle.tk_bloom.specs.Filters.{positions_of}
@@ -98,3 +99,27 @@ module _ (hits retained : ℕ) (tally : Counted) (are : HoldsPushes hits retaine
   -- the positions of the pushes are those that are counted
   pub positions_of-pushes_in : positions_of (pushes_in hits tally.positions) ≡ tally.positions
   positions_of-pushes_in = positions_of-pieces hits _ tally.positions (count_times _ hits are.whole)
+
+  -- how many pushes there are
+  pub length-pushes_in :
+      length (pushes_in hits tally.positions) * hits ≡ length tally.positions
+  length-pushes_in =
+      ap (λ n. n * hits) (length-pieces hits (length tally.positions / hits) tally.positions)
+      ∙ sym (count_times _ hits are.whole)
+
+  -- a push ends with the positions at the latest
+  pub push_within : (i : ℕ) → i < length (pushes_in hits tally.positions)
+      → i * hits + hits ≤ length tally.positions
+  push_within i low =
+      let all = length-pushes_in in
+      let less : suc i ≤ length (pushes_in hits tally.positions) = omega arith in
+      let more = mul-le-mul_right hits less in
+      omega arith
+
+  -- each push is a part of the positions
+  pub push_at : (i : ℕ) (d : List ℕ) → i < length (pushes_in hits tally.positions)
+      → take hits (drop (i * hits) tally.positions) ≡ get_or (pushes_in hits tally.positions) i d
+  push_at i d low =
+      let count = length tally.positions / hits in
+      let long = length-pieces hits count tally.positions in
+      sym (get_or-pieces hits count i tally.positions d (omega arith))

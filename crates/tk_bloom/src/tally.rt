@@ -1,34 +1,33 @@
-ghost use Rattle.std.specs.Prelude.{◌≡◌, ◌+◌, ◌<◌, ◌≤◌, ◌++◌, [], ◌∷◌, length, map, drop};
+ghost use Rattle.std.specs.Prelude.{◌≡◌, ◌+◌, ◌<◌, ◌≤◌, ◌++◌, [], ◌∷◌, length, map, take, drop};
 ghost use Rattle.std.specs.Prelude.{nat_lt, IfOk, All};
 ghost use Rattle.tk_bloom.specs.Filters.{marks_of};
 ghost use Rattle.tk_bloom.specs.Windows.{window};
 
 use crate::Memory;
+use crate::queue::Queue;
 use std::alloc::{AllocError, Global};
-use std::collections::VecDeque;
 use std::marker::Model;
 
 /// Positions in the order in which they came, and how often each of them occurs.
 #[derive(Debug, Drop)]
 pub(crate) struct Tally {
-    queue: VecDeque<u32>,
+    queue: Queue,
     counts: Vec<u32>,
 }
 
 impl Model for Tally {
     ghost use Rattle.std.specs.Prelude.{length};
-    ghost use Rattle.std.specs.VecDeque.{deque_capacity};
     ghost use Rattle.tk_bloom.specs.Counts.{Counted, AreCounts};
 
     ghost Value = { Counted };
 
     ghost view = { λ t. record {
       bits = length t.counts.items;
-      room = deque_capacity t.queue;
-      positions = t.queue.items;
+      room = t.queue.room;
+      positions = t.queue.positions;
     } };
 
-    ghost invariant = { λ t. AreCounts t.counts.items t.queue.items (deque_capacity t.queue) };
+    ghost invariant = { λ t. AreCounts t.counts.items t.queue.positions t.queue.room };
 }
 
 impl Tally {
@@ -37,7 +36,7 @@ impl Tally {
         ensures { IfOk result (λ t. t ≡ record { bits = bits; room = room; positions = [] }) }
     {
         Ok(Tally {
-            queue: VecDeque::with_capacity(alloc, room as usize)?,
+            queue: Queue::open(alloc, room)?,
             counts: vec![in alloc; 0; bits as usize]?,
         })
     }
@@ -55,7 +54,7 @@ impl Tally {
         requires in_range { hit < self.old.bits }
         ensures { self.new ≡ record self.old { positions = self.old.positions ++ hit ∷ [] } }
     {
-        self.queue.push_back(hit).unwrap();
+        self.queue.push_back(hit);
         self.counts[hit as usize] += 1;
     }
 
@@ -64,7 +63,7 @@ impl Tally {
         requires { 0 < length self.old.positions }
         ensures { self.new ≡ record self.old { positions = drop 1 self.old.positions } }
     {
-        let hit = self.queue.pop_front().unwrap();
+        let hit = self.queue.pop_front();
         self.counts[hit as usize] -= 1;
     }
 
@@ -86,6 +85,14 @@ impl Tally {
         while self.len() > count {
             self.pop_front();
         }
+    }
+
+    /// `count` positions, from number `from` on.
+    pub(crate) fn part(&self, from: usize, count: usize) -> &[u32]
+        requires { from + count ≤ length self.now.positions }
+        ensures { result.now ≡ take count (drop from self.now.positions) }
+    {
+        self.queue.part(from, count)
     }
 
     /// For each position whether it occurs.

@@ -1,7 +1,7 @@
-ghost use Rattle.std.specs.Prelude.{◌≡◌, ℕ, ◌<◌, ◌≤◌, List, ◌++◌, [], ◌∷◌, length};
-ghost use Rattle.std.specs.Prelude.{IfOk, All, IsTrue};
+ghost use Rattle.std.specs.Prelude.{◌≡◌, ℕ, ◌*◌, ◌%◌, ◌<◌, ◌≤◌, List, ◌++◌, [], ◌∷◌, length};
+ghost use Rattle.std.specs.Prelude.{slice_index_or, IfOk, All, IsTrue};
 ghost use Rattle.tk_bloom.specs.Filters.{marks_of, positions_of, is_shown, all_marked};
-ghost use Rattle.tk_bloom.specs.Windows.{window};
+ghost use Rattle.tk_bloom.specs.Windows.{window, pushes_in};
 
 use crate::tally::Tally;
 use crate::{Filter, Memory};
@@ -49,6 +49,50 @@ impl Window {
             retained,
             tally: Tally::open(alloc, bits, hits * retained)?,
         })
+    }
+
+    /// A window that has taken these pushes, the oldest first, whose positions lie in one row. It
+    /// takes all its memory here.
+    pub fn restore(
+        alloc: Global,
+        bits: u32,
+        hits: u32,
+        retained: u32,
+        pushed: &[u32],
+    ) -> Result<Window, Memory>
+        requires some_bits { 1 ≤ bits }
+        requires most_bits { bits ≤ 65536 }
+        requires some_hits { 1 ≤ hits }
+        requires most_hits { hits ≤ 4 }
+        requires some_retained { 1 ≤ retained }
+        requires most_retained { retained ≤ 131072 }
+        requires whole { length pushed.now % hits ≡ 0 }
+        requires few { length pushed.now ≤ hits * retained }
+        requires in_range { All (λ h. h < bits) pushed.now }
+        ensures { IfOk result (λ w. w ≡ record {
+          bits = bits;
+          hits = hits;
+          retained = retained;
+          pushes = pushes_in hits pushed.now;
+        }) }
+    {
+        let mut tally = Tally::open(alloc, bits, hits * retained)?;
+        tally.append(pushed);
+        Ok(Window {
+            hits,
+            retained,
+            tally,
+        })
+    }
+
+    /// The positions of the push number `i` that is kept, from 0, the oldest first. Nothing is
+    /// copied.
+    pub fn hits_at(&self, i: u32) -> &[u32]
+        requires { i < length self.now.pushes }
+        ensures { (d : List ℕ) → result.now ≡ slice_index_or self.now.pushes i d }
+    {
+        let hits = self.hits as usize;
+        self.tally.part(i as usize * hits, hits)
     }
 
     /// Takes the positions of one more write. Where the window is full, the oldest push leaves it.

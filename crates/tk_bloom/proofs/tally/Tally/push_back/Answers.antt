@@ -1,5 +1,4 @@
-use Rattle.std.proofs.Common.{◌≡◌, ◌++◌, [], ◌∷◌, deque_capacity, arith, rules}
-use Rattle.std.proofs.lemmas.Grind.{common_steps}
+use Rattle.std.proofs.Common.{rules}
 use Rattle.tk_bloom.proofs.Counting.{one_more_countable, counts_up}
 use Rattle.tk_bloom.proofs.tally.Tally.push_back.Goals as goal
 
@@ -14,8 +13,5 @@ overflow_add-index_mut c =
 pub invariant_of-self : goal.invariant_of-self
 invariant_of-self c =
     let below = rw (← c.self.view_is) at c.requires.in_range in
-    let items : c.push_back.new.self.items ≡ c.self.inside.queue.items ++ c.args.hit ∷ [] =
-    search rules in
-    let capacity : deque_capacity c.push_back.new.self ≡ deque_capacity c.self.inside.queue =
-    grind (arith, common_steps) in
-    rw (items, capacity) (counts_up _ _ _ _ _ below c.index_mut.ensures.value c.self.invariant)
+    rw (c.push_back.ensures.positions, c.push_back.ensures.room)
+    (counts_up _ _ _ _ _ below c.index_mut.ensures.value c.self.invariant)
