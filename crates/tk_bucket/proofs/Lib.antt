@@ -9,4 +9,6 @@ pub mod Sized
 pub mod Powers
 pub mod PerPage
 pub mod BecomeShared
+pub mod Filled
 pub mod Opened
+pub mod Offers

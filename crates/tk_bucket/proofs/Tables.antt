@@ -2,16 +2,16 @@
 use Rattle.std.proofs.Common.{◌≡◌, ℕ, zero, suc, ◌+◌, ◌*◌, ◌<◌, ◌≤◌, List, [], ◌∷◌, ◌++◌, map, length, get_or, set, take, drop, replicate, refl, sym, ap, ap₂, ◌∙◌, arith}
 use Rattle.std.specs.List.{concat, flat_map}
 use Rattle.std.proofs.lemmas.Nat.{row_fits}
-use Rattle.std.proofs.lemmas.List.{length-map, length-drop, length-take-le, drop-drop, take-take, map-set, get_or-map, length-replicate}
+use Rattle.std.proofs.lemmas.List.{length-map, length-drop, length-take-le, drop-drop, take-take, map-set, get_or-map}
 use borrow.Rule.Slice.PartMut.{put_mid}
 use Rattle.tk_kernel.specs.Pieces.{pieces}
-use Rattle.tk_kernel.proofs.Offers.{length-pieces, concat-pieces}
+use Rattle.tk_kernel.proofs.Offers.{length-pieces, get_or-pieces, concat-pieces}
 use Rattle.tk_bucket.specs.Sizes.{IsSizes, slot_len, bucket_len}
 use Rattle.tk_bucket.specs.Table.{empty_slot, empty_table, bucket_at, slot_at, with_slot, IsSized}
 use Rattle.tk_bucket.specs.Bytes.{slot_bytes, blocks_of}
 use Rattle.tk_frames.specs.Slots.{slot_from}
 use Rattle.tk_bucket.specs.Packing.{bucket_in, table_in}
-use Rattle.tk_bucket.proofs.Pages.{take-drop-take, put_mid-within, length-put_mid, get_or-pieces, pieces-put_mid, pieces-replicate}
+use Rattle.tk_bucket.proofs.Pages.{take-drop-take, put_mid-within, length-put_mid, pieces-put_mid, pieces-replicate}
 use Rattle.tk_bucket.proofs.OneSlot.{IsBytes, IsBytes-take, IsBytes-drop, slot_bytes-slot_from, slot_from-zeros}
 
 -- ---- places
@@ -168,9 +168,3 @@ module _ (buckets depth block b s at k : ℕ) (bytes : List ℕ) (in_table : b <
   slot_written x e =
       ap₂ (λ n m. table_in buckets depth block (put_mid m n bytes x)) lasts begins
       ∙ table_in-put_mid buckets depth block b s bytes x in_table in_bucket long e
-
-  pub slot_cleared : (x : List ℕ) → x ≡ replicate (slot_len block) 0 →
-      table_in buckets depth block (put_mid at k bytes x) ≡ with_slot (table_in buckets depth block bytes) (b, s) (empty_slot block)
-  slot_cleared x e =
-      slot_written x (ap length e ∙ length-replicate (slot_len block) 0)
-      ∙ ap (with_slot (table_in buckets depth block bytes) (b, s)) (ap slot_from e ∙ slot_from-zeros block)

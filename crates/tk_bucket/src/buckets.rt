@@ -1,17 +1,18 @@
-ghost use Rattle.std.specs.Prelude.{◌≡◌, ◌≢◌, ◌/◌, ◌<◌, ◌≤◌, length, map, max, replicate};
+ghost use Rattle.std.specs.Prelude.{◌≡◌, ◌≢◌, ◌*◌, ◌/◌, ◌<◌, ◌≤◌, length, map, max, replicate};
 ghost use Rattle.std.specs.Prelude.{true, false, IsTrue, IfOk};
 ghost use Rattle.tk_bucket.specs.Sizes.{IsSizes, bucket_len};
 ghost use Rattle.tk_bucket.specs.Table.{Slot, IsSized, empty_table, empty_slot, is_empty};
 ghost use Rattle.tk_bucket.specs.Table.{slot_at, with_slot, with_moved};
 ghost use Rattle.tk_bucket.specs.Shown.{Shows, shown};
 ghost use Rattle.tk_bucket.specs.Bytes.{blocks_of};
+ghost use Rattle.tk_bucket.specs.Packing.{table_in};
 ghost use Rattle.tk_bucket.specs.Paging.{IsPaged, shared_count, with_changed};
 ghost use Rattle.tk_bucket.specs.Holding.{is_shared};
 
 use crate::changes::write_slot;
 use crate::cut::Cut;
 use crate::held::{Held, bytes_of};
-use crate::opening::empty_pages;
+use crate::opening::{empty_pages, filled_pages};
 use crate::sharing::share_all;
 use crate::sizes::Sizes;
 use crate::slots::slot_at;
@@ -66,6 +67,40 @@ impl Buckets {
         let page_len = cut.page.table_len() as u32;
         let pages = empty_pages(alloc, page_len, cut.page_of(buckets))?;
         let pool = PagePool::new(alloc, page_len);
+        Ok(Buckets { cut, pages, pool })
+    }
+
+    /// A table with the slots of these bytes, bucket after bucket. It reserves all its pages first, and
+    /// then takes them.
+    pub fn restore(
+        alloc: Global,
+        buckets: u32,
+        depth: u32,
+        block: u32,
+        bytes: &[u8],
+    ) -> Result<Buckets, Memory>
+        requires sizes { IsSizes buckets depth block }
+        requires whole { length bytes.now ≡ buckets * bucket_len depth block }
+        ensures contents { IfOk result (λ b. b.contents ≡ record {
+          buckets = buckets;
+          depth = depth;
+          block = block;
+          table = table_in buckets depth block bytes.now;
+        }) }
+        ensures owned { IfOk result (λ b. b.paging.shared
+            ≡ replicate (length b.paging.shared) false) }
+        ensures spare { IfOk result (λ b. b.paging.spare ≡ 0) }
+    {
+        let cut = Cut::of(Sizes {
+            buckets,
+            depth,
+            block,
+        });
+        let page_len = cut.page.table_len() as u32;
+        let count = cut.page_of(buckets);
+        let mut pool = PagePool::new(alloc, page_len);
+        pool.reserve(alloc, count)?;
+        let pages = filled_pages(alloc, &mut pool, page_len, count, bytes)?;
         Ok(Buckets { cut, pages, pool })
     }
 

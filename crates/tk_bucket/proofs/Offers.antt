@@ -1,0 +1,4 @@
+-- What the proofs of other crates may cite.
+
+-- A bucket of the table that bytes stand for, and a slot of it.
+pub use Rattle.tk_bucket.proofs.Tables.{bucket_at-table_in, slot_at-table_in}
