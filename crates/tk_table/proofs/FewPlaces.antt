@@ -1,10 +1,8 @@
 -- As many entries as a bucket has slots can all lie in the first bucket of their pairs.
-use Rattle.std.proofs.Common.{◌≡◌, refl, ap, arith, inl, ℕ, suc, ◌+◌, ◌<◌, ◌≤◌, ◌==◌}
-use Rattle.std.proofs.Common.{List, [], ◌∷◌, ◌++◌, length, map, not, count_by}
+use Rattle.std.proofs.Common.{◌≡◌, refl, ap, arith, inl, ℕ, suc, ◌+◌, ◌≤◌, ◌==◌}
+use Rattle.std.proofs.Common.{List, [], ◌∷◌, ◌++◌, length, map, not}
 use Rattle.std.proofs.lemmas.List.Sums.{count_by-le-length}
-use Rattle.tk_place.specs.Place.{fit}
 use Rattle.tk_place.specs.Pairs.{AreOwn, HasPlacement, FitsByPlacements}
-use Rattle.tk_shape.specs.declared.shape.Shape.{Shape}
 use Rattle.tk_frames.specs.Order.{Record}
 use Rattle.tk_table.specs.Table.{pair_in, retained, unexpired}
 use Rattle.tk_table.specs.Places.{FewFindPlaces}

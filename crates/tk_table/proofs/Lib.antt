@@ -29,9 +29,12 @@ pub mod Used
 pub mod Runs
 pub mod Knowing
 pub mod Grids
-pub mod Reading
 pub mod Standing
 pub mod Computing
-pub mod Displaced
-pub mod Offers
 pub mod FewPlaces
+pub mod Filling
+pub mod Spelled
+pub mod Learning
+pub mod OneEntry
+pub mod Offers
+pub mod examples

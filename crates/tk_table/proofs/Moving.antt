@@ -1,9 +1,9 @@
 -- What moves along a chain of slots do to a table.
-use Rattle.std.proofs.Common.{◌≡◌, ℕ, ◌+◌, ◌<◌, ◌≤◌, ap, sym, ◌∙◌, subst, arith, List, []}
+use Rattle.std.proofs.Common.{◌≡◌, ℕ, ◌+◌, ◌<◌, ap, sym, ◌∙◌, subst, arith, List, []}
 use Rattle.std.proofs.Common.{◌∷◌, length, drop, false, set, get_or}
 use Rattle.std.specs.Prelude.{◌==◌, slice_index_or}
 use Rattle.std.proofs.lemmas.Bool.{or_parts, eqb-false}
-use Rattle.std.proofs.lemmas.List.{set-set, get_or-set_same, drop_more, drop_all}
+use Rattle.std.proofs.lemmas.List.{set-set, get_or-set_same, drop_more}
 use Rattle.std.proofs.lemmas.List.{length-set}
 use Rattle.tk_place.specs.Place.{Spot}
 use Rattle.tk_place.specs.Chain.{is_on}
@@ -91,13 +91,6 @@ moving-on old steps c next free at i moving low sized here made =
           later.2
           ∙ ap (λ ats. shifted c.table free ats s) (sym rest) ∙ moving.same s;
     })
-
--- at the end the new slot is written over the free one
-pub moved : (old : Contents) (steps : List Spot) (c : Contents) (free : Spot) (i : ℕ) (s : Slot) →
-    IsMoving old steps c free i → length steps ≤ i →
-    with_slot c.table free s ≡ moved_by old.table steps s
-moved old steps c free i s moving all =
-    ap (λ ats. shifted c.table free ats s) (sym (drop_all i steps all)) ∙ moving.same s
 
 -- a step's slot
 abbrev spot : ℕ → ℕ → Spot

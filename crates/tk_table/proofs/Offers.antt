@@ -5,3 +5,4 @@ pub use Rattle.tk_table.proofs.RetainedEach.{retained-each}
 pub use Rattle.tk_table.proofs.LaidOut.{layout-laid_out}
 pub use Rattle.tk_table.proofs.AsWritten.{layout-as_written}
 pub use Rattle.tk_table.proofs.BucketBytes.{layout-read_back, layout-as_read}
+pub use Rattle.tk_table.proofs.OneEntry.{one_among, one_slot_is_sound}

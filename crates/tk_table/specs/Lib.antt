@@ -8,3 +8,4 @@ pub mod Shown
 pub mod Replies
 pub mod Places
 pub mod Rows
+pub mod Restoring

@@ -1,10 +1,12 @@
-ghost use Rattle.std.specs.Prelude.{◌≡◌, ◌<◌, ◌≤◌, ◌↔◌, length, None, IfOk};
+ghost use Rattle.std.specs.Prelude.{◌≡◌, ℕ, ◌*◌, ◌<◌, ◌≤◌, ◌↔◌, length, All, None, IfOk};
 ghost use Rattle.tk_place.specs.Place.{search_end};
 ghost use Rattle.tk_shape.specs.Lengths.{width};
-ghost use Rattle.tk_table.specs.Table.{empty_table, others_from, placed_in, blocks_of};
+ghost use Rattle.tk_bucket.specs.Shown.{Shows};
+ghost use Rattle.tk_table.specs.Table.{bucket_at, slot_at, empty_table, others_from, placed_in, blocks_of};
 ghost use Rattle.tk_table.specs.Stands.{slot_with, IsPair};
 ghost use Rattle.tk_table.specs.Steps.{cleared_all};
-ghost use Rattle.tk_table.specs.Inside.{EachHas, HasPair};
+ghost use Rattle.tk_table.specs.Inside.{EachHas, HasPair, IsSlotIn};
+ghost use Rattle.tk_table.specs.Restoring.{table_spelled};
 
 use crate::chain::{clear_in, store};
 use crate::indexed::Indexed;
@@ -12,6 +14,7 @@ use crate::latest::Recent;
 use crate::{Memory, Put, Snapshot};
 use std::alloc::Global;
 use std::marker::Model;
+use tk_bucket::SlotRef;
 use tk_place::{Found, Scratch, Slots, find};
 use tk_shape::Shape;
 
@@ -44,6 +47,31 @@ impl Grid {
             shape: *shape,
             buckets: Indexed::new(alloc, shape.buckets, shape.depth, shape.block)?,
         })
+    }
+
+    /// The slots of these bytes, bucket after bucket.
+    pub(crate) fn restore(alloc: Global, shape: &Shape, bytes: &[u8]) -> Result<Grid, Memory>
+        requires whole { length bytes.now ≡ shape.now.buckets * width shape.now }
+        requires own { let T = table_spelled shape.now bytes.now in
+            (b : ℕ) → All (IsSlotIn shape.now b) (bucket_at T b) }
+        ensures { IfOk result (λ g. g ≡ record {
+          shape = shape.now;
+          slots = table_spelled shape.now bytes.now;
+        }) }
+    {
+        Ok(Grid {
+            shape: *shape,
+            buckets: Indexed::restore(alloc, shape.buckets, shape.depth, shape.block, bytes)?,
+        })
+    }
+
+    /// A slot; nothing is copied.
+    pub(crate) fn slot(&self, bucket: u32, slot: u32) -> SlotRef<'_>
+        requires bucket_in { bucket < self.now.shape.buckets }
+        requires slot_in { slot < self.now.shape.depth }
+        ensures { Shows result (slot_at self.now.slots (bucket, slot)) }
+    {
+        self.buckets.slot(bucket, slot)
     }
 
     /// Empties the slot of a write, if it has one.

@@ -1,17 +1,19 @@
 //! Buckets with an index of what a search sees of them.
-ghost use Rattle.std.specs.Prelude.{◌≡◌, ◌≢◌, ◌<◌, ◌≤◌, ◌==◌, cond, length, map, None, Some, IsTrue, IfOk};
+ghost use Rattle.std.specs.Prelude.{◌≡◌, ◌≢◌, ◌*◌, ◌<◌, ◌≤◌, length, map, None, Some, IsTrue, IfOk};
 ghost use Rattle.std.specs.Prelude.{All, IsSome};
 ghost use Rattle.tk_place.specs.Place.{slots_of, lowest_empty};
 ghost use Rattle.tk_place.specs.Table.{slot_at as other_at, IsBelow, leads_to_full};
 ghost use Rattle.tk_bucket.specs.Sizes.{IsSizes, bucket_len};
 ghost use Rattle.tk_bucket.specs.Table.{IsSized, empty_table, empty_slot, is_empty};
 ghost use Rattle.tk_bucket.specs.Table.{slot_at, with_slot, with_moved};
+ghost use Rattle.tk_bucket.specs.Packing.{table_in};
 ghost use Rattle.tk_bucket.specs.Shown.{Shows};
 ghost use Rattle.tk_bucket.specs.Bytes.{blocks_of};
-ghost use Rattle.tk_table.specs.Table.{other_in, others_from};
+ghost use Rattle.tk_table.specs.Table.{others_from};
 ghost use Rattle.tk_table.specs.Stands.{slot_with};
 
 use crate::Memory;
+use crate::fill::{index_of, other_of, seen_in};
 use crate::index::Index;
 use std::alloc::Global;
 use std::marker::Model;
@@ -36,13 +38,6 @@ impl Model for Indexed {
     ghost invariant = { λ i. i.index ≡ others_from 0 i.buckets.contents.table };
 }
 
-/// Of a pair of buckets the other one.
-fn other_of(pair: (u32, u32), bucket: u32) -> u32
-    ensures { result ≡ cond (pair.0 == bucket) pair.1 pair.0 }
-{
-    if pair.0 == bucket { pair.1 } else { pair.0 }
-}
-
 impl Indexed {
     /// Empty slots, with blocks of `block` bytes.
     pub fn new(alloc: Global, buckets: u32, depth: u32, block: u32) -> Result<Indexed, Memory>
@@ -57,6 +52,31 @@ impl Indexed {
         Ok(Indexed {
             buckets: Buckets::new(alloc, buckets, depth, block)?,
             index: Index::new(alloc, buckets, depth)?,
+        })
+    }
+
+    /// The slots of these bytes, bucket after bucket.
+    pub fn restore(
+        alloc: Global,
+        buckets: u32,
+        depth: u32,
+        block: u32,
+        bytes: &[u8],
+    ) -> Result<Indexed, Memory>
+        requires sizes { IsSizes buckets depth block }
+        requires whole { length bytes.now ≡ buckets * bucket_len depth block }
+        ensures contents { IfOk result (λ b. b.contents ≡ record {
+          buckets = buckets;
+          depth = depth;
+          block = block;
+          table = table_in buckets depth block bytes.now;
+        }) }
+    {
+        let filled = Buckets::restore(alloc, buckets, depth, block, bytes)?;
+        let index = index_of(alloc, &filled, buckets, depth)?;
+        Ok(Indexed {
+            buckets: filled,
+            index,
         })
     }
 
@@ -113,20 +133,6 @@ impl Indexed {
         self.index.leads_to_full(bucket)
     }
 
-    /// What a search would see of the entry in a slot, where it lay in this bucket.
-    fn seen_in(&self, bucket: u32, at: Step2) -> Option<u32>
-        requires bucket_in { at.bucket < self.now.contents.buckets }
-        requires slot_in { at.slot < self.now.contents.depth }
-        ensures { let s = slot_at self.now.contents.table (at.bucket, at.slot) in
-            result ≡ other_in bucket s }
-    {
-        let entry = self.buckets.slot(at.bucket, at.slot);
-        if entry.position == 0 {
-            return None;
-        }
-        Some(other_of((entry.first, entry.second), bucket))
-    }
-
     /// Writes a record into a slot, over what was there.
     pub fn write_slot(
         &mut self,
@@ -164,7 +170,7 @@ impl Indexed {
         } }
     {
         self.buckets.sized();
-        let other = self.seen_in(to.bucket, from);
+        let other = seen_in(&self.buckets, to.bucket, from);
         self.index.set(to, other);
         self.index.set(from, None);
         self.buckets.move_slot(from, to);

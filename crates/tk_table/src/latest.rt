@@ -56,6 +56,36 @@ impl Latest {
         })
     }
 
+    /// Writes with these positions and these buckets, the oldest first, and room for so many.
+    pub fn of(
+        alloc: Global,
+        count: u32,
+        positions: &[u64],
+        pairs: &[(u32, u32)],
+    ) -> Result<Latest, Memory>
+        requires few { length positions.now ≤ count }
+        requires beside { length pairs.now ≡ length positions.now }
+        ensures room { IfOk result (λ l. count ≤ l.room) }
+        ensures positions { IfOk result (λ l. l.positions ≡ positions.now) }
+        ensures pairs { IfOk result (λ l. l.pairs ≡ pairs.now) }
+    {
+        let mut latest = Latest::new(alloc, count)?;
+        for i in 0..positions.len() {
+            latest.come(Recent {
+                position: positions[i],
+                pair: pairs[i],
+            });
+        }
+        Ok(latest)
+    }
+
+    /// Their positions, the oldest first.
+    pub fn positions(&self) -> &[u64]
+        ensures { result.now ≡ self.now.positions }
+    {
+        &self.positions[self.start..]
+    }
+
     /// How many there are.
     pub fn len(&self) -> usize
         ensures { result ≡ length self.now.positions }

@@ -2,11 +2,13 @@
 #![tactic(auto)]
 
 mod chain;
+mod fill;
 mod grid;
 mod index;
 mod indexed;
 mod latest;
 mod laws;
+mod learn;
 mod snapshot;
 mod table;
 
@@ -16,4 +18,5 @@ pub use laws::{
 };
 pub use snapshot::Snapshot;
 pub use table::{Put, Table};
+pub use tk_bucket::SlotRef;
 pub use tk_shape::Memory;

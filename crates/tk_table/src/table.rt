@@ -1,15 +1,18 @@
-ghost use Rattle.std.specs.Prelude.{◌≡◌, ◌<◌, ◌≤◌, ◌↔◌, ◌++◌, ◌∷◌, [], List, length, true};
+ghost use Rattle.std.specs.Prelude.{◌≡◌, ◌*◌, ◌<◌, ◌≤◌, ◌↔◌, ◌++◌, ◌∷◌, [], List, length, true};
 ghost use Rattle.std.specs.Prelude.{All, IfOk};
 ghost use Rattle.tk_shape.specs.Lengths.{width};
 ghost use Rattle.tk_frames.specs.Order.{Record};
 ghost use Rattle.tk_table.specs.Ordered.{AreOrdered};
-ghost use Rattle.tk_table.specs.Table.{window, is_displaced, blocks_of};
+ghost use Rattle.tk_bucket.specs.Shown.{Shows};
+ghost use Rattle.tk_table.specs.Table.{slot_at, window, is_displaced, blocks_of};
 ghost use Rattle.tk_table.specs.Stands.{TableStandsFor, IsWrite, IsPair};
 ghost use Rattle.tk_table.specs.Inside.{with_room};
+ghost use Rattle.tk_table.specs.Restoring.{AreAscending, AreSound, slots_spelled, table_spelled};
 
 use crate::grid::Grid;
 use crate::latest::{Latest, Recent};
-use crate::{Memory, Snapshot};
+use crate::learn::pairs_of;
+use crate::{Memory, SlotRef, Snapshot};
 use std::alloc::Global;
 use std::marker::Model;
 use tk_place::Scratch;
@@ -70,6 +73,50 @@ impl Table {
             scratch: scratch_for(alloc, shape.buckets)?,
             latest: Latest::new(alloc, shape.retained)?,
         })
+    }
+
+    /// A table with the slots of these bytes, bucket after bucket, whose latest writes have these
+    /// positions, the oldest first. A position with no slot is that of a displaced write. It takes
+    /// all its memory here.
+    pub fn restore(
+        alloc: Global,
+        shape: &Shape,
+        positions: &[u64],
+        bytes: &[u8],
+    ) -> Result<Table, Memory>
+        requires few { length positions.now ≤ shape.now.retained }
+        requires ascending { AreAscending 1 positions.now }
+        requires whole { length bytes.now ≡ shape.now.buckets * width shape.now }
+        requires sound { AreSound shape.now positions.now (slots_spelled shape.now bytes.now) }
+        ensures { IfOk result (λ t. t ≡ record {
+          shape = shape.now;
+          slots = table_spelled shape.now bytes.now;
+          positions = positions.now;
+        }) }
+    {
+        let pairs = pairs_of(alloc, shape, positions, bytes)?;
+        Ok(Table {
+            shape: *shape,
+            grid: Grid::restore(alloc, shape, bytes)?,
+            scratch: scratch_for(alloc, shape.buckets)?,
+            latest: Latest::of(alloc, shape.retained, positions, pairs.as_slice())?,
+        })
+    }
+
+    /// The positions of the latest writes, the oldest first.
+    pub fn positions(&self) -> &[u64]
+        ensures { result.now ≡ self.now.positions }
+    {
+        self.latest.positions()
+    }
+
+    /// A slot; nothing is copied.
+    pub fn slot(&self, bucket: u32, slot: u32) -> SlotRef<'_>
+        requires bucket_in { bucket < self.now.shape.buckets }
+        requires slot_in { slot < self.now.shape.depth }
+        ensures { Shows result (slot_at self.now.slots (bucket, slot)) }
+    {
+        self.grid.slot(bucket, slot)
     }
 
     /// Where there are as many latest writes as are retained, the oldest leaves.

@@ -37,5 +37,5 @@ invariant_of-self c =
     c.self.invariant
     (c.set.ensures
     ∙ ap (with_other x.index (c.args.to.bucket, c.args.to.slot))
-    (rw (← c.self.view_is) at c.seen_in-other.ensures))
+    c.seen_in-other.ensures)
     c.set-2.ensures c.move_slot.ensures.contents
