@@ -146,29 +146,6 @@ pub record IsNew (shape : Shape) (r : ReplicaView) : Type 0 where
   pub stands : StandsFor shape [] r
   pub floor : r.floor ≡ 0
 
-pub world-opened : (shape : Shape) (replicas : List ReplicaView) →
-    length replicas ≡ shape.servers →
-    ((i : ℕ) (d : ReplicaView) → i < length replicas → IsNew shape (slice_index_or replicas i d)) →
-    IsWorld (record { shape = shape; order = []; replicas = replicas; shown = 0 })
-world-opened shape replicas counted new =
-    record {
-      order = tt;
-      writes = omega arith;
-      counted = counted;
-      shown = omega arith;
-      follow = λ i d low.
-          let is = new i d low in
-          let none = (is.stands).applied in
-          record {
-            within = omega (arith, none);
-            stands =
-                subst (λ n. StandsFor shape (take n []) (slice_index_or replicas i d))
-                (sym none) is.stands;
-            keeps = is.floor ∙ omega arith;
-            has = omega arith;
-          };
-    }
-
 -- one more such
 pub new-push : (shape : Shape) (rs new : List ReplicaView) (r : ReplicaView) → new ≡ rs ++ r ∷ [] →
     IsNew shape r →

@@ -1,6 +1,8 @@
--- The epochs from the floor to the last are kept.
+-- Which epochs are kept after an entry or a release, and after all of them those from the floor to
+-- the last.
 use Rattle.std.proofs.Common.{◌≡◌, ℕ, zero, suc, ◌+◌, ◌-◌, ◌≤◌, ap, ap₂, sym, ◌∙◌, subst}
-use Rattle.std.proofs.Common.{arith, List, [], ◌∷◌, ◌++◌, drop, cond}
+use Rattle.std.proofs.Common.{arith, List, [], ◌∷◌, ◌++◌, drop, map, cond}
+use Rattle.std.proofs.lemmas.List.{map-append, drop-map}
 use Rattle.std.specs.List.{range_with_len}
 use Rattle.tk_shape.specs.declared.shape.Shape.{Shape}
 use Rattle.tk_frames.specs.declared.entry.Entry.{Entry}
@@ -8,9 +10,36 @@ use Rattle.tk_frames.specs.declared.entry.Entry.TheVariants.{Write, Mark}
 use Rattle.tk_frames.specs.Order.{is_mark}
 use Rattle.tk_frames.specs.InOrder.{mark_count, HasNumber, number_after, IsOrder, IsOrderFrom}
 use Rattle.tk_frames.proofs.Offers.{marks-cons}
+use Rattle.tk_replica.specs.declared.epoch.Epoch.{Epoch}
+use Rattle.tk_replica.specs.Replica.{ReplicaView}
 use Rattle.tk_replica.specs.Keeping.{Change, Applied, Released, Numbers, spanning, opening}
-use Rattle.tk_replica.specs.Keeping.{numbers_with, numbers_behind, numbers_after, entries}
+use Rattle.tk_replica.specs.Keeping.{numbers_of, numbers_with, numbers_behind, numbers_after}
+use Rattle.tk_replica.specs.Keeping.{entries}
 use Rattle.tk_replica.specs.Keeping.{last_released, MayAllCome}
+
+-- ---- the numbers of a state
+
+-- a mark's epoch comes after the others
+pub numbers-marked : (s t : ReplicaView) (x : Entry) (applied n : ℕ) (epoch : Epoch) →
+    x ≡ Mark n → epoch.number ≡ n →
+    t ≡ record s { applied = applied; last = n; kept = s.kept ++ epoch ∷ [] } →
+    numbers_of t ≡ numbers_with (numbers_of s) x
+numbers-marked s t x applied n epoch is numbered made =
+    let numbers = map (λ (e : Epoch). e.number) s.kept in
+    ap numbers_of made
+    ∙ ap (λ (ks : List ℕ). record { last = n; floor = s.floor; kept = ks })
+    (map-append (λ (e : Epoch). e.number) s.kept (epoch ∷ [])
+    ∙ ap (λ (k : ℕ). numbers ++ k ∷ []) numbered)
+    ∙ ap (numbers_with (numbers_of s)) (sym is)
+
+-- the first epochs go
+pub numbers-released : (s t : ReplicaView) (e : ℕ) →
+    t ≡ record s { floor = e; kept = drop (e - s.floor) s.kept } →
+    numbers_of t ≡ numbers_behind (numbers_of s) (Released e)
+numbers-released s t e made =
+    ap numbers_of made
+    ∙ ap (λ (ks : List ℕ). record { last = s.last; floor = e; kept = ks })
+    (sym (drop-map (λ (k : Epoch). k.number) (e - s.floor) s.kept))
 
 -- ---- numbers in a row
 

@@ -1,6 +1,7 @@
 pub mod Ordering
 pub mod Pushes
 pub mod Standing
+pub mod Restored
 pub mod Vectors
 pub mod Paired
 pub mod Replying

@@ -36,7 +36,7 @@ use Rattle.tk_replica.proofs.Pushes.{pushes-more, pushes-none}
 
 -- ---- an epoch
 
-same-writes : (shape : Shape) (R S : List Record) (epoch : Epoch) → R ≡ S →
+pub same-writes : (shape : Shape) (R S : List Record) (epoch : Epoch) → R ≡ S →
     EpochStandsFor shape R epoch → EpochStandsFor shape S epoch
 same-writes shape R S epoch same is =
     subst (λ (rs : List Record). EpochStandsFor shape rs epoch) same is
@@ -55,7 +55,7 @@ epoch-more shape E p e epoch order next within is =
     }
 
 -- one that is taken of the table and the window of these writes
-taken-stands : (shape : Shape) (R : List Record) (number upto : ℕ) (t : Kept) (w : KeptPushes)
+pub taken-stands : (shape : Shape) (R : List Record) (number upto : ℕ) (t : Kept) (w : KeptPushes)
     (epoch : Epoch) → t.shape ≡ shape → TableStandsFor t R →
     w ≡ window_with shape (pushes_of shape R) → IsTaken shape number upto t w epoch →
     EpochStandsFor shape R epoch

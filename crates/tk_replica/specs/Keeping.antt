@@ -1,10 +1,11 @@
 -- Which epochs are kept, as entries are applied and epochs released, one after the other.
-use Rattle.std.specs.Prelude.{ℕ, ◌+◌, ◌-◌, List, [], ◌∷◌, ◌++◌, drop, filter_map}
+use Rattle.std.specs.Prelude.{ℕ, ◌+◌, ◌-◌, List, [], ◌∷◌, ◌++◌, drop, map, filter_map}
 use Rattle.std.specs.Prelude.{Option, Some, None}
 use Rattle.std.specs.List.{range_with_len}
 use Rattle.tk_frames.specs.declared.entry.Placed.{Placed}
 use Rattle.tk_frames.specs.declared.entry.Entry.{Entry}
 use Rattle.tk_frames.specs.declared.entry.Entry.TheVariants.{Write, Mark}
+use Rattle.tk_replica.specs.Replica.{ReplicaView}
 use Rattle.tk_replica.specs.Shelf.{IsHeld}
 
 -- an entry is applied, or the epochs below a number are released
@@ -17,6 +18,10 @@ pub record Numbers : Type 0 where
   pub last : ℕ
   pub floor : ℕ
   pub kept : List ℕ
+
+-- those of a state
+abbrev pub numbers_of : ReplicaView → Numbers
+numbers_of s = record { last = s.last; floor = s.floor; kept = map (λ e. e.number) s.kept }
 
 -- all from the floor to the last are kept
 abbrev pub spanning : ℕ → ℕ → Numbers

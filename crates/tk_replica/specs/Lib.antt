@@ -7,3 +7,4 @@ pub mod Refusals
 pub mod Following
 pub mod Keeping
 pub mod Laws
+pub mod Restoring

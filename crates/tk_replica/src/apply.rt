@@ -9,6 +9,7 @@ ghost use Rattle.tk_replica.specs.declared.epoch.Epoch.{Epoch};
 ghost use Rattle.tk_frames.specs.InOrder.{IsNextAt};
 ghost use Rattle.tk_replica.specs.Store.{IsTaken, pushed};
 ghost use Rattle.tk_replica.specs.Replica.{StandsFor};
+ghost use Rattle.tk_replica.specs.Keeping.{Applied, numbers_of, numbers_behind};
 
 use crate::ReplicaState;
 use std::alloc::Global;
@@ -24,6 +25,8 @@ impl ReplicaState {
             → OnOk result (StandsFor shape (E ++ placed.now ∷ []) self.new) }
         ensures shape { self.new.shape ≡ self.old.shape }
         ensures floor { self.new.floor ≡ self.old.floor }
+        ensures numbers { OnOk result
+            (numbers_of self.new ≡ numbers_behind (numbers_of self.old) (Applied placed.now)) }
         ensures write { is_mark placed.now.entry ≡ false → IsOk result }
         ensures memory { OnErr result (self.new ≡ self.old) }
     {

@@ -173,7 +173,7 @@ impl<B: Naming> Followed<B> {
             return Ok(epoch);
         }
         let seat = order.split(&mut self.seat);
-        let mut again = Followed::new(self.alloc, &self.state.shape(), seat)?;
+        let mut again = Followed::new(self.alloc, self.state.shape(), seat)?;
         again.catch_up(rt, order, upto)?;
         again.in_order();
         match again.kept(upto)? {

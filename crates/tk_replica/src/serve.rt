@@ -52,7 +52,7 @@ impl ReplicaState {
         ensures kept { OnOk result (serve_refusal self.now frame.now ≡ None) }
         ensures refused { IfErr result (IsServeRefusal (serve_refusal self.now frame.now)) }
     {
-        let read = decode_read(alloc, &self.shape(), frame)?;
+        let read = decode_read(alloc, self.shape(), frame)?;
         self.check(read.epoch)?;
         Ok(read)
     }

@@ -36,16 +36,16 @@ impl Model for Shelf {
 }
 
 impl Shelf {
-    /// Epoch 0 alone.
-    pub(crate) fn open(alloc: Global, first: Arc<Epoch>) -> Result<Shelf, Memory>
+    /// One epoch alone, which has that number.
+    pub(crate) fn open(alloc: Global, number: u32, first: Arc<Epoch>) -> Result<Shelf, Memory>
         ensures { IfOk result (λ s.
-            s ≡ record { floor = 0; last = 0; epochs = arc_value first ∷ [] }) }
+            s ≡ record { floor = number; last = number; epochs = arc_value first ∷ [] }) }
     {
         let mut epochs = VecDeque::with_capacity(alloc, 2)?;
         epochs.push_back_reserved(first);
         Ok(Shelf {
-            floor: 0,
-            last: 0,
+            floor: number,
+            last: number,
             epochs,
         })
     }

@@ -1,11 +1,16 @@
-ghost use Rattle.std.specs.Prelude.{◌≡◌, ◌-◌, ◌≤◌, [], List, None, Some, drop, IfOk, IfErr, OnOk};
+ghost use Rattle.std.specs.Prelude.{◌≡◌, ◌-◌, ◌≤◌, [], List, None, Some, drop, slice_index_or, All, IfOk};
+ghost use Rattle.std.specs.Prelude.{IfErr, OnOk};
 ghost use Rattle.std.specs.Arc.{arc_value};
 ghost use Rattle.tk_shape.specs.declared.shape.Shape.{Shape};
 ghost use Rattle.tk_frames.specs.declared.entry.Placed.{Placed};
+ghost use Rattle.tk_replica.specs.declared.epoch.Epoch.{Epoch};
 ghost use Rattle.tk_replica.specs.Epochs.{IsEpochOf};
 ghost use Rattle.tk_replica.specs.Replica.{StandsFor};
+ghost use Rattle.tk_replica.specs.Store.{IsStore};
+ghost use Rattle.tk_replica.specs.Restoring.{IsRestored, HasLeft};
 ghost use Rattle.tk_replica.specs.Shelf.{IsHeld};
 ghost use Rattle.tk_replica.specs.Refusals.{pin_refusal, IsPinRefusal};
+ghost use Rattle.tk_replica.specs.Keeping.{Released, numbers_of, numbers_behind, opening};
 
 use crate::shelf::Shelf;
 use crate::store::Store;
@@ -13,7 +18,9 @@ use crate::{Epoch, PinError};
 use std::alloc::Global;
 use std::marker::Model;
 use std::sync::Arc;
+use tk_bloom::Window;
 use tk_shape::{Memory, Shape};
+use tk_table::Table;
 
 /// What a server has after some entries. Seen as how many were applied, the last epoch and the
 /// first that is kept, the table and the window, and the epochs that are kept.
@@ -38,6 +45,7 @@ impl ReplicaState {
     /// The state before any entry. It keeps epoch 0.
     pub fn open(alloc: Global, shape: &Shape) -> Result<ReplicaState, Memory>
         ensures stands { IfOk result (StandsFor shape.now []) }
+        ensures numbers { IfOk result (λ s. numbers_of s ≡ opening) }
         ensures floor { IfOk result (λ s. s.floor ≡ 0) }
     {
         let mut store = Store::open(alloc, shape)?;
@@ -45,15 +53,54 @@ impl ReplicaState {
         Ok(ReplicaState {
             applied: 0,
             store,
-            shelf: Shelf::open(alloc, first)?,
+            shelf: Shelf::open(alloc, 0, first)?,
+        })
+    }
+
+    /// The state after `applied` entries that end with mark `last`, or after none, of which these
+    /// are the table and the window. It keeps one epoch, that of this mark.
+    pub fn restore(
+        alloc: Global,
+        shape: &Shape,
+        applied: u64,
+        last: u32,
+        table: Table,
+        window: Window,
+    ) -> Result<ReplicaState, Memory>
+        requires parts { IsStore shape.now table window }
+        requires latest { All (λ p. p ≤ applied) table.positions }
+        ensures restored { IfOk result (IsRestored shape.now applied last table window) }
+        ensures stands { (E : List Placed) → HasLeft shape.now E applied last table window
+            → IfOk result (StandsFor shape.now E) }
+    {
+        let mut store = Store::of(shape, table, window);
+        let epoch = store.epoch(alloc, last, applied)?;
+        Ok(ReplicaState {
+            applied,
+            store,
+            shelf: Shelf::open(alloc, last, epoch)?,
         })
     }
 
     /// The shape of the entries that it takes.
-    pub fn shape(&self) -> Shape
-        ensures { result ≡ self.now.shape }
+    pub fn shape(&self) -> &Shape
+        ensures { result.now ≡ self.now.shape }
     {
         self.store.shape()
+    }
+
+    /// The table of the latest writes, as it is now.
+    pub fn slots(&self) -> &Table
+        ensures { result.now ≡ self.now.table }
+    {
+        self.store.table()
+    }
+
+    /// The window of their positions in the filter, as it is now.
+    pub fn window(&self) -> &Window
+        ensures { result.now ≡ self.now.window }
+    {
+        self.store.window()
     }
 
     /// How many entries were applied.
@@ -81,6 +128,8 @@ impl ReplicaState {
     pub fn epoch(&self, e: u32) -> &Epoch
         requires low { self.now.floor ≤ e }
         requires high { e ≤ self.now.last }
+        ensures at { (d : Epoch)
+            → result.now ≡ slice_index_or self.now.kept (e - self.now.floor) d }
         ensures same { result.now.shape ≡ self.now.shape }
         ensures stands { (shape : Shape) (E : List Placed)
             → StandsFor shape E self.now → IsEpochOf shape E e result.now }
@@ -103,6 +152,8 @@ impl ReplicaState {
     pub(crate) fn get(&self, e: u32) -> &Arc<Epoch>
         requires low { self.now.floor ≤ e }
         requires high { e ≤ self.now.last }
+        ensures at { (d : Epoch)
+            → arc_value result.now ≡ slice_index_or self.now.kept (e - self.now.floor) d }
         ensures same { (arc_value result.now).shape ≡ self.now.shape }
         ensures stands { (shape : Shape) (E : List Placed)
             → StandsFor shape E self.now → IsEpochOf shape E e (arc_value result.now) }
@@ -137,6 +188,7 @@ impl ReplicaState {
           floor = e;
           kept = drop (e - self.old.floor) self.old.kept;
         } }
+        ensures numbers { numbers_of self.new ≡ numbers_behind (numbers_of self.old) (Released e) }
         ensures stands { (shape : Shape) (E : List Placed)
             → StandsFor shape E self.old → StandsFor shape E self.new }
     {

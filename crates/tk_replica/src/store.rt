@@ -4,7 +4,7 @@ ghost use Rattle.tk_frames.specs.Order.{Record};
 ghost use Rattle.tk_frames.specs.Ranges.{IsWrite};
 ghost use Rattle.tk_table.specs.Ordered.{AreOrdered};
 ghost use Rattle.tk_table.specs.Stands.{TableStandsFor, IsWrite as IsRecord};
-ghost use Rattle.tk_replica.specs.Store.{IsNewStore, IsTaken, pushed};
+ghost use Rattle.tk_replica.specs.Store.{IsStore, IsNewStore, IsTaken, pushed};
 
 use crate::Epoch;
 use std::alloc::Global;
@@ -46,11 +46,37 @@ impl Store {
         })
     }
 
-    /// The shape of its parts.
-    pub(crate) fn shape(&self) -> Shape
-        ensures { result ≡ self.now.shape }
+    /// A table and a window of one shape.
+    pub(crate) fn of(shape: &Shape, table: Table, window: Window) -> Store
+        requires { IsStore shape.now table window }
+        ensures { result ≡ record { shape = shape.now; table = table; window = window } }
     {
-        self.shape
+        Store {
+            shape: *shape,
+            table,
+            window,
+        }
+    }
+
+    /// The shape of its parts.
+    pub(crate) fn shape(&self) -> &Shape
+        ensures { result.now ≡ self.now.shape }
+    {
+        &self.shape
+    }
+
+    /// The table of the latest writes.
+    pub(crate) fn table(&self) -> &Table
+        ensures { result.now ≡ self.now.table }
+    {
+        &self.table
+    }
+
+    /// The window of their positions in the filter.
+    pub(crate) fn window(&self) -> &Window
+        ensures { result.now ≡ self.now.window }
+    {
+        &self.window
     }
 
     /// Takes a write: it goes into the table, and its positions into the window.

@@ -1,6 +1,6 @@
 -- A vector has a bit for each block of an epoch, and each read has the sums for its own vectors.
 use Rattle.std.proofs.Common.{◌≡◌, ◌∙◌, ap, ap₂, sym, subst, List, ◌++◌, ℕ, ◌*◌, length, map}
-use Rattle.std.specs.Prelude.{All, OnOk}
+use Rattle.std.specs.Prelude.{All}
 use Rattle.tk_replica.specs.declared.asker.Asker.{Asker}
 use Rattle.tk_replica.specs.Replies.{sum_over, frame_over, frames_with}
 use Rattle.tk_replica.proofs.Paired.{vectors-fit, frames-over, two-for-each}

@@ -1,6 +1,8 @@
 -- A write goes into what the table and the window stand for, and a mark makes the next epoch.
-use Rattle.std.proofs.Common.{sym, subst, ◌++◌, ◌∷◌, []}
+use Rattle.std.proofs.Common.{◌∙◌, ap, sym, subst, ◌++◌, ◌∷◌, []}
+use Rattle.tk_replica.specs.Keeping.{numbers_of, numbers_with}
 use Rattle.tk_replica.specs.Replica.{StandsFor}
+use Rattle.tk_replica.proofs.KeptNumbers.{numbers-marked}
 use Rattle.tk_replica.proofs.Standing.{stands-write, stands-mark}
 use Rattle.tk_replica.proofs.state.ReplicaState.apply.Goals as goal
 
@@ -18,3 +20,15 @@ returns-in_ok-mark-in-Mark-clause-stands c = λ shape E is.
     subst (StandsFor shape (E ++ placed ∷ [])) (sym made.2)
     (stands-mark shape E c.args.self.now placed c.in-Mark.number made.0 is c.requires
     c.in-Mark.is made.1)
+
+pub returns-in-Write-clause-numbers : goal.returns-in-Write-clause-numbers
+returns-in-Write-clause-numbers c =
+    ap numbers_of c.put.ensures.rest
+    ∙ ap (numbers_with (numbers_of c.args.self.now)) (sym c.in-Write.is)
+
+pub returns-in_ok-mark-in-Mark-clause-numbers : goal.returns-in_ok-mark-in-Mark-clause-numbers
+returns-in_ok-mark-in-Mark-clause-numbers c =
+    let made = c.in_ok-mark-in-Mark.ensures.epoch in
+    let placed = c.args.placed.now in
+    numbers-marked c.args.self.now _ placed.entry placed.position c.in-Mark.number made.0 c.in-Mark.is
+    made.1.number_is made.2
