@@ -4,7 +4,6 @@ pub mod Passing
 pub mod Standing
 pub mod Telling
 pub mod Opening
-pub mod Meeting
 pub mod Staying
 pub mod Turning
 pub mod Ending

@@ -7,7 +7,7 @@ use Rattle.tk_shape.specs.declared.shape.Shape.{Shape}
 use Rattle.tk_frames.specs.declared.entry.Placed.{Placed}
 use Rattle.tk_frames.specs.declared.entry.Entry.TheVariants.{Mark}
 use Rattle.tk_frames.specs.InOrder.{mark_count, IsOrder}
-use Rattle.tk_order.specs.Legality.{of, placed, MayFollow}
+use Rattle.tk_order.specs.Legality.{of, placed}
 use Rattle.tk_order.specs.Seats.{Seated, own, own_in, Ordered}
 use Rattle.tk_order.proofs.Offers.{marks_under_zero, prefix_self, prefix_trans, prefix_length}
 use Rattle.tk_board.specs.Boards.{Known}
@@ -27,10 +27,6 @@ module _ (shape : Shape) (s : Seated) (board : Known EpochSet) (marked ordered s
   -- how many entries its seat ordered
   pub made_own : length (own s) ≡ ordered
   made_own = ap length (own_of s 0 is.number) ∙ is.made
-
-  -- and how many marks there are
-  pub mark_total : mark_count s.seen ≡ ordered
-  mark_total = sym (marks_under_zero s.seen) ∙ is.made
 
   pub marks_same : (t : Seated) → t.number ≡ s.number → own t ≡ own s →
       of 0 t.seen ≡ of 0 s.seen
@@ -52,14 +48,6 @@ module _ (shape : Shape) (s : Seated) (board : Known EpochSet) (marked ordered s
 
   pub is_due : ordered ≤ shown → ordered ≡ shown
   is_due none = ⊎_elim (λ i. i) (λ i. omega (arith, i, none)) is.due
-
-  -- the next mark may be ordered
-  pub may_mark : (number : ℕ) → number ≡ shown + 1 → ordered ≤ shown →
-      length board.list ≤ shape.phases → MayFollow shape (own s) (Mark number)
-  may_mark number next none room = record {
-    in_range = (omega (arith, next), omega (arith, next, room, is.counted));
-    due = omega (arith, next, made_own, is_due none);
-  }
 
   seen_after : (t : Seated) (number : ℕ) → Ordered s (Mark number) t → IsPrefix s.seen t.seen
   seen_after t number o =
@@ -103,11 +91,6 @@ module _ (shape : Shape) (s : Seated) (board : Known EpochSet) (marked ordered s
   pub marked_grows : (t : Seated) (number : ℕ) → Ordered s (Mark number) t →
       Grows (telling s.seen board) (telling t.seen board)
   marked_grows t number o = record { board = refl; shown = refl; seen = seen_after t number o }
-
-  pub marked_count : (t : Seated) (number : ℕ) → number ≡ shown + 1 → ordered ≤ shown →
-      Ordered s (Mark number) t → length (of 0 t.seen) ≡ length board.list
-  marked_count t number next none o =
-      omega (arith, made_after t number next none o, next, is.counted)
 
   -- one mark is ordered for which no set is shown yet
   pub one_left : length (of 0 s.seen) ≡ length board.list → ordered ≡ shown + 1

@@ -14,7 +14,7 @@ use Rattle.tk_frames.specs.declared.fault.FrameError.{FrameError}
 use Rattle.tk_frames.specs.declared.fault.FrameError.TheVariants.{Length, Kind, Version, Field}
 use Rattle.tk_frames.specs.declared.fault.FrameError.TheVariants as faults
 use Rattle.tk_frames.specs.declared.read_frame.ReadFrame.{ReadFrame}
-use Rattle.tk_frames.specs.Faults.{IsRefusal, first_fault, read_checks}
+use Rattle.tk_frames.specs.Faults.{first_fault, read_checks}
 use Rattle.tk_frames.specs.Fields.{read_in}
 use Rattle.tk_frames.proofs.Offers.{read-again}
 use Rattle.tk_frames.specs.Lists.{first_some}
@@ -41,14 +41,6 @@ told (Kind got) behind = inr refl
 told (Version got) behind = inr refl
 told (Field name got) behind = inr refl
 told faults.Memory behind = inl refl
-
--- a fault of the frame is told before anything else
-pub refused-frame : (fault : Option FrameError) (error : FrameError) (behind : Option AnswerError) →
-    IsRefusal fault error → IsManyRefusal (refusal_behind fault behind) (answer_error error)
-refused-frame None error behind same = inl (ap answer_error same)
-refused-frame (Some f) error behind same =
-    subst (λ e. IsManyRefusal (refusal_behind (Some f) behind) (answer_error e)) (sym same)
-    (told f behind)
 
 -- the epoch that the bytes name is that of the read that they spell
 epoch-spelled : (shape : Shape) (bytes : List ℕ) (r : ReadFrame) → SpellsRead shape bytes r →
@@ -122,9 +114,6 @@ module _ (shape : Shape) (number : ℕ) where
   named-push (x ∷ fs) (y ∷ rs) f r named one = (named.0, named-push fs rs f r named.1 one)
   named-push (x ∷ fs) [] f r named one = absurd named
   named-push [] (y ∷ rs) f r named one = absurd named
-
-  pub no-reads : AreReads shape number [] [] []
-  no-reads = record { reads = []; spelled = tt; askers_are = refl; vectors_are = refl }
 
   -- one more read
   pub reads-push : (fs : List (List ℕ)) (askers : List Asker) (vectors : List (List ℕ))

@@ -1,7 +1,8 @@
-ghost use Rattle.std.specs.Prelude.{◌≤◌};
+ghost use Rattle.std.specs.Prelude.{◌≡◌, ◌≤◌};
 ghost use Rattle.tk_frames.specs.InOrder.{IsOrder};
+ghost use Rattle.tk_order.specs.Seats.{BeginOne};
 
-use crate::Cluster;
+use crate::{Cluster, Pass};
 use std::sync::Wait;
 use tk_order::Naming;
 use tk_replica::Held;
@@ -17,5 +18,15 @@ impl<B: Naming> Cluster<B> {
         let held = self.replicas[(server - 1) as usize].hold(rt);
         let _state = held.state();
         held
+    }
+
+    /// What was applied to a replica that is held is the first entries of the cluster's order: it and what any pass has
+    /// seen begin one list.
+    pub fn agree(&self, held: &mut Held<'_, B>, pass: &mut Pass<B>)
+        ensures held { held.new ≡ held.old }
+        ensures pass { pass.new ≡ pass.old }
+        ensures list { BeginOne held.old pass.old.seen }
+    {
+        pass.agree(&self.order, held);
     }
 }

@@ -22,6 +22,7 @@ pub use pass::Pass;
 pub use publisher::Publisher;
 pub use set::EpochSet;
 pub use tk_replica::Held;
+pub use tk_shape::Memory;
 
 /// What the publisher told: the sets that it had shown then.
 pub type Told = tk_board::Told<std::sync::Arc<EpochSet>>;

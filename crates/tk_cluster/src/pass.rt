@@ -3,7 +3,7 @@ ghost use Rattle.std.specs.Prelude.{IfOk, IfErr, OnErr, OnOk};
 ghost use Rattle.std.specs.Arc.{arc_value};
 ghost use mathlib.Core.List.{IsPrefix};
 ghost use Rattle.tk_shape.specs.Lengths.{turn_count};
-ghost use Rattle.tk_order.specs.Seats.{seated};
+ghost use Rattle.tk_order.specs.Seats.{seated, BeginOne};
 ghost use Rattle.tk_frames.specs.Ranges.{IsWrite};
 ghost use Rattle.tk_cluster.specs.Refusals.{IsWriteRefusal, SpellsWrite};
 ghost use Rattle.tk_cluster.specs.Passes.{own, fresh, seat_for, reader_of, seat_of};
@@ -17,6 +17,7 @@ use std::sync::{Arc, Wait};
 use tk_board::{Reader, Share};
 use tk_frames::{Entry, WriteFrame, decode_write};
 use tk_order::{Naming, Order, OrderSeat};
+use tk_replica::Held;
 use tk_shape::{Memory, Shape};
 
 /// With what a client writes and reads. Seen as its client, the list of entries that it has seen,
@@ -203,6 +204,15 @@ impl<B: Naming> Pass<B> {
         ensures { MeetsAt note.seen self.old self.new }
     {
         order.join(&mut self.seat, note);
+    }
+
+    /// What was applied to a held replica and what it has seen begin one list.
+    pub(crate) fn agree(&mut self, order: &Order<B>, held: &mut Held<'_, B>)
+        ensures same { self.new ≡ self.old }
+        ensures held { held.new ≡ held.old }
+        ensures list { BeginOne held.old self.old.seen }
+    {
+        held.agree(order, &mut self.seat);
     }
 
     /// Its seat, its reader, its client and the numbers that it pinned.
