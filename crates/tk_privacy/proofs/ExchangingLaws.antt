@@ -1,21 +1,15 @@
 -- The cells of writes, exchanged one by one.
-use Rattle.std.proofs.Common.{◌≡◌, ◌∙◌, ap, ap₂, sym, refl, ℕ, ◌+◌, List, ◌∷◌, [], ◌++◌}
-use Rattle.std.proofs.Common.{flat_map, length, find, None}
+use Rattle.std.proofs.Common.{◌≡◌, ◌∙◌, ap, ap₂, sym, ℕ, ◌+◌, List, ◌∷◌, [], ◌++◌}
+use Rattle.std.proofs.Common.{flat_map, length}
 use Rattle.std.proofs.Common.{zero-add, append_assoc, take, drop, ◌-◌, ◌*◌}
 use Rattle.std.specs.List.{range_with_len}
 use Rattle.std.proofs.lemmas.List.{flat_map_more, map-id}
 use Rattle.std.proofs.lemmas.List.FromFn.{map-range_with_len_more}
 use Rattle.tk_shape.specs.declared.shape.Shape.{Shape}
-use Rattle.tk_script.specs.declared.script.Script.{Script}
-use Rattle.tk_script.specs.Sent.{sent_as, is_numbered, writer_of}
 use Rattle.tk_kernel.specs.Xor.{xor_bytes}
 use Rattle.tk_seal.specs.Seal.{plain}
-use Rattle.tk_words.specs.Words.{write_cell, keyed_cell, cell_pad, cell_tag}
-use Rattle.tk_privacy.specs.declared.way.Way.{Way}
-use Rattle.tk_privacy.specs.declared.way.Way.TheVariants.{Show, Regain}
+use Rattle.tk_words.specs.Words.{cell_pad, cell_tag}
 use Rattle.tk_privacy.specs.Privacy.{masked_cell, cells}
-use Rattle.tk_report.specs.Listings.{sent_by}
-use Rattle.tk_privacy.specs.Exchanging.{write_exchanged, keyed_exchanged}
 
 -- the numbers up to one are those below it and itself
 pub numbers-more : (n : ℕ) → range_with_len 0 (n + 1) ≡ range_with_len 0 n ++ n ∷ []
@@ -33,23 +27,7 @@ next_cell f n old before new before_is new_is =
     ∙ flat_map_more f old (range_with_len 0 n) n
     ∙ ap (λ numbers. old ++ flat_map f numbers) (sym (numbers-more n))
 
--- found in a client's list
-pub found_as : (S : Script) (c log s : ℕ) → writer_of S log ≡ c →
-    find (is_numbered log s) (sent_by S c) ≡ sent_as S log s
-unfolding sent_as
-found_as S c log s writes = ap (λ w. find (is_numbered log s) (sent_by S w)) (sym writes)
-
 -- ---- a write cell
-
-pub write-none : (way : Way) (shape : Shape) (u : List ℕ) (g c : ℕ) →
-    write_exchanged way shape u g c None ≡ write_cell shape u g c
-write-none Show shape u g c = refl
-write-none Regain shape u g c = refl
-
-pub keyed-none : (way : Way) (shape : Shape) (u : List ℕ) (c log s : ℕ) →
-    keyed_exchanged way shape u c log s None ≡ keyed_cell shape u log s
-keyed-none Show shape u c log s = refl
-keyed-none Regain shape u c log s = refl
 
 -- the words, the masked pad and the tag, one after the other
 pub masked_parts : (shape : Shape)

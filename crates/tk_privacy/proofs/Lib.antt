@@ -6,10 +6,11 @@ pub mod Changes
 pub mod Seen
 pub mod PrivacyLaws
 pub mod Computing
-pub mod Mirrored
 pub mod ExchangingLaws
+pub mod NumberingLaws
 pub mod HidingLaws
 pub mod StepsLaws
 pub mod AskingLaws
 pub mod ReadsLaws
 pub mod EnteringLaws
+pub mod examples

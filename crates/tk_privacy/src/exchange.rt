@@ -1,16 +1,16 @@
-ghost use Rattle.std.specs.Prelude.{◌≡◌, ◌<◌, ◌≤◌, ◌+◌, ◌++◌, length, map, find};
-ghost use Rattle.std.specs.Prelude.{IsTrue, OnOk};
+ghost use Rattle.std.specs.Prelude.{◌≡◌, ◌<◌, ◌≤◌, ◌+◌, ◌++◌, length, map, IsTrue, OnOk};
 ghost use Rattle.std.specs.List.{range_with_len};
 ghost use Rattle.std.specs.Option.{option_copied};
 ghost use Rattle.tk_shape.specs.Lengths.{turn_count, cell_len};
 ghost use Rattle.tk_seal.specs.Texts.{is_allowed};
-ghost use Rattle.tk_script.specs.Sent.{sent, sent_as, is_numbered, writer_of};
+ghost use Rattle.tk_script.specs.Sent.{sent, sent_as, writer_of};
 ghost use Rattle.tk_report.specs.Listings.{sent_by};
 ghost use Rattle.tk_privacy.specs.Privacy.{masked_cell};
 ghost use Rattle.tk_privacy.specs.Exchanging.{write_exchanged, writes_of_turn, writes_exchanged};
 ghost use Rattle.tk_privacy.specs.Exchanging.{keyed_exchanged, numbers_of_log, keyeds_exchanged};
 
 use crate::cells::Cells;
+use crate::numbering::texts_of;
 use crate::way::Way;
 use std::alloc::Global;
 use tk_report::{Sendings, Sent};
@@ -96,30 +96,36 @@ impl<'a> Exchange<'a> {
         ensures { OnOk result (out.new.items ≡ out.old.items
             ++ numbers_of_log self.now.way self.now.script.now self.now.cells.now.bytes.now log) }
     {
+        let writer = self.script.role(log).writer;
+        let sent = self.sent[writer as usize].as_slice();
+        let texts = texts_of(alloc, sent, log)?;
         for number in 0..self.script.shape.turns() {
-            self.push_number(alloc, log, number, out)?;
+            let found = texts.as_slice().get(number as usize);
+            self.push_number(alloc, log, number, found, out)?;
         }
         Ok(())
     }
 
-    /// Appends the cell of a number of a log.
+    /// Appends the cell of a number of a log, as which this is sent.
     fn push_number(
         &self,
         alloc: Global,
         log: u32,
         number: u32,
+        found: Option<&Sent>,
         out: &mut Vec<u8>,
     ) -> Result<(), Memory>
         requires log_in { log < self.now.script.now.shape.logs }
         requires number_in { number < turn_count self.now.script.now.shape }
+        requires found { option_copied found ≡ sent_as self.now.script.now log number }
         ensures { let S = self.now.script.now in
             OnOk result (out.new.items ≡ out.old.items ++ keyed_exchanged self.now.way S.shape
             self.now.cells.now.bytes.now (writer_of S log) log number (sent_as S log number)) }
     {
-        let writer = self.script.role(log).writer;
-        let Some(found) = self.sent_as(writer, log, number) else {
+        let Some(found) = found else {
             return push(self.cells.keyed_cell(log, number), out);
         };
+        let writer = self.script.role(log).writer;
         let cell = self.cells.write_cell(found.turn, writer);
         match self.way {
             Way::Show => push(cell, out),
@@ -134,23 +140,6 @@ impl<'a> Exchange<'a> {
     {
         self.sent[client as usize].in_turn(turn)
     }
-
-    /// What is sent as a number of a log, which this client writes.
-    fn sent_as(&self, writer: u32, log: u32, number: u32) -> Option<&Sent<'a>>
-        requires writer_in { writer < self.now.script.now.shape.clients }
-        requires writes { writer_of self.now.script.now log ≡ writer }
-        ensures { option_copied result ≡ sent_as self.now.script.now log number }
-    {
-        as_number(self.sent[writer as usize].as_slice(), log, number)
-    }
-}
-
-/// What is sent as a number of a log.
-fn as_number<'s, 'a>(sent: &'s [Sent<'a>], log: u32, number: u32) -> Option<&'s Sent<'a>>
-    ensures { option_copied result ≡ find (is_numbered log number) sent.now }
-{
-    sent.iter()
-        .find(|found| found.log == log && found.number == number)
 }
 
 /// Appends a cell with a text sealed in its block.

@@ -19,7 +19,7 @@ write_cell-cell-requires-clause-turn_in c =
     let e = c.args.self.now in
     let S = e.script.now in
     let y = c.in-Some.found.now in
-    let some = sym c.sent_as.ensures ∙ ap option_copied c.in-Some.is in
+    let some = sym c.requires.found ∙ ap option_copied c.in-Some.is in
     let found = sent_as-is S c.args.log c.args.number y some in
     let is = sent-is S y.turn (writer_of S c.args.log) y found.sends in
     omega (
@@ -34,7 +34,7 @@ push_masked-requires-clause-allowed c =
     let e = c.args.self.now in
     let S = e.script.now in
     let y = c.in-Some.found.now in
-    let some = sym c.sent_as.ensures ∙ ap option_copied c.in-Some.is in
+    let some = sym c.requires.found ∙ ap option_copied c.in-Some.is in
     let found = sent_as-is S c.args.log c.args.number y some in
     let is = sent-is S y.turn (writer_of S c.args.log) y found.sends in
     let text = sym (ap (λ (x : Sending). x.text) c.found.view_is) ∙ sym c.as_slice.ensures in
@@ -45,7 +45,7 @@ push_masked-requires-clause-fits c =
     let e = c.args.self.now in
     let S = e.script.now in
     let y = c.in-Some.found.now in
-    let some = sym c.sent_as.ensures ∙ ap option_copied c.in-Some.is in
+    let some = sym c.requires.found ∙ ap option_copied c.in-Some.is in
     let found = sent_as-is S c.args.log c.args.number y some in
     let is = sent-is S y.turn (writer_of S c.args.log) y found.sends in
     let text = sym (ap (λ (x : Sending). x.text) c.found.view_is) ∙ sym c.as_slice.ensures in
@@ -59,7 +59,7 @@ returns-in-Show c =
     let log = c.args.log in
     let y = c.in-Some.found.now in
     let some : sent_as S log c.args.number ≡ Some y =
-    sym c.sent_as.ensures ∙ ap option_copied c.in-Some.is
+    sym c.requires.found ∙ ap option_copied c.in-Some.is
     in
     let writer = writer-of S log c.role.result.now c.role.ensures.role in
     let cell =
@@ -84,7 +84,7 @@ returns-in-Regain c =
     let log = c.args.log in
     let y = c.in-Some.found.now in
     let some : sent_as S log c.args.number ≡ Some y =
-    sym c.sent_as.ensures ∙ ap option_copied c.in-Some.is
+    sym c.requires.found ∙ ap option_copied c.in-Some.is
     in
     let writer = writer-of S log c.role.result.now c.role.ensures.role in
     let text = c.as_slice.ensures ∙ ap (λ (x : Sending). x.text) c.found.view_is in
