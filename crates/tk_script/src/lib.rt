@@ -56,4 +56,5 @@ pub use round_trip::{parse_printed, parse_printed_with};
 pub use say::{Say, Says};
 pub use script::Script;
 pub use tape_text::print_tape;
+pub use tk_shape::Memory;
 pub use turn_line::turn_of;

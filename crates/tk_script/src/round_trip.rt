@@ -3,7 +3,8 @@ ghost use Rattle.tk_script.specs.Answer.{Gives};
 ghost use Rattle.tk_script.specs.Grammar.{kept_of};
 ghost use Rattle.tk_script.specs.declared.keys.Keys.{Keys};
 
-use crate::{Form, Input, Script, ScriptError, parse, print, print_tape};
+use crate::tape_text::print_bytes;
+use crate::{Form, Input, Script, ScriptError, parse, print};
 use std::alloc::Global;
 
 /// What `parse` answers of a printed script of keys: the same script.
@@ -31,6 +32,6 @@ pub fn parse_printed_with(alloc: Global, script: &Script, tape: &[u8]) -> Result
 {
     let mut text = Vec::new(alloc);
     print(script, &mut text)?;
-    print_tape(tape, &mut text)?;
+    print_bytes(tape, &mut text)?;
     parse(alloc, text.as_slice(), Form::Run)
 }

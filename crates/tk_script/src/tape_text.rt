@@ -5,13 +5,23 @@ ghost use Rattle.tk_script.specs.PrintLaws.{ReadsPrintedTape};
 use crate::line_text::{push_bytes_line, push_line};
 use std::alloc::Global;
 use tk_shape::Memory;
+use tk_words::Tape;
 
 /// The bytes of a line of a tape.
 const PIECE: usize = 32;
 
 /// Appends a tape in its one printed form, or nothing if memory runs out. After a printed
 /// script of drawn words `parse` reads the same bytes, as `parse_printed_with` says.
-pub fn print_tape(tape: &[u8], out: &mut Vec<u8>) -> Result<(), Memory>
+pub fn print_tape(tape: &Tape, out: &mut Vec<u8>) -> Result<(), Memory>
+    ensures ok { OnOk result (out.new.items ≡ out.old.items ++ printed_tape tape.now) }
+    ensures err { OnErr result (out.new.items ≡ out.old.items) }
+    ensures reads { OnOk result (ReadsPrintedTape tape.now) }
+{
+    print_bytes(tape.as_bytes(), out)
+}
+
+/// The same of the bytes of a tape.
+pub(crate) fn print_bytes(tape: &[u8], out: &mut Vec<u8>) -> Result<(), Memory>
     ensures ok { OnOk result (out.new.items ≡ out.old.items ++ printed_tape tape.now) }
     ensures err { OnErr result (out.new.items ≡ out.old.items) }
     ensures reads { OnOk result (ReadsPrintedTape tape.now) }
