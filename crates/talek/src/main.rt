@@ -1,11 +1,11 @@
 //! The program: the top call over the words, the standard streams and no taps.
 #![tactic(auto)]
 
-use std::io::ErrorKind;
+use std::env;
+use std::io::{ErrorKind, Write};
 use std::process::ExitCode;
 use std::rt::Env;
-use std::{env, str};
-use tk_cli::{Status, status_line, talek};
+use tk_cli::{Status, exit_after, exit_with};
 use tk_io::{NoTaps, OpenGate, StdSink, StdSource};
 use tk_shape::Bytes;
 
@@ -29,23 +29,12 @@ fn words_of<R: Env + AllocGlobal>(rt: &R) -> Result<Vec<Bytes>, Status> {
     Ok(words)
 }
 
-/// Tells a status that isn't done on standard error. What can't be told there is told by the code alone.
-fn tell<R: Eprint + AllocGlobal>(rt: &R, status: &Status) {
-    let mut line = Vec::new(rt.alloc());
-    if status_line(rt.alloc(), status, &mut line).is_err() {
-        return;
-    }
-    if let Ok(text) = str::from_utf8(line.as_slice()) {
-        let _ = rt.eprintln(text);
-    }
-}
-
 fn main(rt: HostRuntime) -> ExitCode {
-    let status = match words_of(&rt) {
+    let exit = match words_of(&rt) {
         Ok(words) => {
             let mut source = StdSource::new(rt.stdin());
             let mut sink = StdSink::new(rt.stdout());
-            talek(
+            exit_after(
                 &rt,
                 words.as_slice(),
                 &mut source,
@@ -53,12 +42,12 @@ fn main(rt: HostRuntime) -> ExitCode {
                 &mut NoTaps,
                 &OpenGate,
             )
-            .status
         }
-        Err(status) => status,
+        Err(status) => exit_with(rt.alloc(), &status),
     };
-    if status != Status::Done {
-        tell(&rt, &status);
+    // what can't be told there is told by the code alone
+    if let Ok(line) = &exit.line {
+        let _ = rt.stderr().write_all(line.as_slice());
     }
-    ExitCode::from(status.code())
+    ExitCode::from(exit.code)
 }

@@ -5,7 +5,7 @@ use Rattle.std.specs.Prelude.{None}
 use Rattle.tk_io.specs.Content.{TakesUpTo, before_taking, emptied}
 use Rattle.tk_script.specs.Grammar.{Spells}
 use Rattle.tk_script.specs.Laws.{SpellsOne}
-use Rattle.tk_cli.specs.declared.top.TheConstants.{INPUT_LIMIT}
+use Rattle.tk_cli.specs.Limits.{input_limit}
 use Rattle.tk_cli.specs.declared.request.Request.{Request}
 use Rattle.tk_cli.specs.declared.request.Request.TheVariants as request
 use Rattle.tk_cli.specs.declared.status.Status.{Status}
@@ -57,7 +57,7 @@ refused-not one r s old new refused has =
 
 reading : (one : SpellsOne) (s : Status) (r : Request) (e : Ended) (old new : Outside) →
     EndsWith s r e old new → HasAccepted r old → NoFault old new →
-    ((taken : List ℕ) × TakesUpTo INPUT_LIMIT old.left new.left (s ≡ status.TooLong) taken) →
+    ((taken : List ℕ) × TakesUpTo input_limit old.left new.left (s ≡ status.TooLong) taken) →
     (s ≡ status.Done) ⊎ (s ≡ status.Memory)
 reading one status.Done r e old new how has none taken = inl refl
 reading one status.Memory r e old new how has none taken = inr refl

@@ -12,7 +12,7 @@ use Rattle.tk_words.specs.Book.{words_in}
 use Rattle.tk_words.specs.Words.{WordBook}
 use Rattle.tk_run.specs.declared.run_error.RunError.{RunError}
 use Rattle.tk_run.specs.declared.run_error.RunError.TheVariants as run_error
-use Rattle.tk_cli.specs.declared.top.TheConstants.{INPUT_LIMIT}
+use Rattle.tk_cli.specs.Limits.{input_limit}
 use Rattle.tk_cli.specs.declared.request.Request.{Request}
 use Rattle.tk_cli.specs.declared.request.Request.TheVariants as request
 use Rattle.tk_cli.specs.declared.status.Status.{Status}
@@ -49,7 +49,7 @@ mirror-reads h = record { source = λ no. no; how = λ e old new how. how }
 -- ---- how much was taken
 
 abbrev Taken : Type 0 → Option (List ℕ) → Option (List ℕ) → Type 0
-Taken over left left' = (taken : List ℕ) × TakesUpTo INPUT_LIMIT left left' over taken
+Taken over left left' = (taken : List ℕ) × TakesUpTo input_limit left left' over taken
 
 abbrev IsOver : (X : Type 0) → Status → Type 0
 IsOver X s = let a : Result X Status = Err s in a ≡ Err status.TooLong
@@ -61,7 +61,7 @@ pub err-taken : {X : Type 0} (e : Ended) (s : Status) (left left' : Option (List
     e.status ≡ s → Taken (IsOver X s) left left' → Taken (e.status ≡ status.TooLong) left left'
 err-taken {X} e s left left' is t = (
   t.0,
-  over-as INPUT_LIMIT left left' t.0 t.1
+  over-as input_limit left left' t.0 t.1
       (λ over. is ∙ err_same {X = X} s status.TooLong over) (λ long. ap Err (sym is ∙ long)),
 )
 
@@ -69,7 +69,7 @@ pub ok-taken : {X : Type 0} (x : X) (e : Ended) (left left' : Option (List ℕ))
     Taken (IsOverOk x) left left' → e.status ≢ status.TooLong →
     Taken (e.status ≡ status.TooLong) left left'
 ok-taken x e left left' t short =
-    (t.0, not_over INPUT_LIMIT left left' t.0 t.1 (ok_long x) short)
+    (t.0, not_over input_limit left left' t.0 t.1 (ok_long x) short)
 
 puts-short : (s : Status) (text : List ℕ) (held held' : Option (List ℕ)) (f f' : ℕ) →
     Puts s text held held' f f' → s ≢ status.TooLong

@@ -3,7 +3,7 @@ use Rattle.std.specs.Prelude.{◌≡◌, ◌⊎◌, ◌≤◌, ℕ, List, length
 use Rattle.tk_io.specs.Content.{Rose}
 use Rattle.tk_script.specs.declared.input.Input.{Input}
 use Rattle.tk_script.specs.Grammar.{Spells}
-use Rattle.tk_cli.specs.declared.top.TheConstants.{INPUT_LIMIT}
+use Rattle.tk_cli.specs.Limits.{input_limit}
 use Rattle.tk_cli.specs.declared.request.Request.{Request}
 use Rattle.tk_cli.specs.declared.request.Request.TheVariants as request
 use Rattle.tk_cli.specs.declared.status.Status.TheVariants as status
@@ -23,7 +23,7 @@ pub record HasAccepted (r : Request) (o : Outside) : Type 0 where
   pub bytes : List ℕ
   pub input : Input
   pub left : o.left ≡ Some bytes
-  pub within : length bytes ≤ INPUT_LIMIT
+  pub within : length bytes ≤ input_limit
   pub spelled : Spells (form_of r) bytes input
   pub accepted : refusal_of r input ≡ None
 

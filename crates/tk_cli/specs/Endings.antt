@@ -16,7 +16,7 @@ use Rattle.tk_report.specs.Outcomes.{IsLeftBy}
 use Rattle.tk_report.specs.Shown.{ShowsHistory}
 use Rattle.tk_cluster.specs.Closings.{Ended as Closed}
 use Rattle.tk_run.specs.Threads.{IsRun}
-use Rattle.tk_cli.specs.declared.top.TheConstants.{INPUT_LIMIT}
+use Rattle.tk_cli.specs.Limits.{input_limit}
 use Rattle.tk_cli.specs.declared.request.Request.{Request}
 use Rattle.tk_cli.specs.declared.request.Request.TheVariants as request
 use Rattle.tk_cli.specs.declared.status.Status.{Status}
@@ -206,7 +206,7 @@ HowEnds r e old new = EndsWith e.status r e old new
 -- How a request ends. It is too long exactly where more than the limit was taken.
 pub record Ends (r : Request) (e : Ended) (old new : Outside) : Type 0 where
   pub taken : (taken : List ℕ)
-      × TakesUpTo INPUT_LIMIT old.left new.left (e.status ≡ status.TooLong) taken
+      × TakesUpTo input_limit old.left new.left (e.status ≡ status.TooLong) taken
   pub counts : NoCountFalls old new
   pub unread : LeavesSource r → IsUnread old new
   pub untapped : LeavesTaps r → IsUntapped old new

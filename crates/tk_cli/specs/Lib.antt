@@ -1,4 +1,6 @@
 pub mod StatusLines
+pub mod Exits
+pub mod Limits
 pub mod Requests
 pub mod Outside
 pub mod Handles

@@ -6,15 +6,18 @@ ghost use Rattle.tk_script.specs.Book.{HasTape, IsOtherTape, IsWholeTape};
 ghost use Rattle.tk_cli.specs.declared.request.Request.{Request as Requested};
 ghost use Rattle.tk_cli.specs.Inputs.{form_of, kept_in, IsReady, IsOfRuns, Reads, Stops};
 ghost use Rattle.tk_cli.specs.Inputs.{TellsIn, bad_history_line, server_refusal};
+ghost use Rattle.tk_cli.specs.Limits.{input_limit};
 
 use crate::status::Status;
-use crate::top::INPUT_LIMIT;
 use std::alloc::Global;
 use tk_io::{Source, read_all};
 use tk_schedule::{History, HistoryError, RawHistory};
 use tk_script::{BookError, Form, Input, RawTape, Script, parse};
 use tk_shape::Shape;
 use tk_words::{Book, Tape};
+
+/// The most bytes of an input.
+const INPUT_LIMIT: usize = 8388608;
 
 /// The script of an input that all bytes of the source spell, and the words of its book; or the status that a run ends
 /// with.
@@ -23,7 +26,7 @@ pub(crate) fn ready<S: Source>(alloc: Global, source: &mut S) -> Result<(Script,
     ensures stopped { IfErr result (λ s. (request : Requested) → IsOfRuns request →
         Stops request s (S.left source.old) (S.left source.new)
         (S.faults source.old) (S.faults source.new)) }
-    ensures taken { (taken : List ℕ) × TakesUpTo INPUT_LIMIT (S.left source.old)
+    ensures taken { (taken : List ℕ) × TakesUpTo input_limit (S.left source.old)
         (S.left source.new) (result ≡ Err Status.TooLong) taken }
     ensures counts { S.faults source.old ≤ S.faults source.new }
 {
@@ -43,7 +46,7 @@ pub(crate) fn input_from<S: Source>(
     ensures stopped { IfErr result (λ s. (request : Requested) → form_of request ≡ form →
         Stops request s (S.left source.old) (S.left source.new)
         (S.faults source.old) (S.faults source.new)) }
-    ensures taken { (taken : List ℕ) × TakesUpTo INPUT_LIMIT (S.left source.old)
+    ensures taken { (taken : List ℕ) × TakesUpTo input_limit (S.left source.old)
         (S.left source.new) (result ≡ Err Status.TooLong) taken }
     ensures counts { S.faults source.old ≤ S.faults source.new }
 {

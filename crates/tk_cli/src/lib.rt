@@ -3,6 +3,7 @@
 
 mod ended;
 mod ending;
+mod exit;
 mod handle_word;
 mod input;
 mod laws;
@@ -18,6 +19,7 @@ mod top;
 mod view_word;
 
 pub use ended::Ended;
+pub use exit::{Exit, exit_after, exit_with};
 pub use laws::{completeness, honest_serial_runs};
 pub use status::{Status, status_line};
-pub use top::{INPUT_LIMIT, talek};
+pub use top::talek;

@@ -3,11 +3,11 @@ ghost use Rattle.std.specs.Prelude.{◌≡◌, ◌≤◌, ℕ, List, IfOk, IfErr
 ghost use Rattle.tk_io.specs.Content.{TakesUpTo};
 ghost use Rattle.tk_cli.specs.Endings.{IsAnswer, IsMade};
 ghost use Rattle.tk_cli.specs.Inputs.{IsSpelled, Refuses, Stops};
+ghost use Rattle.tk_cli.specs.Limits.{input_limit};
 
 use crate::input::{history_in, input_from, server_in, tape_in};
 use crate::request::Request;
 use crate::status::Status;
-use crate::top::INPUT_LIMIT;
 use std::alloc::Global;
 use tk_io::Source;
 use tk_privacy::mirror;
@@ -24,7 +24,7 @@ pub(crate) fn mirror_text<S: Source>(
         (S.left source.old) (S.left source.new) text.items) }
     ensures stopped { IfErr result (λ s. Stops (Request.Mirror hidden) s
         (S.left source.old) (S.left source.new) (S.faults source.old) (S.faults source.new)) }
-    ensures taken { (taken : List ℕ) × TakesUpTo INPUT_LIMIT (S.left source.old)
+    ensures taken { (taken : List ℕ) × TakesUpTo input_limit (S.left source.old)
         (S.left source.new) (result ≡ Err Status.TooLong) taken }
     ensures counts { S.faults source.old ≤ S.faults source.new }
 {
@@ -56,6 +56,6 @@ fn mirrored(alloc: Global, hidden: u32, input: Input) -> Result<Vec<u8>, Status>
         return Err(Status::Memory);
     };
     let mut text = Vec::new(alloc);
-    print_tape(tape.as_bytes(), &mut text)?;
+    print_tape(&tape, &mut text)?;
     Ok(text)
 }

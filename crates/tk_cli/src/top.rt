@@ -21,9 +21,6 @@ use std::thread::Threads;
 use tk_io::{Gate, Sink, Source, Taps};
 use tk_shape::Bytes;
 
-/// The most bytes of an input.
-pub const INPUT_LIMIT: usize = 8388608;
-
 /// Does what the words ask for. A form that reads an input reads all of it from the source, and then writes its whole
 /// output to the sink at once. A run gives the taps before that what each server sees; with threads, its clients and
 /// its publisher come to the gate.

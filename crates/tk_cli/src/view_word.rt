@@ -7,11 +7,11 @@ ghost use Rattle.tk_report.specs.Exchange as told;
 ghost use Rattle.tk_cli.specs.Endings.{IsAnswer, IsMade};
 ghost use Rattle.tk_cli.specs.Handles.{hex_line, hex_lines};
 ghost use Rattle.tk_cli.specs.Inputs.{IsSpelled, Refuses, Stops};
+ghost use Rattle.tk_cli.specs.Limits.{input_limit};
 
 use crate::input::{history_in, input_from, server_in};
 use crate::request::Request;
 use crate::status::Status;
-use crate::top::INPUT_LIMIT;
 use std::alloc::Global;
 use tk_io::Source;
 use tk_privacy::view;
@@ -30,7 +30,7 @@ pub(crate) fn view_text<S: Source>(
         (S.left source.old) (S.left source.new) text.items) }
     ensures stopped { IfErr result (λ s. Stops (Request.View server) s
         (S.left source.old) (S.left source.new) (S.faults source.old) (S.faults source.new)) }
-    ensures taken { (taken : List ℕ) × TakesUpTo INPUT_LIMIT (S.left source.old)
+    ensures taken { (taken : List ℕ) × TakesUpTo input_limit (S.left source.old)
         (S.left source.new) (result ≡ Err Status.TooLong) taken }
     ensures counts { S.faults source.old ≤ S.faults source.new }
 {

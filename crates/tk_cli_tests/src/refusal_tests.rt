@@ -3,7 +3,7 @@ use std::alloc::{AllocError, Global};
 use std::sync::Wait;
 use std::test::Fail;
 use std::thread::Threads;
-use tk_cli::{INPUT_LIMIT, Status};
+use tk_cli::Status;
 use tk_io::MemSink;
 use tk_script::Cause;
 use tk_shape::{Field, Memory};
@@ -135,7 +135,20 @@ fn refused_inputs(rt: HostRuntime) -> Result<(), Fail> {
             "at {lines}"
         );
     }
-    let many = vec![in alloc; 0u8; INPUT_LIMIT + 1]?;
-    assert_eq!(rt; refused(&rt, many.as_slice())?, (Status::TooLong, 0, 0));
+    Ok(())
+}
+
+/// As many bytes as an input may have, and one more.
+#[test]
+fn longest_inputs(rt: HostRuntime) -> Result<(), Fail> {
+    let alloc = rt.alloc();
+    let form = Status::Script {
+        line: 1,
+        cause: Cause::Form,
+    };
+    for (size, status) in [(8388608, form), (8388609, Status::TooLong)] {
+        let input = vec![in alloc; 0u8; size]?;
+        assert_eq!(rt; refused(&rt, input.as_slice())?, (status, 0, 0));
+    }
     Ok(())
 }

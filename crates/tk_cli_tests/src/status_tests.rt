@@ -1,18 +1,19 @@
+use std::alloc::Global;
 use std::test::Fail;
-use tk_cli::{Status, status_line};
+use tk_cli::{Status, exit_with, status_line};
 use tk_script::Cause;
 use tk_shape::Field;
 
-/// A line that is refused for this cause.
-const REFUSED: [(Cause, &str); 8] = [
-    (Cause::Early, "talek: line 5: early"),
-    (Cause::Form, "talek: line 5: form"),
-    (WORK, "talek: line 5: shape work 549755813889"),
-    (Cause::Number { value: 7 }, "talek: line 5: number 7"),
-    (Cause::Order, "talek: line 5: order"),
-    (Cause::Room { room: 6 }, "talek: line 5: room 6"),
-    (Cause::Text { at: 0 }, "talek: line 5: text 0"),
-    (Cause::After, "talek: line 5: after"),
+/// A line that is refused, and the cause.
+const REFUSED: [(u64, Cause, &str); 8] = [
+    (1, Cause::Early, "talek: line 1: early"),
+    (3, Cause::Form, "talek: line 3: form"),
+    (2, WORK, "talek: line 2: shape work 549755813889"),
+    (4, Cause::Number { value: 7 }, "talek: line 4: number 7"),
+    (6, Cause::Order, "talek: line 6: order"),
+    (5, Cause::Room { room: 6 }, "talek: line 5: room 6"),
+    (5, Cause::Text { at: 0 }, "talek: line 5: text 0"),
+    (19, Cause::After, "talek: line 19: after"),
 ];
 
 const SHAPES: Status = Status::Shapes {
@@ -25,6 +26,24 @@ const WORK: Cause = Cause::Shape {
     field: Field::Work,
     value: 549755813889,
 };
+
+/// Whether a status is told by this line, and the process ends with it, where there is one, and with this code.
+fn is_told(alloc: Global, status: &Status, line: &str, code: u8) -> Result<bool, Fail> {
+    let mut out = Vec::new(alloc);
+    status_line(alloc, status, &mut out)?;
+    let mut wanted = Vec::from_slice(alloc, line.as_bytes())?;
+    if *status != Status::Done {
+        wanted.push(b'\n')?;
+    }
+    let exit = exit_with(alloc, status);
+    let written = exit.line?;
+    Ok(
+        out.as_slice() == line.as_bytes()
+            && status.code() == code
+            && written.as_slice() == wanted.as_slice()
+            && exit.code == code,
+    )
+}
 
 #[test]
 fn status_lines(rt: HostRuntime) -> Result<(), Fail> {
@@ -45,17 +64,11 @@ fn status_lines(rt: HostRuntime) -> Result<(), Fail> {
             10,
         ),
     ] {
-        let mut out = Vec::new(alloc);
-        status_line(alloc, &status, &mut out)?;
-        assert_eq!(rt; out.as_slice(), line.as_bytes());
-        assert_eq!(rt; status.code(), code);
+        assert!(rt; is_told(alloc, &status, line, code)?, "at {line}");
     }
-    for (cause, line) in REFUSED {
-        let status = Status::Script { line: 5, cause };
-        let mut out = Vec::new(alloc);
-        status_line(alloc, &status, &mut out)?;
-        assert_eq!(rt; out.as_slice(), line.as_bytes());
-        assert_eq!(rt; status.code(), 3);
+    for (line, cause, text) in REFUSED {
+        let status = Status::Script { line, cause };
+        assert!(rt; is_told(alloc, &status, text, 3)?, "at {text}");
     }
     Ok(())
 }

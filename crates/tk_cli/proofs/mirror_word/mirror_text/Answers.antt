@@ -1,5 +1,5 @@
 -- What is answered to the input that was read.
-use Rattle.tk_cli.specs.declared.top.TheConstants.{INPUT_LIMIT}
+use Rattle.tk_cli.specs.Limits.{input_limit}
 use Rattle.tk_cli.specs.declared.request.Request.TheVariants.{Mirror}
 use Rattle.tk_cli.proofs.InputLaws.{made-by, stopped-by, taken-by}
 use Rattle.tk_cli.proofs.mirror_word.mirror_text.Goals as goal
@@ -27,5 +27,5 @@ returns-clause-taken g c =
     taken-by (Mirror c.args.hidden) (g.S.Source.left c.args.source.now)
     (g.S.Source.left c.input_from.new.source) (g.S.Source.faults c.args.source.now)
     (g.S.Source.faults c.input_from.new.source) c.in_ok-input.input c.in_ok-input.ensures.read
-    (λ text. text.items) INPUT_LIMIT c.in_ok-input.input c.mirrored.result
+    (λ text. text.items) input_limit c.in_ok-input.input c.mirrored.result
     c.mirrored.ensures.refused c.in_ok-input.ensures.taken

@@ -98,9 +98,8 @@ returns-clause-answer c =
           ∙ c.in_ok-server_in.ensures.ok;
       due = c.in_ok-history.ensures.told;
       made = c.in_ok-print_tape.ensures.ok
-          ∙ ap (λ (xs : List ℕ). xs ++ printed_tape c.as_bytes.result.now) c.new-text.ensures.items
-          ∙ ap printed_tape (c.as_bytes.ensures ∙ c.in-Ok.ensures.mirrored
-          ∙ ap mirrored c.in_ok-tape.ensures.kept)
+          ∙ ap (λ (xs : List ℕ). xs ++ printed_tape c.in-Ok.tape) c.new-text.ensures.items
+          ∙ ap printed_tape (c.in-Ok.ensures.mirrored ∙ ap mirrored c.in_ok-tape.ensures.kept)
           ∙ sym (ap (λ (o : Option Script). mirror_of c.args.hidden input.first o H
           (kept_in input.tape)) c.in-Some.is);
     }

@@ -1,6 +1,6 @@
 -- What is answered to the input that was read.
 
-use Rattle.tk_cli.specs.declared.top.TheConstants.{INPUT_LIMIT}
+use Rattle.tk_cli.specs.Limits.{input_limit}
 use Rattle.tk_cli.specs.declared.request.Request.TheVariants.{View}
 use Rattle.tk_cli.proofs.InputLaws.{made-by, stopped-by, taken-by}
 use Rattle.tk_cli.proofs.view_word.view_text.Goals as goal
@@ -28,5 +28,5 @@ returns-clause-taken g c =
     taken-by (View c.args.server) (g.S.Source.left c.args.source.now)
     (g.S.Source.left c.input_from.new.source) (g.S.Source.faults c.args.source.now)
     (g.S.Source.faults c.input_from.new.source) c.in_ok-input.input c.in_ok-input.ensures.read
-    (λ text. text.items) INPUT_LIMIT c.in_ok-input.input c.viewed.result c.viewed.ensures.refused
+    (λ text. text.items) input_limit c.in_ok-input.input c.viewed.result c.viewed.ensures.refused
     c.in_ok-input.ensures.taken

@@ -1,0 +1,6 @@
+-- How much an input may have.
+use Rattle.std.specs.Prelude.{ℕ}
+
+-- the most bytes of an input
+abbrev pub input_limit : ℕ
+input_limit = 8388608
