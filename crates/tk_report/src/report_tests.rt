@@ -17,7 +17,10 @@ fill 11 36
 fill 12 36
 fill 13 36
 fill 14 36
-fill 21 40
+fill 21 10
+fill 22 10
+fill 23 10
+fill 24 10
 fill 31 36
 fill 32 36
 end

@@ -83,6 +83,24 @@ fn pinned<B: Naming>(desk: &Desk<B>, set: &EpochSet, server: u32) -> bool {
     }
 }
 
+/// The states of both servers, held at once: a replica that was lent twice would wait for itself. Each applied all five
+/// marks, and agrees with what a pass has seen.
+fn both_held<B: Naming, R: Wait + Abort>(
+    rt: &R,
+    desk: &Desk<B>,
+    pass: &mut Pass<B>,
+) -> Result<(), Fail> {
+    if desk.shape.servers < 2 {
+        return Err("servers".into());
+    }
+    let mut first = desk.cluster.hold(rt, 1);
+    let mut second = desk.cluster.hold(rt, 2);
+    desk.cluster.agree(&mut first, pass);
+    desk.cluster.agree(&mut second, pass);
+    assert!(rt; first.state().applied() == 5 && second.state().applied() == 5);
+    Ok(())
+}
+
 fn two_are_kept<B: Naming, R: Wait + AllocGlobal + Abort>(rt: &R, blank: Blank) -> Result<(), Fail>
     requires table { blank.table ≡ B.table }
     requires shape { blank.shape ≡ B.shape }
@@ -101,7 +119,7 @@ fn two_are_kept<B: Naming, R: Wait + AllocGlobal + Abort>(rt: &R, blank: Blank) 
         serves_two(rt, &desk, server)?;
         assert!(rt; pinned(&desk, &set, server));
     }
-    Ok(())
+    both_held(rt, &desk, passes.first_mut().ok_or("pass")?)
 }
 
 #[test]

@@ -13,6 +13,8 @@ mod order_tests;
 #[cfg(test)]
 mod replica_tests;
 #[cfg(test)]
+mod restored_tests;
+#[cfg(test)]
 mod set_tests;
 #[cfg(test)]
 mod testing;

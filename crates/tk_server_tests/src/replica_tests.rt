@@ -278,7 +278,7 @@ fn serves_together<R: Abort>(rt: &R, alloc: Global, state: &ReplicaState) -> Res
     let served = state.serve_all(alloc, frames.as_slice());
     let replies = served.ok().ok_or("served")?;
     assert!(rt; replies.len() == 3);
-    assert!(rt; is_reply(alloc, &state.shape(), replies[0].as_slice()));
+    assert!(rt; is_reply(alloc, state.shape(), replies[0].as_slice()));
     for (frame, reply) in frames.iter().zip(replies.iter()) {
         let alone = state.serve(alloc, frame.as_slice()).ok().ok_or("alone")?;
         assert!(rt; reply.as_slice() == alone.as_slice());

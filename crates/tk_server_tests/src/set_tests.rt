@@ -115,7 +115,7 @@ fn many<R: Threads + Sync + Abort>(rt: &R, set: &EpochSet, alloc: Global) -> Res
     Ok(())
 }
 
-/// No frame at all, a read of the next epoch and a write of another client.
+/// No frame at all, a read of the epoch before and of the next one, and a write of another client.
 fn refused<B: Naming, R: Wait + AllocGlobal + Abort>(
     rt: &R,
     desk: &Desk<B>,
@@ -124,9 +124,11 @@ fn refused<B: Naming, R: Wait + AllocGlobal + Abort>(
 ) -> Result<(), Fail> {
     let none = FrameError::Length { want: 16, got: 0 };
     assert!(rt; unanswered(set, &[]) == Some(AnswerError::Frame(none)));
-    let next = read(desk.alloc, 2).ok_or("read")?;
-    let later = AnswerError::Epoch { want: 1, got: 2 };
-    assert!(rt; unanswered(set, next.as_slice()) == Some(later));
+    for got in [0, 2] {
+        let other = read(desk.alloc, got).ok_or("read")?;
+        let refusal = AnswerError::Epoch { want: 1, got };
+        assert!(rt; unanswered(set, other.as_slice()) == Some(refusal));
+    }
     let none = FrameError::Length { want: 46, got: 0 };
     assert!(rt; desk.write(rt, pass, &[]) == Some(Err(WriteError::Frame(none))));
     let frame = write(desk.alloc, 1, 1).ok_or("write")?;

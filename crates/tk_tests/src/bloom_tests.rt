@@ -1,3 +1,5 @@
+ghost use Rattle.std.specs.Prelude.{◌≡◌, ◌<◌, length};
+
 use tk_bloom::{Memory, Window};
 
 #[test]
@@ -63,5 +65,62 @@ fn a_position_of_two_pushes_stays_with_one(rt: HostRuntime) -> Result<(), Memory
     for position in [0, 1, 3, 4, 5, 8, 11, 14, 65535] {
         assert!(rt; !filter.shows(&[position]));
     }
+    Ok(())
+}
+
+/// Pushes one position into a window that keeps the last three pushes.
+fn push(window: &mut Window, hit: u32)
+    requires hits { window.old.hits ≡ 1 }
+    requires bits { window.old.bits ≡ 64 }
+    requires retained { window.old.retained ≡ 3 }
+    requires full { length window.old.pushes ≡ 3 }
+    requires in_range { hit < 64 }
+    ensures hits { window.new.hits ≡ 1 }
+    ensures bits { window.new.bits ≡ 64 }
+    ensures retained { window.new.retained ≡ 3 }
+    ensures full { length window.new.pushes ≡ 3 }
+{
+    window.push(&[hit]);
+}
+
+/// Whether the three pushes that a window keeps have these positions.
+fn keeps(window: &Window, hits: [u32; 3]) -> bool
+    requires { length window.now.pushes ≡ 3 }
+{
+    let [oldest, middle, newest] = hits;
+    window.hits_at(0) == [oldest].as_slice()
+        && window.hits_at(1) == [middle].as_slice()
+        && window.hits_at(2) == [newest].as_slice()
+}
+
+#[test]
+fn a_restored_window_expires_and_moves_down(rt: HostRuntime) -> Result<(), Memory> {
+    let mut window = Window::restore(rt.alloc(), 64, 1, 3, &[5, 9, 5])?;
+    let mut last = [5, 9, 5];
+    assert!(rt; keeps(&window, last));
+    // the run has seven positions at most, so it moves down several times
+    for hit in 20..32 {
+        push(&mut window, hit);
+        last = [last[1], last[2], hit];
+        assert!(rt; keeps(&window, last), "push {hit}");
+    }
+    let filter = window.filter(rt.alloc())?;
+    assert!(rt; filter.shows(&[29, 30, 31]));
+    for gone in [5, 9, 28] {
+        assert!(rt; !filter.shows(&[gone]));
+    }
+    Ok(())
+}
+
+#[test]
+fn a_restored_window_fills_up(rt: HostRuntime) -> Result<(), Memory> {
+    let mut window = Window::restore(rt.alloc(), 64, 2, 2, &[1, 5])?;
+    window.push(&[5, 6]);
+    assert!(rt; window.filter(rt.alloc())?.shows(&[1, 5, 6]));
+    window.push(&[6, 0]);
+    let filter = window.filter(rt.alloc())?;
+    assert!(rt; filter.shows(&[0, 5, 6]) && !filter.shows(&[1]));
+    let empty = Window::restore(rt.alloc(), 64, 2, 2, &[])?;
+    assert!(rt; !empty.filter(rt.alloc())?.shows(&[0]));
     Ok(())
 }

@@ -1,4 +1,4 @@
-ghost use Rattle.std.specs.Prelude.{◌≡◌, ◌<◌, ◌≤◌, IfOk};
+ghost use Rattle.std.specs.Prelude.{◌≡◌, ◌<◌, ◌≤◌, length, IfOk};
 ghost use Rattle.tk_bucket.specs.Sizes.{IsSizes};
 
 use std::alloc::Global;
@@ -16,6 +16,27 @@ fn wide(alloc: Global, buckets: u32, depth: u32, block: u32) -> Result<Buckets, 
     ensures block { IfOk result (λ b. b.contents.block ≡ block) }
 {
     Buckets::new(alloc, buckets, depth, block)
+}
+
+/// The bytes of buckets of four slots, where the first slot of bucket 17 has a record.
+fn one_record(alloc: Global, len: usize) -> Result<Vec<u8>, Memory>
+    requires { 2760 ≤ len }
+    ensures { IfOk result (λ bytes. length bytes.items ≡ len) }
+{
+    let mut bytes = vec![in alloc; 0; len]?;
+    (bytes[2727], bytes[2731], bytes[2735]) = (9, 17, 3);
+    bytes[2736..2760].fill(0x77);
+    Ok(bytes)
+}
+
+/// 256 buckets of four slots, of these bytes, of which only the sizes are told.
+fn wide_of(alloc: Global, bytes: &[u8]) -> Result<Buckets, Memory>
+    requires { length bytes.now ≡ 40960 }
+    ensures buckets { IfOk result (λ b. b.contents.buckets ≡ 256) }
+    ensures depth { IfOk result (λ b. b.contents.depth ≡ 4) }
+    ensures block { IfOk result (λ b. b.contents.block ≡ 24) }
+{
+    Buckets::restore(alloc, 256, 4, 24, bytes)
 }
 
 /// The bytes of all buckets from number `i` on.
@@ -138,5 +159,24 @@ fn pages_shared_and_changed(rt: HostRuntime) -> Result<(), Fail> {
         assert!(rt; starts_with(&late, i, len, position), "bucket {i}");
     }
     changes_lower_both();
+    Ok(())
+}
+
+#[test]
+fn restored_pages_are_owned_and_none_is_spare(rt: HostRuntime) -> Result<(), Fail> {
+    let bytes = one_record(rt.alloc(), 40960).ok().ok_or("memory")?;
+    let mut buckets = wide_of(rt.alloc(), bytes.as_slice()).ok().ok_or("memory")?;
+    assert_eq!(rt; counts(&buckets), [16, 0, 0]);
+    let slot = buckets.slot(17, 0);
+    assert_eq!(rt; (slot.position, slot.first, slot.second), (9, 17, 3));
+    assert_eq!(rt; slot.block, BLOCK.as_slice());
+    write(&mut buckets, 17, 10);
+    assert_eq!(rt; counts(&buckets), [16, 0, 0]);
+    let early = taken(rt.alloc(), &mut buckets).ok().ok_or("memory")?;
+    assert_eq!(rt; counts(&buckets), [16, 16, 16]);
+    write(&mut buckets, 18, 11);
+    assert_eq!(rt; counts(&buckets), [16, 15, 15]);
+    assert!(rt; starts_with(&early, 17, 2400, 10));
+    assert!(rt; starts_with(&early, 18, 2240, 0));
     Ok(())
 }

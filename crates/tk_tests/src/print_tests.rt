@@ -1,10 +1,12 @@
 use crate::script_tests::{Parts, join, parsed};
 use std::alloc::Global;
+use std::test::Fail;
 use tk_script::{
     BookError, Cause, Form, Input, ScriptError, parse, parse_printed, parse_printed_with, print,
     print_tape, push_cause, push_field, push_line, push_number, push_numbers, push_numbers_line,
 };
-use tk_shape::Memory;
+use tk_shape::{Memory, Shape};
+use tk_words::Tape;
 
 /// Whether a text is that of these parts.
 fn is_joined(text: &Vec<u8>, parts: &[&[u8]]) -> Result<bool, Memory> {
@@ -108,26 +110,35 @@ fn printed_tape_parsed(rt: HostRuntime) -> Result<(), ScriptError> {
 /// 32 bytes as they are printed.
 const FULL: &[u8] = b"x 0f0f0f0f0f0f0f0f0f0f0f0f0f0f0f0f0f0f0f0f0f0f0f0f0f0f0f0f0f0f0f0f\n";
 
-/// How many bytes a tape has, and what is printed of it after another text.
-const TAPES: [(usize, Parts); 4] = [
-    (0, &[b"talek", b"tape\nend\n"]),
-    (1, &[b"talek", b"tape\nx 0f\nend\n"]),
-    (32, &[b"talek", b"tape\n", FULL, b"end\n"]),
-    (33, &[b"talek", b"tape\n", FULL, b"x 0f\nend\n"]),
+/// A shape, how many full lines its tape is printed in, and the last line.
+const TAPES: [([u32; 12], usize, &[u8]); 2] = [
+    (
+        [2, 8, 4, 4, 24, 64, 1, 0, 1, 1, 1, 1],
+        2,
+        b"x 0f0f0f0f0f0f0f0f0f0f0f0f0f0f0f0f0f0f\n",
+    ),
+    ([2, 8, 4, 4, 24, 64, 1, 0, 2, 2, 1, 1], 8, b""),
 ];
 
-/// Whether of so many bytes this is printed.
-fn prints_tape(alloc: Global, count: usize, printed: &[&[u8]]) -> Result<bool, Memory> {
-    let tape = vec![in alloc; 0x0f; count]?;
+/// Whether the tape of a shape is printed after another text in so many full lines and this last one.
+fn prints_tape(alloc: Global, shape: &Shape, full: usize, last: &[u8]) -> Result<bool, Fail> {
+    let bytes = vec![in alloc; 0x0f; shape.tape_len() as usize]?;
+    let tape = Tape::from_bytes(shape, bytes).ok().ok_or("its length")?;
     let mut out = Vec::from_slice(alloc, b"talek")?;
     print_tape(&tape, &mut out)?;
-    is_joined(&out, printed)
+    let mut wanted = Vec::from_slice(alloc, b"talektape\n")?;
+    for _ in 0..full {
+        wanted.extend_from_slice(FULL)?;
+    }
+    join(&[last, b"end\n"], &mut wanted)?;
+    Ok(out.as_slice() == wanted.as_slice())
 }
 
 #[test]
-fn tapes_printed(rt: HostRuntime) -> Result<(), Memory> {
-    for (count, printed) in &TAPES {
-        assert!(rt; prints_tape(rt.alloc(), *count, printed)?);
+fn tapes_printed(rt: HostRuntime) -> Result<(), Fail> {
+    for (numbers, full, last) in &TAPES {
+        let shape = Shape::new(*numbers).ok().ok_or("a shape")?;
+        assert!(rt; prints_tape(rt.alloc(), &shape, *full, last)?);
     }
     Ok(())
 }

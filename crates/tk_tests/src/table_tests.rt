@@ -9,6 +9,8 @@ use tk_table::{Put, Snapshot, Table};
 /// Eight buckets of so many slots, and blocks of 24 bytes.
 fn shape(depth: u32, retained: u32) -> Result<Shape, Fail>
     ensures buckets { IfOk result (λ s. s.buckets ≡ 8) }
+    ensures depth { IfOk result (λ s. s.depth ≡ depth) }
+    ensures retained { IfOk result (λ s. s.retained ≡ retained) }
     ensures block { IfOk result (λ s. s.block ≡ 24) }
 {
     let numbers = [2, 8, depth, retained, 24, 64, 1, 0, 2, 2, 1, 1];
@@ -171,5 +173,62 @@ fn a_chain_moves_an_entry_and_no_entry_of_an_earlier_snapshot(rt: HostRuntime) -
     };
     assert_eq!(rt; positions(&early), [1, 2, 0, 0, 0, 0, 0, 0]);
     assert_eq!(rt; positions(&late), [1, 3, 2, 0, 0, 0, 0, 0]);
+    Ok(())
+}
+
+/// A table of which write 1 has the buckets 2 and 5 and lies in the second, and write 2 was
+/// displaced. It keeps two writes.
+fn restored(alloc: Global) -> Result<Table, Fail>
+    ensures buckets { IfOk result (λ t. t.shape.buckets ≡ 8) }
+    ensures depth { IfOk result (λ t. t.shape.depth ≡ 1) }
+    ensures block { IfOk result (λ t. t.shape.block ≡ 24) }
+    ensures latest { IfOk result (λ t. All (λ p. p < 3) t.positions) }
+{
+    let shape = shape(1, 2)?;
+    let mut bytes = [0; 320];
+    (bytes[207], bytes[211], bytes[215], bytes[239]) = (1, 2, 5, 9);
+    let table = Table::restore(alloc, &shape, &[1, 2], &bytes);
+    Ok(table.ok().ok_or("memory")?)
+}
+
+#[test]
+fn a_restored_table_has_its_slots_and_positions(rt: HostRuntime) -> Result<(), Fail> {
+    let table = restored(rt.alloc())?;
+    assert_eq!(rt; table.positions(), [1, 2].as_slice());
+    for bucket in 0..8 {
+        let slot = table.slot(bucket, 0);
+        let want = if bucket == 5 {
+            (1, 2, 5, Some(&9))
+        } else {
+            (0, 0, 0, Some(&0))
+        };
+        assert!(rt; (slot.position, slot.first, slot.second, slot.block.last()) == want);
+    }
+    Ok(())
+}
+
+/// Writes from position 3 on, and then the low bytes of the positions of the first slots.
+const AFTER: [((u32, u32), Put, [u8; 8]); 4] = [
+    // write 1 leaves the second of its buckets, and is no longer in the way
+    ((5, 5), Put::Placed, [0, 0, 0, 0, 0, 3, 0, 0]),
+    // write 2 leaves, which was displaced; nothing else does
+    ((5, 5), Put::Displaced, [0, 0, 0, 0, 0, 3, 0, 0]),
+    ((0, 1), Put::Placed, [5, 0, 0, 0, 0, 0, 0, 0]),
+    ((0, 5), Put::Placed, [5, 0, 0, 0, 0, 6, 0, 0]),
+];
+
+#[test]
+fn a_restored_table_goes_on(rt: HostRuntime) -> Result<(), Fail> {
+    let mut table = restored(rt.alloc())?;
+    for i in 0..AFTER.len() {
+        let (pair, want, slots) = AFTER[i];
+        if pair.0 >= 8 || pair.1 >= 8 {
+            return Err("no bucket".into());
+        }
+        assert_eq!(rt; put(&mut table, i as u64 + 3, pair), want);
+        let snapshot = table.snapshot(rt.alloc()).ok().ok_or("memory")?;
+        assert_eq!(rt; positions(&snapshot), slots);
+    }
+    assert_eq!(rt; table.positions(), [5, 6].as_slice());
     Ok(())
 }

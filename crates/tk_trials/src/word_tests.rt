@@ -25,6 +25,7 @@ fn words(rt: HostRuntime) -> Result<(), Fail> {
         &["run", "65"],
         &["run", "0"],
         &["run", "01"],
+        &["run", "065"],
         &["run", "1", "1"],
         &["make"],
         &["make", "x"],

@@ -1,5 +1,5 @@
 -- All passes stay there, each once.
-use Rattle.std.proofs.Common.{◌≡◌, ◌∙◌, sym, subst, Option, Some}
+use Rattle.std.proofs.Common.{◌≡◌, ◌∙◌, sym, subst, Option}
 use Rattle.std.specs.Prelude.{IfSome}
 use Rattle.tk_board.specs.Boards.{Known}
 use Rattle.tk_cluster.specs.declared.set.EpochSet.{EpochSet}

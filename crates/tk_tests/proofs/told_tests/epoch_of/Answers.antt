@@ -1,5 +1,5 @@
 -- A legal history has an epoch for each client in each turn.
-use Rattle.std.proofs.Common.{◌<◌, arith}
+use Rattle.std.proofs.Common.{arith}
 use Rattle.tk_tests.proofs.told_tests.epoch_of.Goals as goal
 
 pub epoch-requires-clause-turn_in : goal.epoch-requires-clause-turn_in
