@@ -11,3 +11,4 @@ pub use blocks::Blocks;
 pub use each::{answer_each, answer_rows, rows_of};
 pub use laws::parts_are_runs;
 pub use sum::answer;
+pub use tk_shape::Memory;

@@ -7,3 +7,4 @@ mod joined;
 mod tests;
 
 pub use all::answer_all;
+pub use tk_shape::Memory;

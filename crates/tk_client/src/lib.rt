@@ -33,3 +33,4 @@ pub use got::Got;
 pub use laws::asked_in_range;
 pub use say_error::SayError;
 pub use take_error::TakeError;
+pub use tk_shape::Memory;

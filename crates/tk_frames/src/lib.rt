@@ -22,4 +22,5 @@ pub use laws::{before_a_mark, each_fault, lengths, one_spelling};
 pub use numbers::{u32_at, u64_at};
 pub use read_frame::ReadFrame;
 pub use reply_frame::ReplyFrame;
+pub use tk_shape::Memory;
 pub use write_frame::WriteFrame;

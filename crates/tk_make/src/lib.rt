@@ -17,6 +17,7 @@ mod tallying;
 pub use generating::generate;
 pub use laws::tallies;
 pub use tallying::tally;
+pub use tk_shape::Memory;
 
 #[cfg(test)]
 mod tests;

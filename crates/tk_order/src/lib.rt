@@ -14,3 +14,4 @@ pub use journal::Journal;
 pub use order::Order;
 pub use rule::Naming;
 pub use seat::OrderSeat;
+pub use tk_shape::Memory;

@@ -46,6 +46,7 @@ pub use reporting::report;
 pub use saying::{count_said, say_turn};
 pub use sendings::Sendings;
 pub use sent::Sent;
+pub use tk_shape::Memory;
 pub use writing::{entry_of, write_turn};
 
 #[cfg(test)]

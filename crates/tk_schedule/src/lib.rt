@@ -16,4 +16,5 @@ pub use history::{History, TurnOrder};
 pub use item::{Item, Items};
 pub use laws::{bad_line_is, lines_tell};
 pub use raw::{RawHistory, RawKind, RawLine};
+pub use tk_shape::Memory;
 pub use turns::{closes, place, turn};
