@@ -59,7 +59,7 @@ pub fn take(alloc: Global, server: &mut ReplicaState, frame: &[u8]) -> Result<()
         → IfErr result (λ e. e ≡ Fault.Memory) }
     ensures kept { OnErr result (server.new ≡ server.old) }
 {
-    let placed = decode_placed(alloc, &server.shape(), frame)?;
+    let placed = decode_placed(alloc, server.shape(), frame)?;
     if !is_next(server, &placed) {
         return Err(Fault::NotNext {
             applied: server.applied(),

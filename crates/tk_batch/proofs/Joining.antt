@@ -1,7 +1,7 @@
 -- The answers to all chunks, one after the other, are those to all rows.
-use Rattle.std.proofs.Common.{◌≡◌, ℕ, suc, ◌+◌, ◌*◌, ◌<◌, ◌≤◌, List, [], ◌∷◌, ◌++◌, length, map}
+use Rattle.std.proofs.Common.{◌≡◌, ℕ, suc, ◌+◌, ◌*◌, List, [], ◌∷◌, ◌++◌, map}
 use Rattle.std.proofs.Common.{take, drop, refl, ap, ap₂, sym, ◌∙◌, subst, append_assoc, append-nil, arith}
-use Rattle.std.specs.Prelude.{slice_index_or, Vec, Result, Ok, Err, IfOk}
+use Rattle.std.specs.Prelude.{slice_index_or, Vec, Ok, Err, IfOk}
 use Rattle.std.specs.Global.{Global}
 use Rattle.std.proofs.lemmas.List.{map-append, take-append-drop, drop-drop, length-drop}
 use Rattle.tk_batch.specs.Parts.{Part, Joins, HasChunks}

@@ -55,9 +55,6 @@ module _ {M : Type 0} where
     pub admits : Admits (λ (n : N). Leads (known n)) none_seen
     admits x views h = leads_snoc (known x) views [] h tt
 
-    pub opens : (x : N) → Leads (known x) (none_seen ∷ [])
-    opens x = leads_snoc (known x) [] [] (λ j u e. absurd (cc e)) tt
-
     pub turns : (seat : ℕ) (v : List (Known M)) (x y : N) → Before (known y) (known x)
         → TurnsAt (λ (n : N). Leads (known n)) seat v x y (λ v _ y w. Saw v (known y) w)
     turns seat v x y up views h at =

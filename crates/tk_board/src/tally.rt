@@ -1,5 +1,5 @@
 //! The word that counts a board's list, and the steps on it.
-ghost use Rattle.std.specs.Prelude.{◌≡◌, ◌+◌, ◌<◌, ◌≤◌, ◌^◌, [], ◌∷◌, ◌++◌, length};
+ghost use Rattle.std.specs.Prelude.{◌≡◌, ◌+◌, ◌<◌, ◌≤◌, ◌^◌, [], length};
 ghost use Rattle.std.specs.Prelude.{Some, IfOk, true, false};
 ghost use mathlib.Core.Option.{none, some};
 ghost use mathlib.Core.List.{IsPrefix};

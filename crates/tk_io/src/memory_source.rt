@@ -1,4 +1,4 @@
-ghost use Rattle.std.specs.Prelude.{◌≡◌, ◌≤◌, ℕ, ◌<◌, ◌↔◌, [], length, take, Contains, Some, IsSome, IsErr, IfOk, OnErr, min};
+ghost use Rattle.std.specs.Prelude.{◌≡◌, ◌≤◌, ◌<◌, ◌↔◌, [], length, take, Contains, Some, IsSome, IsErr, IfOk, OnErr, min};
 ghost use Rattle.tk_io.specs.Content.{Rose, before_taking};
 ghost use Rattle.tk_io.specs.InMemory.{next_call, next_fault};
 

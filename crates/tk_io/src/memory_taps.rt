@@ -1,4 +1,4 @@
-ghost use Rattle.std.specs.Prelude.{◌≡◌, ◌≢◌, ◌≤◌, ℕ, ◌+◌, ◌-◌, ◌<◌, ◌++◌, [], ◌∷◌, List, length, take, replicate, slice_get, slice_set, slice_index_or, Contains, IsErr, IfOk, IfSome, IfNone, OnOk, OnErr};
+ghost use Rattle.std.specs.Prelude.{◌≡◌, ◌≢◌, ◌≤◌, ℕ, ◌+◌, ◌-◌, ◌<◌, ◌++◌, [], List, length, take, replicate, slice_set, slice_index_or, Contains, IsErr, IfOk, IfSome, IfNone, OnOk, OnErr};
 ghost use Rattle.tk_io.specs.Content.{Rose, gained};
 ghost use Rattle.tk_io.specs.InMemory.{next_call, next_fault, tap_of};
 

@@ -1,5 +1,4 @@
 //! Closures that write what they captured, two at a time.
-ghost use Rattle.std.specs.Prelude.{◌≡◌, length};
 ghost use Rattle.std.specs.Thread.{IsSync};
 
 use crate::join_mut;

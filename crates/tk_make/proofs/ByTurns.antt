@@ -6,9 +6,6 @@ use Rattle.std.specs.List.{range_with_len}
 use Rattle.tk_script.specs.declared.say.Say.{Say}
 use Rattle.tk_make.specs.Making.{is_said, made_say, said_in_tick, said_in_phase, made_says}
 
-pub parity : (n k : ℕ) → (n % 2 + k) % 2 ≡ (n + k) % 2
-parity n k = omega arith
-
 pub is_said-parity : (n p t g : ℕ) → is_said (n % 2) p t g ≡ is_said n p t g
 is_said-parity n p t g =
     let e : (n % 2 + p + t + g) % 2 ≡ (n + p + t + g) % 2 = omega arith in

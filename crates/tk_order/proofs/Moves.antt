@@ -8,14 +8,14 @@ use mathlib.Core.Logic.{dite}
 use native.Mathlib.Decide.{dec_le}
 use lib.ListN.{get_elem?}
 use prog.Atomic.{either}
-use Rattle.atomic_table.specs.Table.{State, Me, Step, step, keeps, stepped, opening, Allows, Splits, Joins}
+use Rattle.atomic_table.specs.Table.{Me, Step, step, keeps, stepped, opening, Allows, Splits, Joins}
 use Rattle.atomic_table.proofs.Lists.{at_set, at_snoc}
 use Rattle.tk_frames.specs.declared.entry.Placed.{Placed}
 use Rattle.tk_shape.specs.declared.shape.Shape.{Shape}
 use Rattle.tk_order.specs.declared.rule.View.{View}
 use Rattle.tk_order.specs.Legality.{seat_of, of, MayFollow}
 use Rattle.tk_order.specs.Rules as rules
-use Rattle.tk_order.specs.Rules.{view, blank_view, note_of, informed, gathered, Owned, Holds, Fits, Kept, Sees, Looked, Met, added, AppendsTo, Appends, Appended, DrawsIf, Drew}
+use Rattle.tk_order.specs.Rules.{view, blank_view, note_of, informed, gathered, Owned, Holds, Fits, Kept, Looked, Met, added, Appends, Appended, DrawsIf, Drew}
 use Rattle.tk_order.proofs.Prefixes.{prefix_self, prefix_trans, prefix_shorter, prefix_whole}
 use Rattle.tk_order.proofs.Legal.{of_added, of_else, of_prefix, of_between, legal_first, legal_after}
 

@@ -3,12 +3,12 @@ use Rattle.std.proofs.Common.{◌≡◌, ℕ, zero, suc, ◌+◌, ◌-◌, ◌<�
 use Rattle.std.specs.List.{position_or_len}
 use Rattle.std.specs.Option.{option_or}
 use Rattle.std.proofs.lemmas.List.{drop_more, drop_all, drop-append-le, get_or_append_left, get_or-map, length-map}
-use Rattle.std.proofs.lemmas.List.Elements.{All-nil, All-head, All-tail, All-get_or}
+use Rattle.std.proofs.lemmas.List.Elements.{All-nil, All-head, All-tail}
 use Rattle.std.proofs.lemmas.List.Folds.{find-append}
 use Rattle.std.proofs.lemmas.List.Sums.{fails_before_first}
 use Rattle.tk_place.specs.Place.{Others, Reached, slots_of, lowest_empty, named_in, not_before, first_level, next_level, levels_from, search_end}
 use Rattle.tk_place.specs.Queue.{AreDistinct}
-use Rattle.tk_place.specs.Table.{slot_at, IsBelow, IsTable}
+use Rattle.tk_place.specs.Table.{IsBelow, IsTable}
 use Rattle.tk_place.specs.Views.{place_at, reached_by}
 use Rattle.tk_place.proofs.Reaching.{not_before-append, queued_first, few_distinct, distinct-push, AllOf, AllOf-append, kept_by}
 
@@ -197,12 +197,6 @@ searching_on T depth new places k table searching l full =
           ∙ searching.rest;
     }
 
-pub searching_ends : (T : Others) (new : ℕ × ℕ) (places : List Reached) (k slot : ℕ) → IsSearching T new places k → k < length places →
-    lowest_empty T (place_at places k).bucket ≡ Some slot → search_end T new ≡ Some (place_at places k)
-searching_ends T new places k slot searching l room =
-    sym searching.rest ∙ left_at T places k searching.distinct l
-    ∙ ends_here T (length T - k) places (place_at places k) (drop (k + 1) places) (ap is_some room)
-
 pub searching_out : (T : Others) (new : ℕ × ℕ) (places : List Reached) (k : ℕ) → IsSearching T new places k → length places ≤ k → search_end T new ≡ None
 searching_out T new places k searching l =
     sym searching.rest ∙ ap (end_from T (length T + 1 - k) places) (drop_all k places l) ∙ no_end T (length T + 1 - k) places
@@ -236,14 +230,6 @@ adding_on slots old k i places other adding l some filled =
           ∙ adding.rest;
     }
 
--- all slots were gone through
-pub adding_done : (slots : List (Option ℕ)) (old : List Reached) (k i : ℕ) (places : List Reached) → IsAdding slots old k i places →
-    length slots ≤ i → places ≡ old ++ not_before old (named_in (place_at old k) 0 slots)
-adding_done slots old k i places adding all =
-    sym (append-nil places)
-    ∙ ap (λ ss. places ++ not_before places (named_in (place_at old k) i ss)) (sym (drop_all i slots all))
-    ∙ adding.rest
-
 -- ---- full buckets
 
 pub entry_of_full : (slots : List (Option ℕ)) (i : ℕ) → position is_none slots ≡ None → i < length slots → IsSome (get_or slots i None)
@@ -256,8 +242,3 @@ entry_of_full slots i full l = some_of_not_none (get_or slots i None) (fails_bef
     past : (slots : List (Option ℕ)) → position is_none slots ≡ None → i < length slots → i < position_or_len is_none slots
     past slots full l = elim (ltb (position_or_len is_none slots) (length slots)) as (λ t. ltb (position_or_len is_none slots) (length slots) ≡ t → cond t (Some (position_or_len is_none slots)) None ≡ None → i < position_or_len is_none slots)
         [ true ↦ λ e h. absurd cc | false ↦ λ e h. omega (arith, ltb-false _ _ e) ] refl full
-
-pub entry_at : (T : Others) (depth b i : ℕ) → IsTable depth T → b < length T → lowest_empty T b ≡ None → i < depth → IsSome (slot_at T b i)
-entry_at T depth b i table in_table full l =
-    let sized : length (slots_of T b) ≡ depth = All-get_or (λ s. length s ≡ depth) T b [] in_table table.sized in
-    entry_of_full (slots_of T b) i full (omega arith)

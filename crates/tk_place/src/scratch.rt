@@ -1,5 +1,4 @@
 ghost use Rattle.std.specs.Prelude.{◌≡◌, ◌<◌, [], length, IfOk, slice_index_or};
-ghost use Rattle.tk_place.specs.Place.{search_end};
 ghost use Rattle.tk_place.specs.Views.{spot_of};
 
 use crate::queue::Queue;

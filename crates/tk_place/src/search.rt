@@ -1,4 +1,4 @@
-ghost use Rattle.std.specs.Prelude.{◌≡◌, ◌<◌, ◌≤◌, ◌+◌, ◌↔◌, ◌++◌, ◌∷◌, [], true, false};
+ghost use Rattle.std.specs.Prelude.{◌≡◌, ◌<◌, ◌≤◌, ◌+◌, ◌↔◌, ◌++◌, ◌∷◌, true, false};
 ghost use Rattle.std.specs.Prelude.{length, map, take, MatchOption, Some, None};
 ghost use Rattle.tk_place.specs.Place.{fit, lowest_empty, slots_of, named_in, not_before, search_end};
 ghost use Rattle.tk_place.specs.Pairs.{pairs_with, HasPlacement};

@@ -1,7 +1,7 @@
 -- Which item may come next in a run, and the entry that it puts there.
 use Rattle.std.proofs.Common.{◌≡◌, refl, ap, ap₂, sym, ◌∙◌, subst, arith, ℕ, zero, suc, ◌+◌, ◌*◌}
 use Rattle.std.proofs.Common.{◌<◌, ◌≤◌}
-use Rattle.std.proofs.Common.{List, [], ◌∷◌, ◌++◌, length, take, Bool, true, false, cond}
+use Rattle.std.proofs.Common.{List, [], ◌∷◌, ◌++◌, length, take, true, false, cond}
 use Rattle.std.proofs.Common.{count_by, get_or, length-append, zero-mul, suc-mul, add-one}
 use Rattle.std.proofs.Common.{append-nil, append_assoc}
 use Rattle.std.proofs.lemmas.List.{take_more, take_all}
@@ -23,8 +23,8 @@ use Rattle.tk_frames.proofs.Offers.{records-append, marks-append, length-writes_
 use Rattle.tk_frames.proofs.Offers.{next-write, next-mark}
 use Rattle.tk_report.specs.Entries.{placed_from, placed_after, entries_before, write_at}
 use Rattle.tk_report.proofs.EpochLaws.{marks-before}
-use Rattle.tk_report.proofs.TurnEntries.{is_publish, length-placed_from, marks-placed_from}
-use Rattle.tk_report.proofs.TurnEntries.{entry_of, placed_from-append}
+use Rattle.tk_report.proofs.TurnEntries.{length-placed_from, marks-placed_from}
+use Rattle.tk_report.proofs.TurnEntries.{placed_from-append}
 use Rattle.tk_script.specs.declared.script.Script.{Script}
 use Rattle.tk_words.specs.Words.{BookWords}
 use Rattle.tk_frames.specs.declared.entry.Entry.{Entry}
@@ -41,31 +41,20 @@ MayCome shape g E (Client c) = length (records E) < shape.clients * turn_count s
 MayCome shape g E Publish =
     (length (records E) ≤ shape.clients * turn_count shape) × (mark_count E + 1 ≡ phase_of shape g)
 
-test_of : (x : Item) → is_publish x ≡ is_mark x
-test_of (Client c) = refl
-test_of Publish = refl
-
-same_count : (xs : List Item) → count_by is_publish xs ≡ count_by is_mark xs
-same_count [] = refl
-same_count (x ∷ xs) =
-    sum_by-cons (λ y. cond (is_publish y) 1 0) x xs
-    ∙ ap₂ (λ (b : Bool) (n : ℕ). cond b 1 0 + n) (test_of x) (same_count xs)
-    ∙ sym (sum_by-cons (λ y. cond (is_mark y) 1 0) x xs)
-
 -- a list is its front, an item and the rest
 record IsParted (items front rest : List Item) (x : Item) : Type 0 where
   long : length items ≡ length front + suc (length rest)
-  marks : count_by is_publish items
-      ≡ count_by is_publish front + (cond (is_publish x) 1 0 + count_by is_publish rest)
+  marks : count_by is_mark items
+      ≡ count_by is_mark front + (cond (is_mark x) 1 0 + count_by is_mark rest)
 
 parted : (front rest : List Item) (x : Item) → IsParted (front ++ x ∷ rest) front rest x
 parted front rest x =
     record {
       long = length-append front (x ∷ rest);
       marks =
-          sum_by-append (λ y. cond (is_publish y) 1 0) front (x ∷ rest)
-          ∙ ap (λ n. count_by is_publish front + n)
-          (sum_by-cons (λ y. cond (is_publish y) 1 0) x rest);
+          sum_by-append (λ y. cond (is_mark y) 1 0) front (x ∷ rest)
+          ∙ ap (λ n. count_by is_mark front + n)
+          (sum_by-cons (λ y. cond (is_mark y) 1 0) x rest);
     }
 
 item-parted : (items : List Item) (i : ℕ) (d : Item) → i < length items →
@@ -76,13 +65,13 @@ item-parted (x ∷ items) (suc i) d low =
     let later = item-parted items i d (omega (arith, low)) in
     let long = (later.1).long in
     let marks = (later.1).marks in
-    let whole = sum_by-cons (λ y. cond (is_publish y) 1 0) x items in
-    let front = sum_by-cons (λ y. cond (is_publish y) 1 0) x (take i items) in
+    let whole = sum_by-cons (λ y. cond (is_mark y) 1 0) x items in
+    let front = sum_by-cons (λ y. cond (is_mark y) 1 0) x (take i items) in
     (later.0, record { long = omega (arith, long); marks = omega (arith, marks, whole, front) })
 
 -- the writes that items put
 length-written : (write : ℕ → WriteFrame) (E : List Placed) (items : List Item) →
-    length items ≡ length (records (placed_after write E items)) + count_by is_publish items
+    length items ≡ length (records (placed_after write E items)) + count_by is_mark items
 length-written write E items =
     let placed = placed_after write E items in
     let all = length-writes_and_marks placed in
@@ -95,13 +84,13 @@ length-written write E items =
 -- what a legal turn has
 record IsFull (shape : Shape) (g : ℕ) (items : List Item) : Type 0 where
   long : length items ≡ shape.clients + marks_due shape g
-  marks : count_by is_publish items ≡ marks_due shape g
+  marks : count_by is_mark items ≡ marks_due shape g
 
 turn-full : (shape : Shape) (H : History) (g : ℕ) → IsLegal shape H → g < turn_count shape →
     IsFull shape g (order_at H g)
 turn-full shape H g legal low =
     let turn = legal.each_turn g low in
-    record { long = turn.counted; marks = same_count (order_at H g) ∙ turn.marks }
+    record { long = turn.counted; marks = turn.marks }
 
 length-records : (E F : List Placed) →
     length (records (E ++ F)) ≡ length (records E) + length (records F)
@@ -137,8 +126,8 @@ one-due shape g =
 
 -- what stands before an item of a turn
 record IsBefore (shape : Shape) (g : ℕ) (all : List Placed) (x : Item) : Type 0 where
-  writes : length (records all) + 1 ≤ suc g * shape.clients + cond (is_publish x) 1 0
-  marks : cond {A = ℕ} (is_publish x) 1 0 ≡ 1 → mark_count all ≡ phases_over shape g
+  writes : length (records all) + 1 ≤ suc g * shape.clients + cond (is_mark x) 1 0
+  marks : cond {A = ℕ} (is_mark x) 1 0 ≡ 1 → mark_count all ≡ phases_over shape g
 
 item-before : (shape : Shape) (write : ℕ → ℕ → WriteFrame) (H : History) (g : ℕ)
     (front rest : List Item) (x : Item) → IsLegal shape H → g < turn_count shape →
@@ -153,7 +142,7 @@ item-before shape write H g front rest x legal low is =
     let marks = full.marks in
     let parts = is.long in
     let marked = is.marks in
-    let behind = count_by-le-length is_publish rest in
+    let behind = count_by-le-length is_mark rest in
     let due = one-due shape g in
     let wrote = length-written (write g) E front in
     let both = length-records E placed in
@@ -225,10 +214,6 @@ put-same : (shape : Shape) (write : ℕ → WriteFrame) (g : ℕ) (all : List Pl
 put-same shape write g all (Client c) come = refl
 put-same shape write g all Publish come = ap (λ (e : ℕ). Mark e) come.1
 
-same-entry : (write : ℕ → WriteFrame) (e : ℕ) (x : Item) → entry_of write e x ≡ entry_due write e x
-same-entry write e (Client c) = refl
-same-entry write e Publish = refl
-
 take-none : (items : List Item) → take 0 items ≡ []
 take-none [] = refl
 take-none (x ∷ items) = refl
@@ -256,7 +241,7 @@ module _ (S : Script) (w : BookWords) (H : History) (g : ℕ) where
         length-placed_from write (length E + 1) (mark_count E + 1) items,
       )
       in
-      let counted : mark_count E + 1 + count_by is_publish items ≡ mark_count (E ++ some) + 1 =
+      let counted : mark_count E + 1 + count_by is_mark items ≡ mark_count (E ++ some) + 1 =
       omega (
         arith,
         marks-append E some,
@@ -265,9 +250,6 @@ module _ (S : Script) (w : BookWords) (H : History) (g : ℕ) where
       in
       ap (placed_after write E) (take_more (order_at H g) i d within)
       ∙ placed_from-append write (length E + 1) (mark_count E + 1) items x
-      ∙ ap (λ (y : Entry). some
-      ++ record { position = length E + 1 + length items; entry = y } ∷ [])
-      (same-entry write (mark_count E + 1 + count_by is_publish items) x)
       ∙ ap₂ (λ (n k : ℕ). some ++ record { position = n; entry = entry_due write k x } ∷ [])
       at counted
 

@@ -1,9 +1,9 @@
 -- Which marks stand before a turn.
 use Rattle.std.proofs.Common.{◌≡◌, ℕ, zero, suc, ◌+◌, ◌*◌, ◌⊎◌, inl, inr, ◌/◌, ◌%◌, ◌<◌, ◌≤◌}
-use Rattle.std.proofs.Common.{List, [], ◌∷◌, Bool, cond, refl, ap, sym, ◌∙◌, arith, count_by}
+use Rattle.std.proofs.Common.{Bool, cond, refl, ap, sym, ◌∙◌, arith, count_by}
 use Rattle.std.proofs.Common.{add-one, suc-mul, zero-mul, ne_eqb, length}
 use Rattle.std.specs.Prelude.{◌==◌}
-use Rattle.std.proofs.lemmas.List.Sums.{sum_by-append, sum_by-cons}
+use Rattle.std.proofs.lemmas.List.Sums.{sum_by-append}
 use Rattle.std.proofs.lemmas.Nat.{div-add-mod', div-mul-add, mod-mul-add}
 use Rattle.std.proofs.Math.Nat.{mod-lt}
 use Rattle.tk_shape.specs.declared.shape.Shape.{Shape}
@@ -12,29 +12,11 @@ use Rattle.tk_schedule.specs.declared.history.History.{History}
 use Rattle.tk_schedule.specs.Schedule.{IsLegal, is_mark, marks_due, phases_over, order_at}
 use Rattle.tk_frames.specs.declared.write_frame.WriteFrame.{WriteFrame}
 use Rattle.tk_frames.specs.Order.{is_mark_entry}
-use Rattle.tk_schedule.specs.declared.item.Item.{Item}
-use Rattle.tk_schedule.specs.declared.item.Item.TheVariants.{Client, Publish}
 use Rattle.tk_report.specs.Entries.{placed_after, entries_before}
-use Rattle.tk_report.proofs.TurnEntries.{is_publish, marks-placed_from}
-
--- a test of what an item is, told twice
-same_test : (x : Item) → is_publish x ≡ is_mark x
-same_test (Client c) = refl
-same_test Publish = refl
+use Rattle.tk_report.proofs.TurnEntries.{marks-placed_from}
 
 abbrev one_if : Bool → ℕ
 one_if b = cond b 1 0
-
-same_count : (xs : List Item) → count_by is_publish xs ≡ count_by is_mark xs
-same_count [] = refl
-same_count (x ∷ xs) =
-    omega (
-      arith,
-      sum_by-cons (λ y. cond (is_publish y) 1 0) x xs,
-      sum_by-cons (λ y. cond (is_mark y) 1 0) x xs,
-      same_count xs,
-      ap one_if (same_test x),
-    )
 
 -- a turn after turn g, in a phase of t turns
 next_in_phase : (t g : ℕ) → 0 < t → (g + 1) / t ≡ g / t + cond ((g + 1) % t == 0) 1 0
@@ -97,7 +79,7 @@ marks-before shape write H legal (suc g) within =
     in
     let here : count_by is_mark_entry turn ≡ marks_due shape g =
     marks-placed_from (write g) (length E + 1) (count_by is_mark_entry E + 1) (order_at H g)
-    ∙ same_count (order_at H g) ∙ due
+    ∙ due
     in
     let next = next_in_phase shape.ticks g shape.in_range.ticks_low in
     sum_by-append (λ q. cond (is_mark_entry q) 1 0) E turn

@@ -1,5 +1,5 @@
 -- What the clients at the end of a run give, and that they are those of its roles.
-use Rattle.std.proofs.Common.{◌≡◌, refl, ap, ap₂, sym, ◌∙◌, arith, ltb-true}
+use Rattle.std.proofs.Common.{◌≡◌, refl, ap, ap₂, ◌∙◌, arith, ltb-true}
 use Rattle.std.proofs.Common.{ℕ, zero, suc, ◌+◌, ◌<◌, ◌==◌, nat_lt, Bool, true, false, cond}
 use Rattle.std.proofs.Common.{List, [], ◌∷◌, ◌++◌, length, map, get_or, Option, Some, None}
 use Rattle.std.specs.Prelude.{flat_map, slice_set, slice_index_or, codes, ◌&&◌}
@@ -15,7 +15,6 @@ use Rattle.tk_script.specs.SoundScript.{is_role, is_ascending}
 use Rattle.tk_script.specs.Sent.{writer_of, unsent_count}
 use Rattle.std.proofs.lemmas.Bool.{and_parts as parts}
 use Rattle.tk_words.specs.Words.{BookWords}
-use Rattle.tk_client.specs.declared.got.Got.{Got}
 use Rattle.tk_client.specs.declared.written.Written.{Written}
 use Rattle.tk_client.specs.declared.target.Target.{Target}
 use Rattle.tk_client.specs.Reader.{Follow, Reader, new_follow, untried, at_epoch}
@@ -39,20 +38,6 @@ map-at : {X Y : Type 0} (f : X → Y) (xs : List X) (i : ℕ) (d : Y) (e : X) �
 map-at f [] i d e within = absurd (omega (arith, within))
 map-at f (x ∷ xs) zero d e within = refl
 map-at f (x ∷ xs) (suc i) d e within = map-at f xs i d e (omega (arith, within))
-
-pub got-at : (clients : List ClientState) (log c : ℕ) (client : ClientState) (got : List Got) →
-    c < length clients → client ≡ get_or clients c client →
-    got ≡ got_in client.reader.follows log → got ≡ got_by clients c log
-got-at clients log c client got within here is =
-    is ∙ ap (λ (k : ClientState). got_in k.reader.follows log) here
-    ∙ sym (map-at (λ (k : ClientState). got_in k.reader.follows log) clients c [] client within)
-
-pub unsent-at : (clients : List ClientState) (c : ℕ) (client : ClientState) (count : ℕ) →
-    c < length clients → client ≡ get_or clients c client →
-    count ≡ length client.writing.waiting → count ≡ unsent_by clients c
-unsent-at clients c client count within here is =
-    is ∙ ap (λ (k : ClientState). length k.writing.waiting) here
-    ∙ sym (map-at (λ (k : ClientState). length k.writing.waiting) clients c 0 client within)
 
 -- ---- the logs that a client writes
 

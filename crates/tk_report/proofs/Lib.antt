@@ -25,10 +25,6 @@ pub mod ClearLaws
 pub mod LaidOutLaws
 pub mod ToldByLaws
 pub mod Computing
-pub mod OrdinaryRun
-pub mod PassingOver
-pub mod FalsePositive
-pub mod ClearTests
 pub mod Offers
 pub mod OutcomeLaws
 pub mod ListTests
@@ -45,3 +41,4 @@ pub mod BlankLaws
 pub mod ListingLaws
 pub mod SendingsLaws
 pub mod PairLaws
+pub mod examples

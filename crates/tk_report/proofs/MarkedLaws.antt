@@ -16,7 +16,8 @@ use Rattle.tk_frames.specs.declared.entry.Placed.{Placed}
 use Rattle.tk_frames.specs.Order.{is_mark_entry, is_mark_of, has_mark, before}
 use Rattle.tk_frames.proofs.Offers.{before-none, before-settled}
 use Rattle.tk_report.specs.Entries.{placed_from, placed_after, entries_before}
-use Rattle.tk_report.proofs.TurnEntries.{is_publish, marks-placed_from}
+use Rattle.tk_schedule.specs.Schedule.{is_mark}
+use Rattle.tk_report.proofs.TurnEntries.{marks-placed_from}
 use Rattle.tk_report.proofs.EpochLaws.{marks-before}
 use Rattle.tk_report.specs.Agreement.{SameOrders, EntriesAgree, TurnEntriesAgree, StandingMarks}
 use Rattle.tk_report.specs.Agreement.{PhasesMarked}
@@ -58,37 +59,37 @@ any-behind e (p ∷ E) F h = or-right (is_mark_of e p) (has_mark e (E ++ F)) (an
 
 -- the marks of a turn, of which the first has number n
 items-marked : (write : ℕ → WriteFrame) (p n e : ℕ) (items : List Item) → n ≤ e →
-    e < n + count_by is_publish items → has_mark e (placed_from write p n items) ≡ true
+    e < n + count_by is_mark items → has_mark e (placed_from write p n items) ≡ true
 unfolding placed_from
 items-marked write p n e [] low high = absurd (omega (arith, low, high))
 items-marked write p n e (Client c ∷ items) low high =
     items-marked write (p + 1) n e items low
-    (omega (arith, high, sum_by-cons (λ y. cond (is_publish y) 1 0) (Client c) items))
+    (omega (arith, high, sum_by-cons (λ y. cond (is_mark y) 1 0) (Client c) items))
 items-marked write p n e (Publish ∷ items) low high =
     let later = placed_from write (p + 1) (n + 1) items in
     elim (cases_lt n e) [
       | inl less ↦ or-right (n == e) (has_mark e later)
           (items-marked write (p + 1) (n + 1) e items (omega (arith, less))
-          (omega (arith, high, sum_by-cons (λ y. cond (is_publish y) 1 0) Publish items)))
+          (omega (arith, high, sum_by-cons (λ y. cond (is_mark y) 1 0) Publish items)))
       | inr not_less ↦
           ap (λ b. b || has_mark e later) (eq-eqb n e (omega (arith, low, not_less)))
     ]
 
 -- and no others
 items-unmarked : (write : ℕ → WriteFrame) (p n e : ℕ) (items : List Item) →
-    (e < n) ⊎ (n + count_by is_publish items ≤ e) → has_mark e (placed_from write p n items) ≡ false
+    (e < n) ⊎ (n + count_by is_mark items ≤ e) → has_mark e (placed_from write p n items) ≡ false
 unfolding placed_from
 items-unmarked write p n e [] out = refl
 items-unmarked write p n e (Client c ∷ items) out =
-    let count = sum_by-cons (λ y. cond (is_publish y) 1 0) (Client c) items in
+    let count = sum_by-cons (λ y. cond (is_mark y) 1 0) (Client c) items in
     items-unmarked write (p + 1) n e items (elim out [
       | inl low ↦ inl low
       | inr past ↦ inr (omega (arith, past, count))
     ])
 items-unmarked write p n e (Publish ∷ items) out =
-    let count = sum_by-cons (λ y. cond (is_publish y) 1 0) Publish items in
+    let count = sum_by-cons (λ y. cond (is_mark y) 1 0) Publish items in
     let later = placed_from write (p + 1) (n + 1) items in
-    let behind : (e < n + 1) ⊎ (n + 1 + count_by is_publish items ≤ e) = elim out [
+    let behind : (e < n + 1) ⊎ (n + 1 + count_by is_mark items ≤ e) = elim out [
       | inl low ↦ inl (omega (arith, low))
       | inr past ↦ inr (omega (arith, past, count))
     ]
@@ -126,7 +127,7 @@ turns-unmarked write H (suc g) e out =
       | inr past ↦ inr (omega (arith, past, all))
     ]
     in
-    let now : (e < marks_in E + 1) ⊎ (marks_in E + 1 + count_by is_publish items ≤ e) = elim out [
+    let now : (e < marks_in E + 1) ⊎ (marks_in E + 1 + count_by is_mark items ≤ e) = elim out [
       | inl first ↦ inl (omega (arith, first))
       | inr past ↦ inr (omega (arith, past, all, here))
     ]

@@ -1,7 +1,7 @@
 -- What the proofs of other crates may cite.
 
 -- entries
-pub use Rattle.tk_report.proofs.TurnEntries.{entry_of, is_publish, length-placed_from}
+pub use Rattle.tk_report.proofs.TurnEntries.{length-placed_from}
 pub use Rattle.tk_report.proofs.TurnEntries.{marks-placed_from}
 pub use Rattle.tk_report.proofs.TurnEntries.{placed_from-append, placed_after-append}
 pub use Rattle.tk_report.proofs.EpochLaws.{marks-before}

@@ -80,10 +80,6 @@ heads a b p q e = cc e
 tails : (a b : RawKind) (p q : Kinds) → a ∷ p ≡ b ∷ q → p ≡ q
 tails a b p q e = cc e
 
-not-behind : (ks : Kinds) (k : RawKind) → [] ≡ ks ++ k ∷ [] → ⊥
-not-behind [] k e = cc e
-not-behind (j ∷ ks) k e = cc e
-
 pub raw-told : (n : ℕ) (text : List ℕ) (ls : List Line) (ks : Kinds) → lines_of text ≡ ls →
     AllByRecursion IsOwn ks → kinds (raw_from n ls) ≡ ks ++ End ∷ [] → Fronts ks text
 unfolding raw_from

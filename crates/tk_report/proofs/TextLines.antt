@@ -23,10 +23,6 @@ pub lines_of-other : (b : ℕ) (bs : List ℕ) → b ≢ 0x0A →
 unfolding lines_of
 lines_of-other b bs other = rw (ne_eqb b 0x0A other) refl
 
-pub lines_of-none : lines_of [] ≡ []
-unfolding lines_of
-lines_of-none = refl
-
 -- a line and its feed, and what follows
 pub lines_of-line : (line rest : List ℕ) → LacksFeed line →
     lines_of (line ++ 0x0A ∷ rest) ≡ line ∷ lines_of rest

@@ -1,5 +1,5 @@
 -- The entries of a turn, one by one.
-use Rattle.std.proofs.Common.{◌≡◌, ℕ, suc, ◌+◌, ap₂, List, [], ◌∷◌, ◌++◌, length, Bool, true, false}
+use Rattle.std.proofs.Common.{◌≡◌, ℕ, suc, ◌+◌, ap₂, List, [], ◌∷◌, ◌++◌, length}
 use Rattle.std.proofs.Common.{cond, refl, ap, sym, ◌∙◌, arith, count_by, append_assoc}
 use Rattle.std.proofs.Common.{length-append}
 use Rattle.std.proofs.lemmas.List.Sums.{sum_by-cons, sum_by-append}
@@ -7,30 +7,22 @@ use Rattle.tk_schedule.specs.declared.item.Item.{Item}
 use Rattle.tk_schedule.specs.declared.item.Item.TheVariants.{Client, Publish}
 use Rattle.tk_frames.specs.declared.write_frame.WriteFrame.{WriteFrame}
 use Rattle.tk_frames.specs.declared.entry.Placed.{Placed}
-use Rattle.tk_frames.specs.declared.entry.Entry.{Entry}
 use Rattle.tk_frames.specs.declared.entry.Entry.TheVariants.{Write, Mark}
 use Rattle.tk_frames.specs.Order.{is_mark_entry}
+use Rattle.tk_schedule.specs.Schedule.{is_mark}
 use Rattle.tk_report.specs.Entries.{placed_from, placed_after}
+use Rattle.tk_report.specs.Turns.{entry_due}
 
--- an item's entry, with the number of the next mark
-abbrev pub entry_of : (ℕ → WriteFrame) → ℕ → Item → Entry
-entry_of write e (Client c) = Write (write c)
-entry_of write e Publish = Mark e
-
-abbrev pub is_publish : Item → Bool
-is_publish (Client c) = false
-is_publish Publish = true
-
-item_cons : (x : Item) (xs : List Item) → count_by is_publish (x ∷ xs)
-    ≡ cond (is_publish x) 1 0 + count_by is_publish xs
-item_cons x xs = sum_by-cons (λ y. cond (is_publish y) 1 0) x xs
+item_cons : (x : Item) (xs : List Item) → count_by is_mark (x ∷ xs)
+    ≡ cond (is_mark x) 1 0 + count_by is_mark xs
+item_cons x xs = sum_by-cons (λ y. cond (is_mark y) 1 0) x xs
 
 pub placed_from-append : (write : ℕ → WriteFrame) (position e : ℕ) (xs : List Item) (x : Item) →
     placed_from write position e (xs ++ x ∷ [])
     ≡ placed_from write position e xs
     ++ record {
       position = position + length xs;
-      entry = entry_of write (e + count_by is_publish xs) x;
+      entry = entry_due write (e + count_by is_mark xs) x;
     } ∷ []
 unfolding placed_from
 placed_from-append write position e [] (Client c) =
@@ -48,22 +40,22 @@ placed_from-append write position e [] Publish =
     there = omega arith
 placed_from-append write position e (Client c ∷ xs) x =
     let at : position + 1 + length xs ≡ position + length (Client c ∷ xs) = omega arith in
-    let marks : e + count_by is_publish xs ≡ e + count_by is_publish (Client c ∷ xs) =
+    let marks : e + count_by is_mark xs ≡ e + count_by is_mark (Client c ∷ xs) =
     omega (arith, item_cons (Client c) xs)
     in
     ap (λ ps. record { position = position; entry = Write (write c) } ∷ ps)
     (placed_from-append write (position + 1) e xs x
     ∙ ap₂ (λ n k. placed_from write (position + 1) e xs
-    ++ record { position = n; entry = entry_of write k x } ∷ []) at marks)
+    ++ record { position = n; entry = entry_due write k x } ∷ []) at marks)
 placed_from-append write position e (Publish ∷ xs) x =
     let at : position + 1 + length xs ≡ position + length (Publish ∷ xs) = omega arith in
-    let marks : e + 1 + count_by is_publish xs ≡ e + count_by is_publish (Publish ∷ xs) =
+    let marks : e + 1 + count_by is_mark xs ≡ e + count_by is_mark (Publish ∷ xs) =
     omega (arith, item_cons Publish xs)
     in
     ap (λ ps. record { position = position; entry = Mark e } ∷ ps)
     (placed_from-append write (position + 1) (e + 1) xs x
     ∙ ap₂ (λ n k. placed_from write (position + 1) (e + 1) xs
-    ++ record { position = n; entry = entry_of write k x } ∷ []) at marks)
+    ++ record { position = n; entry = entry_due write k x } ∷ []) at marks)
 
 pub length-placed_from : (write : ℕ → WriteFrame) (position e : ℕ) (xs : List Item) →
     length (placed_from write position e xs) ≡ length xs
@@ -75,7 +67,7 @@ length-placed_from write position e (Publish ∷ xs) =
     ap suc (length-placed_from write (position + 1) (e + 1) xs)
 
 pub marks-placed_from : (write : ℕ → WriteFrame) (position e : ℕ) (xs : List Item) →
-    count_by is_mark_entry (placed_from write position e xs) ≡ count_by is_publish xs
+    count_by is_mark_entry (placed_from write position e xs) ≡ count_by is_mark xs
 unfolding placed_from
 marks-placed_from write position e [] = refl
 marks-placed_from write position e (Client c ∷ xs) =
@@ -103,7 +95,7 @@ pub placed_after-append : (write : ℕ → WriteFrame) (E : List Placed) (xs : L
     E ++ placed_after write E (xs ++ x ∷ [])
     ≡ all ++ record {
       position = length all + 1;
-      entry = entry_of write (count_by is_mark_entry all + 1) x;
+      entry = entry_due write (count_by is_mark_entry all + 1) x;
     } ∷ []
 placed_after-append write E xs x =
     let marks = count_by is_mark_entry E in
@@ -111,7 +103,7 @@ placed_after-append write E xs x =
     let at : length E + 1 + length xs ≡ length (E ++ turn) + 1 =
     omega (arith, length-append E turn, length-placed_from write (length E + 1) (marks + 1) xs)
     in
-    let counted : marks + 1 + count_by is_publish xs ≡ count_by is_mark_entry (E ++ turn) + 1 =
+    let counted : marks + 1 + count_by is_mark xs ≡ count_by is_mark_entry (E ++ turn) + 1 =
     omega (
       arith,
       sum_by-append (λ q. cond (is_mark_entry q) 1 0) E turn,
@@ -122,7 +114,7 @@ placed_after-append write E xs x =
     ∙ sym (append_assoc E turn
     (record {
       position = length E + 1 + length xs;
-      entry = entry_of write (marks + 1 + count_by is_publish xs) x;
+      entry = entry_due write (marks + 1 + count_by is_mark xs) x;
     } ∷ []))
-    ∙ ap₂ (λ n k. (E ++ turn) ++ record { position = n; entry = entry_of write k x } ∷ [])
+    ∙ ap₂ (λ n k. (E ++ turn) ++ record { position = n; entry = entry_due write k x } ∷ [])
     at counted

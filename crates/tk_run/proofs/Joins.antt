@@ -7,10 +7,6 @@ pub all_front : {X : Type 0} (P : X → Type 0) (xs ys : List X) → AllBy P (xs
 all_front P [] ys h = tt
 all_front P (x ∷ xs) ys h = (h.0, all_front P xs ys h.1)
 
-pub all_back : {X : Type 0} (P : X → Type 0) (xs ys : List X) → AllBy P (xs ++ ys) → AllBy P ys
-all_back P [] ys h = h
-all_back P (x ∷ xs) ys h = all_back P xs ys h.1
-
 pub done-append : {X D : Type 0} (R : X → D → D → X → Type 0)
     (xs : List X) (ds es : List D) (ys zs : List X) (fs gs : List D) (ws : List X) →
     Done R xs ds es ys → Done R zs fs gs ws → Done R (xs ++ zs) (ds ++ fs) (es ++ gs) (ys ++ ws)

@@ -1,12 +1,9 @@
 -- The lines that tell turns, one turn after the other.
 use Rattle.std.proofs.Common.{◌≡◌, ap, sym, ◌∙◌, arith}
 use Rattle.std.proofs.Common.{ℕ, ◌+◌, List, [], ◌∷◌, ◌++◌, length, append-nil, append_assoc}
-use Rattle.std.proofs.lemmas.List.{map-append}
 use Rattle.tk_shape.specs.declared.shape.Shape.{Shape}
-use Rattle.tk_schedule.specs.declared.raw.RawLine.{RawLine}
 use Rattle.tk_schedule.specs.declared.raw.RawKind.{RawKind}
 use Rattle.tk_schedule.specs.declared.history.TurnOrder.{TurnOrder}
-use Rattle.tk_schedule.specs.Raw.{kinds}
 use Rattle.tk_schedule.specs.Told.{turn_lines, lines_from}
 
 -- one more turn
@@ -20,11 +17,3 @@ lines_from-more shape g (y ∷ xs) x =
     (turn_lines shape (g + 1 + length xs) x))
     ∙ ap (λ (k : ℕ). (turn_lines shape g y ++ lines_from shape (g + 1) xs) ++ turn_lines shape k x)
     (omega arith)
-
--- one more line
-pub kinds-more : (raw : List RawLine) (l : RawLine) (ks : List RawKind) (k : RawKind) →
-    kinds raw ≡ ks → l.kind ≡ k → kinds (raw ++ l ∷ []) ≡ ks ++ k ∷ []
-kinds-more raw l ks k so_far is =
-    map-append (λ (r : RawLine). r.kind) raw (l ∷ [])
-    ∙ ap (λ (zs : List RawKind). zs ++ l.kind ∷ []) so_far
-    ∙ ap (λ (z : RawKind). ks ++ z ∷ []) is

@@ -1,9 +1,7 @@
 -- Frames that are dealt to lists, one to each.
-use Rattle.std.proofs.Common.{◌≡◌, refl, ap, ap₂, sym, ◌∙◌, arith, inl, inr}
-use Rattle.std.proofs.Common.{ℕ, ◌+◌, ◌<◌, ◌≤◌, List, [], ◌∷◌, ◌++◌, length, map, set}
+use Rattle.std.proofs.Common.{◌≡◌, refl, ap, ap₂, ◌∙◌, arith, inl, inr}
+use Rattle.std.proofs.Common.{ℕ, ◌+◌, ◌<◌, ◌≤◌, List, [], ◌∷◌, ◌++◌, length, map}
 use Rattle.std.proofs.Common.{length-append}
-use Rattle.std.proofs.Common.{length-set, get_or-set_same, get_or-set_other}
-use Rattle.std.proofs.lemmas.List.{get_or_default}
 use Rattle.std.specs.Prelude.{slice_index_or}
 use Rattle.std.specs.List.{range_with_len}
 use Rattle.std.proofs.Math.ListN.{get_or-append}
@@ -96,57 +94,4 @@ dealt-none frames rows same =
       front = λ k d low. refl;
       kept = λ k d low. refl;
       dealt = λ k d f past low. absurd (omega (arith, past, low));
-    }
-
--- the last that is left is dealt
-pub dealt-next : (left less : List Frame) (x : Frame) (old : List (List Frame))
-    (frames : List Frame) (new : List (List Frame)) (d row : List Frame) →
-    length frames ≡ length old → left ≡ less ++ x ∷ [] →
-    row ≡ slice_index_or new (length less) d ++ x ∷ [] → DealtFrom left old frames new →
-    DealtFrom less old frames (set new (length less) row)
-dealt-next left less x old frames new d row same split is h =
-    let n = length less in
-    let long : length left ≡ n + 1 = ap length split ∙ length-append less (x ∷ []) in
-    let shorter = h.shorter in
-    let within : n < length new = omega (arith, long, shorter, h.counted, same) in
-    let last : (f : Frame) → slice_index_or frames n f ≡ x = λ f.
-    sym (h.front n f (omega (arith, long)))
-    ∙ ap (λ (xs : List Frame). slice_index_or xs n f) split
-    ∙ get_or-append_seam less x [] f
-    in
-    record {
-      counted = length-set new n row ∙ h.counted;
-      shorter = omega (arith, long, shorter);
-      front = λ k f low.
-          sym (get_or-append less (x ∷ []) f k low)
-          ∙ ap (λ (xs : List Frame). slice_index_or xs k f) (sym split)
-          ∙ h.front k f (omega (arith, low, long));
-      kept = λ k e low.
-          get_or-set_other new n k row e (omega (arith, low))
-          ∙ h.kept k e (omega (arith, low, long));
-      dealt = λ k e f past low. elim (cases_lt n k) [
-        | inl later ↦
-            get_or-set_other new n k row e (omega (arith, later))
-            ∙ h.dealt k e f (omega (arith, later, long)) low
-        | inr first ↦
-            let here : k ≡ n = omega (arith, past, first) in
-            let was = h.kept n d (omega (arith, long)) in
-            ap (λ (i : ℕ). slice_index_or (set new n row) i e) here
-            ∙ get_or-set_same new n row e within ∙ is
-            ∙ ap₂ (λ (r : List Frame) (y : Frame). r ++ y ∷ []) was (sym (last f))
-            ∙ ap (λ (r : List Frame). r ++ slice_index_or frames n f ∷ [])
-            (get_or_default old n d e (omega (arith, within, h.counted)))
-            ∙ ap (λ (i : ℕ). slice_index_or old i e ++ slice_index_or frames i f ∷ []) (sym here)
-      ];
-    }
-
--- and at the end all are
-pub dealt-all : (left : List Frame) (old : List (List Frame)) (frames : List Frame)
-    (new : List (List Frame)) → left ≡ [] → length frames ≡ length old →
-    DealtFrom left old frames new → AreAdded old frames new
-dealt-all left old frames new none same h =
-    record {
-      counted = h.counted;
-      each = λ k d f low.
-          h.dealt k d f (omega (arith, ap length none)) (omega (arith, low, same));
     }

@@ -38,13 +38,6 @@ blank-at turn (e ∷ ds) (u ∷ ts) are (suc k) d t low =
 blank-at turn [] (u ∷ ts) are k d t low = absurd are
 blank-at turn (e ∷ ds) [] are k d t low = absurd are
 
-blank-length : (turn : ℕ) (ds : List Slip) (ts : List Talk) → AreBlank turn ds ts →
-    length ds ≡ length ts
-blank-length turn [] [] are = refl
-blank-length turn (e ∷ ds) (u ∷ ts) are = ap suc (blank-length turn ds ts are.1)
-blank-length turn [] (u ∷ ts) are = absurd are
-blank-length turn (e ∷ ds) [] are = absurd are
-
 pub map-at : {X Y : Type 0} (f : X → Y) (xs : List X) (k : ℕ) (d : X) → k < length xs →
     slice_index_or (map f xs) k (f d) ≡ f (slice_index_or xs k d)
 map-at f [] k d low = absurd (omega (arith, low))

@@ -40,11 +40,6 @@ use Rattle.tk_run.proofs.PosingLaws.{asked-of}
 use Rattle.tk_run.proofs.TalkAll.{Begins, all-begin}
 use Rattle.tk_run.proofs.TalkReads.{has_taken}
 
-asked-number : (S : Script) (w : BookWords) (H : History) (g c : ℕ) →
-    (client_asked S w H g c).number ≡ c
-unfolding client_asked client_knowing
-asked-number S w H g c = refl
-
 before-number : (S : Script) (w : BookWords) (H : History) (g c : ℕ) →
     (client_before S w H g c).number ≡ c
 unfolding client_before client_knowing

@@ -1,5 +1,5 @@
 -- What the first bad line of lines is, and what lines without one tell.
-use Rattle.std.proofs.Common.{◌≡◌, ℕ, ◌+◌, List, [], ◌∷◌, ◌++◌, length, Bool, true, false, refl, sym, ap, subst, ◌∙◌, append-nil, Option, Some, None, flat_map}
+use Rattle.std.proofs.Common.{◌≡◌, ℕ, ◌+◌, List, [], ◌∷◌, ◌++◌, Bool, true, false, refl, sym, ap, ◌∙◌, append-nil, Option, Some, None, flat_map}
 use Rattle.std.specs.List.{range_with_len}
 use Rattle.tk_shape.specs.declared.shape.Shape.{Shape}
 use Rattle.tk_shape.specs.Lengths.{turn_count}
@@ -10,9 +10,9 @@ use Rattle.tk_schedule.specs.declared.error.HistoryError.{HistoryError}
 use Rattle.tk_schedule.specs.declared.error.HistoryError.TheVariants.{Line, Memory}
 use Rattle.std.specs.Prelude.{Err}
 use Rattle.tk_schedule.specs.Raw.{ends_once, kinds}
-use Rattle.tk_schedule.specs.Schedule.{IsLegal, serial_history}
-use Rattle.tk_schedule.specs.Due.{Due, the_end, turn_due, first_bad, bad_line}
-use Rattle.tk_schedule.specs.Told.{lines_from, lines_due, Tells, Begins, IsFirstBad, Gives, Names}
+use Rattle.tk_schedule.specs.Schedule.{IsLegal}
+use Rattle.tk_schedule.specs.Due.{Due, turn_due, first_bad, bad_line}
+use Rattle.tk_schedule.specs.Told.{lines_due, Tells, Begins, IsFirstBad, Gives, Names}
 use Rattle.tk_schedule.specs.Laws.{TellsOne, EndsWhereTold, TellsSerial, NoneBad, FirstBad}
 use Rattle.tk_schedule.proofs.ScheduleLaws.{serial-IsLegal}
 use Rattle.tk_schedule.proofs.LineLaws.{due_from}

@@ -1,5 +1,5 @@
 -- The lines of turns, the lines due, and the end of lines that were read.
-use Rattle.std.proofs.Common.{◌≡◌, ℕ, zero, suc, ◌+◌, ◌-◌, ◌<◌, List, [], ◌∷◌, ◌++◌, length, Bool, true, false, refl, sym, ap, ◌∙◌, arith, append_assoc, append-nil, add-zero, get_or, below_more, subst, Result, Ok, Err, Option, Some, None, flat_map}
+use Rattle.std.proofs.Common.{◌≡◌, ℕ, suc, ◌+◌, ◌-◌, ◌<◌, List, [], ◌∷◌, ◌++◌, length, sym, ap, ◌∙◌, arith, append_assoc, append-nil, add-zero, get_or, below_more, subst, Err, Option, flat_map}
 use Rattle.std.specs.List.{range_with_len}
 use Rattle.std.proofs.lemmas.List.{get_or_append_left, get_or_at}
 use Rattle.std.proofs.lemmas.List.Concat.{flat_map-cons}
@@ -7,11 +7,9 @@ use Rattle.tk_shape.specs.declared.shape.Shape.{Shape}
 use Rattle.tk_shape.specs.Lengths.{turn_count}
 use Rattle.tk_schedule.specs.declared.raw.RawLine.{RawLine}
 use Rattle.tk_schedule.specs.declared.raw.RawKind.{RawKind}
-use Rattle.tk_schedule.specs.declared.raw.RawKind.TheVariants.{Order, Reads, End}
 use Rattle.tk_schedule.specs.declared.history.TurnOrder.{TurnOrder}
 use Rattle.tk_schedule.specs.declared.error.HistoryError.{HistoryError}
 use Rattle.tk_schedule.specs.declared.error.HistoryError.TheVariants.{Line, Memory}
-use Rattle.tk_schedule.specs.Raw.{is_end, is_none_left, ends_once}
 use Rattle.tk_schedule.specs.Due.{Due, the_end, turn_due, first_bad, bad_line}
 use Rattle.tk_schedule.specs.Schedule.{IsTurn, blank_turn}
 use Rattle.tk_schedule.specs.Told.{turn_lines, lines_from, Names}
@@ -54,15 +52,6 @@ told-push shape raw turns turn n lines behind counted told here =
     ∙ sym (append_assoc (lines_from shape 0 turns) (turn_lines shape n turn) behind)
     ∙ ap (λ (k : ℕ). (lines_from shape 0 turns ++ turn_lines shape k turn) ++ behind) place
     ∙ ap (λ (ks : List RawKind). ks ++ behind) (sym (lines_from-push shape 0 turns turn))
-
--- an End among lines that end is the last
-pub end_last : (kind : RawKind) (ls : List RawLine) (line : ℕ) →
-    ends_once (record { line = line; kind = kind } ∷ ls) ≡ true
-    → is_end kind ≡ true → (kind ≡ End) × (ls ≡ [])
-end_last (Order phase tick items) ls line ends e = absurd (cc)
-end_last (Reads phase tick epochs) ls line ends e = absurd (cc)
-end_last End [] line ends e = (refl, refl)
-end_last End (l ∷ ls) line ends e = absurd (cc)
 
 -- the lines due from turn g on, in so many turns
 abbrev pub due_from : Shape → ℕ → ℕ → List Due

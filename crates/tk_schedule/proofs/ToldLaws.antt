@@ -1,8 +1,7 @@
 -- Lines that are due in turn are those with which a legal history begins, and all its lines tell it
 -- alone.
-use Rattle.std.proofs.Common.{◌≡◌, ℕ, zero, suc, ◌+◌, ◌<◌, List, [], ◌∷◌, ◌++◌, length, replicate, Bool, true, false, cond, refl, sym, ap, subst, ◌∙◌, arith, append_assoc, append-nil, add-zero, zero-add, get_or, Option, Some, None, flat_map}
+use Rattle.std.proofs.Common.{◌≡◌, ℕ, zero, suc, ◌+◌, ◌<◌, List, [], ◌∷◌, ◌++◌, length, replicate, Bool, true, false, cond, refl, sym, ap, subst, ◌∙◌, arith, append_assoc, add-zero, zero-add, get_or}
 use Rattle.std.specs.Prelude.{◌&&◌}
-use Rattle.std.specs.List.{range_with_len}
 use Rattle.std.proofs.lemmas.Bool.{and_parts}
 use Rattle.tk_shape.specs.declared.shape.Shape.{Shape}
 use Rattle.tk_shape.specs.Lengths.{turn_count}
@@ -13,8 +12,8 @@ use Rattle.tk_schedule.specs.declared.raw.RawKind.TheVariants.{Order, Reads, End
 use Rattle.tk_schedule.specs.declared.history.TurnOrder.{TurnOrder}
 use Rattle.tk_schedule.specs.Raw.{is_end, is_none_left, ends_once, kinds}
 use Rattle.tk_schedule.specs.Schedule.{phase_of, tick_of, phases_over, is_closing, blank_turn, IsTurn, IsLegal, serial_turn}
-use Rattle.tk_schedule.specs.Due.{Due, order_of, epochs_of, the_end, turn_due, is_order, are_epochs, is_due}
-use Rattle.tk_schedule.specs.Told.{turn_lines, lines_from, lines_due}
+use Rattle.tk_schedule.specs.Due.{Due, order_of, epochs_of, the_end, turn_due, is_order, is_due}
+use Rattle.tk_schedule.specs.Told.{turn_lines, lines_from}
 use Rattle.tk_schedule.proofs.ScheduleLaws.{serial_turn-IsTurn}
 use Rattle.tk_schedule.proofs.TurnLaws.{legal_turn, legal_order, legal_epochs, newest_are_epochs, epochs_of_open}
 use Rattle.tk_schedule.proofs.LineLaws.{due_from, due_from-suc}

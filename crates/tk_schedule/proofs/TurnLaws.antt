@@ -1,6 +1,6 @@
 -- A turn is legal exactly where its order and its epochs pass their tests, and the epochs of one
 -- that doesn't close are all the newest before it.
-use Rattle.std.proofs.Common.{◌≡◌, ℕ, ◌+◌, ◌*◌, ◌/◌, ◌%◌, ◌<◌, ◌≤◌, List, [], ◌∷◌, length, replicate, Bool, true, false, refl, sym, ap, subst, ◌∙◌, arith, zero-add, count_by, get_or, eqb-true, eq-eqb, tests}
+use Rattle.std.proofs.Common.{◌≡◌, ℕ, ◌+◌, ◌/◌, ◌%◌, ◌<◌, ◌≤◌, List, length, replicate, Bool, true, false, sym, subst, ◌∙◌, arith, zero-add, count_by, get_or, eqb-true, eq-eqb, tests}
 use Rattle.std.specs.Prelude.{◌==◌, nat_le, ◌&&◌}
 use Rattle.std.specs.List.{list_all, range_with_len}
 use Rattle.std.proofs.lemmas.Bool.{and_parts, and_from, eqb-false}
@@ -10,9 +10,8 @@ use Rattle.std.proofs.lemmas.List.Elements.{All-get_or, All-from_get_or}
 use Rattle.std.proofs.lemmas.List.FromFn.{length-range_with_len, get_or-range_with_len}
 use Rattle.std.proofs.lemmas.List.Sums.{AllPass-from_list_all, list_all-from_AllPass}
 use Rattle.tk_shape.specs.declared.shape.Shape.{Shape}
-use Rattle.tk_schedule.specs.declared.item.Item.{Item}
 use Rattle.tk_schedule.specs.declared.history.TurnOrder.{TurnOrder}
-use Rattle.tk_schedule.specs.Schedule.{is_of, is_mark, is_closing, marks_due, phases_over, IsTurn, serial_turn}
+use Rattle.tk_schedule.specs.Schedule.{is_of, is_closing, phases_over, IsTurn, serial_turn}
 use Rattle.tk_schedule.specs.Due.{is_order, are_epochs}
 use Rattle.tk_schedule.proofs.ScheduleLaws.{serial_turn-IsTurn}
 

@@ -1,5 +1,5 @@
 -- Which lines tell a history, and what is answered to lines.
-use Rattle.std.specs.Prelude.{◌≡◌, ℕ, ◌+◌, cond, List, [], ◌∷◌, ◌++◌, Option, Some, None, Result, Ok, Err}
+use Rattle.std.specs.Prelude.{◌≡◌, ℕ, ◌+◌, cond, List, [], ◌∷◌, ◌++◌, Option, Some, Result, Ok, Err}
 use Rattle.tk_shape.specs.declared.shape.Shape.{Shape}
 use Rattle.tk_schedule.specs.declared.raw.RawLine.{RawLine}
 use Rattle.tk_schedule.specs.declared.raw.RawKind.{RawKind}

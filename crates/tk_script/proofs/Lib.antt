@@ -34,7 +34,6 @@ pub mod SaidLaws
 pub mod PlaceLaws
 pub mod AnswerLaws
 pub mod SectionLaws
-mod Refused
 pub mod TextOfLaws
 pub mod FeedLaws
 pub mod PiecesLaws
@@ -44,3 +43,4 @@ pub mod SendingLaws
 pub mod SentLaws
 pub mod BookLaws
 pub mod Offers
+pub mod examples

@@ -32,10 +32,6 @@ say_words shape say sound =
       log = omega (arith, said.log_in, range.logs_high);
     }
 
-pub same_say : (x y : Say) → x.phase ≡ y.phase → x.tick ≡ y.tick → x.log ≡ y.log → x.text ≡ y.text →
-    x ≡ y
-same_say x y p t g w = λ i. record { phase = p i; tick = t i; log = g i; text = w i }
-
 -- a text in a list in order is said no earlier than those in front of it
 pub comes_by : (says : List Say) (y : Say) (others : List Say) → IsTrue (are_in_order says) →
     IsTrue (are_in_order (says ++ y ∷ others)) →

@@ -1,16 +1,15 @@
 -- The first part of a line, and what the parts of one spell, read one by one.
 use Rattle.std.proofs.Common.{◌≡◌, ◌≢◌, refl, ap, ap₂, sym, ◌∙◌, arith, codes}
-use Rattle.std.proofs.Common.{ℕ, ◌+◌, ◌<◌, ◌≤◌, ◌^◌, zero, suc, Bool, true, false, cond}
-use Rattle.std.proofs.Common.{List, [], ◌∷◌, ◌++◌, length, take, drop, get_or, append_assoc, decimal}
+use Rattle.std.proofs.Common.{ℕ, ◌+◌, ◌<◌, ◌^◌, zero, suc, Bool, true, false, cond}
+use Rattle.std.proofs.Common.{List, [], ◌∷◌, ◌++◌, length, take, drop, get_or, decimal}
 use Rattle.std.proofs.Common.{Option, Some, None, ne_eqb, eq-eqb}
 use Rattle.std.specs.Prelude.{◌==◌}
 use Rattle.std.specs.List.{onto_first}
 use Rattle.std.specs.Str.{bytes_eq}
 use Rattle.std.proofs.lemmas.Slice.Eq.{bytes_eq-Decides}
-use Rattle.tk_schedule.specs.declared.item.Item.{Item}
-use Rattle.tk_script.specs.Reading.{parts_of, number_spelled, number_before, numbers_spelled}
-use Rattle.tk_script.proofs.PartLaws.{number_spelled-decimal, number_spelled-is}
-use Rattle.tk_script.specs.Reading.{item_before, items_spelled, no_turn, turn_parts}
+use Rattle.tk_script.specs.Reading.{parts_of, number_spelled, numbers_spelled}
+use Rattle.tk_script.proofs.PartLaws.{number_spelled-decimal}
+use Rattle.tk_script.specs.Reading.{items_spelled, no_turn, turn_parts}
 use Rattle.tk_script.specs.Reading.{order_said, reads_said, turn_said, read_turn}
 use Rattle.tk_script.specs.TurnHead.{HasHead}
 
@@ -46,43 +45,11 @@ abbrev pub in_front : {X : Type 0} → List X → Option (List X) → Option (Li
 in_front xs None = None
 in_front xs (Some ys) = Some (xs ++ ys)
 
-pub front-item : (xs : List Item) (x : Item) (o : Option (List Item)) →
-    in_front xs (item_before (Some x) o) ≡ in_front (xs ++ x ∷ []) o
-front-item xs x None = refl
-front-item xs x (Some ys) = ap (λ (zs : List Item). Some zs) (sym (append_assoc xs (x ∷ []) ys))
-
-pub front-number : (xs : List ℕ) (x : ℕ) (o : Option (List ℕ)) →
-    in_front xs (number_before (Some x) o) ≡ in_front (xs ++ x ∷ []) o
-front-number xs x None = refl
-front-number xs x (Some ys) = ap (λ (zs : List ℕ). Some zs) (sym (append_assoc xs (x ∷ []) ys))
-
 -- ---- numbers of 32 bits
-
--- what spells a number of 64 bits that is none of 32 spells none
-pub none-spelled : (text : List ℕ) (n : ℕ) → text ≡ decimal n → n < 2 ^ 64 → (2 ^ 32 ≤ n) →
-    ((k : ℕ) → k < 2 ^ 64 → text ≡ decimal k → k ≡ n) → number_spelled text ≡ None
-none-spelled text n is small high only =
-    elim (number_spelled text) as (λ o. number_spelled text ≡ o → o ≡ None) [
-      | None ↦ λ _. refl
-      | Some k ↦ λ e.
-          let own = number_spelled-is text k e in
-          let same = only k (omega (arith, own.0)) own.1 in
-          absurd (omega (arith, own.0, same, high))
-    ] refl
 
 pub some-spelled : (text : List ℕ) (n : ℕ) → text ≡ decimal n → n < 2 ^ 32 →
     number_spelled text ≡ Some n
 some-spelled text n is small = ap number_spelled is ∙ number_spelled-decimal n small
-
-pub not-spelled : (text : List ℕ) → ((k : ℕ) → k < 2 ^ 64 → text ≡ decimal k → ⊥) →
-    number_spelled text ≡ None
-not-spelled text never =
-    elim (number_spelled text) as (λ o. number_spelled text ≡ o → o ≡ None) [
-      | None ↦ λ _. refl
-      | Some k ↦ λ e.
-          let own = number_spelled-is text k e in
-          absurd (never k (omega (arith, own.0)) own.1)
-    ] refl
 
 -- ---- the head of a line
 

@@ -1,6 +1,6 @@
 -- The plain form of a text: what it is made of, and the one text that it is of.
 use Rattle.std.proofs.Common.{◌≡◌, ℕ, zero, suc, ◌+◌, ◌-◌, ◌*◌, ◌<◌, ◌≤◌, ◌^◌, List, [], ◌∷◌, ◌++◌, length, take, drop, get_or, replicate, lit<, refl, ap, ap₂, sym, ◌∙◌, arith, length-append, length-drop, IsTrue}
-use Rattle.std.specs.Int.{w16, to_be_bytes, from_be_bytes}
+use Rattle.std.specs.Int.{w16, to_be_bytes}
 use Rattle.std.proofs.lemmas.Nat.{be_bytes_2, from_be_bytes-to_be_bytes_2}
 use Rattle.std.proofs.lemmas.List.{take-append-drop, length-take-le, take_at, drop-replicate, length-replicate}
 use Rattle.std.proofs.Math.Seq.{take-append_seam}
@@ -34,10 +34,6 @@ form_of_parts (a ∷ b ∷ rest) n small e fits zeros =
     let left : length (drop n rest) ≡ suc (suc (length rest)) - 2 - n = omega (arith, length-drop n rest) in
     ap₂ (λ (xs ys : List ℕ). xs ++ ys) (sym head) (sym (take-append-drop n rest) ∙ ap (λ (ys : List ℕ). take n rest ++ ys) (zeros ∙ ap (λ k. replicate k 0) left))
     ∙ ap (λ k. to_be_bytes w16 k ++ (take n rest ++ replicate (suc (suc (length rest)) - 2 - k) 0)) (sym long)
-
--- what a plain form says of its text's length
-pub first_bytes : (bytes text : List ℕ) → IsPlainForm bytes text → length text ≡ from_be_bytes w16 (take 2 bytes)
-first_bytes bytes text p = sym (ap (λ xs. from_be_bytes w16 (take 2 xs)) p.form ∙ from_be_bytes-to_be_bytes_2 (length text) p.short)
 
 pub is_form : (bytes : List ℕ) (n : ℕ) → ((i : ℕ) → get_or bytes i 0 < 256) → n ≡ get_or bytes 0 0 * 256 + get_or bytes 1 0 → 2 + n ≤ length bytes →
     IsTrue (is_allowed (take n (drop 2 bytes))) → drop n (drop 2 bytes) ≡ replicate (length (drop n (drop 2 bytes))) 0 → IsPlainForm bytes (take n (drop 2 bytes))

@@ -1,6 +1,4 @@
-use Rattle.std.proofs.Common.{◌≡◌, ◌∙◌, ◌+◌, ◌-◌, ◌*◌, ◌/◌, ◌%◌, ◌<◌, ◌≤◌, length, take, drop, ap, sym, arith}
-use Rattle.std.specs.List.{concat}
-use Rattle.tk_answer.specs.Runs.{IsRun}
+use Rattle.std.proofs.Common.{◌≡◌, ◌∙◌, ◌+◌, ◌-◌, ◌/◌, ◌%◌, ◌<◌, ◌≤◌, length, ap, arith}
 use Rattle.tk_answer.proofs.Runs.{cut_of_run, front_of_run, blocks-in_front, gathered_run, gathered_count}
 use Rattle.tk_answer.proofs.ManySums.{sums_sized, vectors_reach, tile_added}
 use Rattle.tk_answer.proofs.tiles.add_tile.Goals as goal

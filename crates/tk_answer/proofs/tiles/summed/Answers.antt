@@ -1,5 +1,4 @@
-use Rattle.std.proofs.Common.{◌≡◌, ◌∙◌, length, replicate, ap, subst, arith}
-use Rattle.std.specs.List.{All}
+use Rattle.std.proofs.Common.{arith}
 use Rattle.tk_answer.proofs.ManySums.{begun, all_summed}
 use Rattle.tk_answer.proofs.tiles.summed.Goals as goal
 

@@ -1,5 +1,5 @@
 -- The chunks are those of the vectors' rows.
-use Rattle.std.proofs.Common.{◌∙◌, List, ℕ, Vec, Global, ap, map}
+use Rattle.std.proofs.Common.{◌∙◌, ℕ, Vec, Global, ap, map}
 use Rattle.tk_kernel.specs.Chosen.{chosen_sum}
 use Rattle.tk_answer.proofs.ManySums.{rows_reach}
 use Rattle.tk_batch.proofs.Joining.{joined-all}

@@ -1,5 +1,5 @@
 -- The turn passes its tests; where it doesn't close, its epochs are the newest before it.
-use Rattle.std.proofs.Common.{◌≡◌, ◌∙◌, ap, true}
+use Rattle.std.proofs.Common.{◌∙◌, ap}
 use Rattle.tk_schedule.specs.Due.{is_order, are_epochs}
 use Rattle.tk_schedule.proofs.TurnLaws.{legal_turn, newest_are_epochs}
 use Rattle.tk_schedule.proofs.told.turn_in.Goals as goal

@@ -1,5 +1,5 @@
 -- The key's words come first, and after the next eight those of the pad.
-use Rattle.std.proofs.Common.{◌≡◌, ℕ, ap, ◌∙◌, arith}
+use Rattle.std.proofs.Common.{ℕ, ap, ◌∙◌, arith}
 use Rattle.tk_handle.specs.Handle.{Place, key_bytes}
 use Rattle.tk_handle.proofs.Offers.{placed}
 use Rattle.tk_seal.proofs.sealing.message_words.Goals as goal

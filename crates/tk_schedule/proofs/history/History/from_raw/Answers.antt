@@ -1,9 +1,8 @@
 -- Lines that tell a history have no bad line, and tell no other.
-use Rattle.std.proofs.Common.{◌≡◌, ◌∙◌, ℕ, ap, sym, subst}
+use Rattle.std.proofs.Common.{◌≡◌, ◌∙◌, ℕ, ap, subst}
 use Rattle.std.specs.Prelude.{None, List}
 use Rattle.tk_schedule.specs.declared.history.TurnOrder.{TurnOrder}
 use Rattle.std.proofs.lemmas.Result.{err_from_is_err_and}
-use Rattle.tk_schedule.specs.declared.raw.RawLine.{RawLine}
 use Rattle.tk_schedule.specs.Due.{bad_line}
 use Rattle.tk_schedule.specs.Told.{Tells}
 use Rattle.tk_schedule.proofs.BadLineLaws.{tells_one, tells_none, only_memory}

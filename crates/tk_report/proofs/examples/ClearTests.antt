@@ -4,7 +4,7 @@ use Rattle.std.proofs.Common.{refl}
 use Rattle.tk_schedule.specs.Schedule.{serial_history}
 use Rattle.tk_words.specs.Words.{drawn, words_of}
 use Rattle.tk_report.proofs.Computing.{computing}
-use Rattle.tk_report.proofs.PassingOver.{shape, script, tape}
+use Rattle.tk_report.proofs.examples.PassingOver.{shape, script, tape}
 use Rattle.tk_report.specs.Delivered.{IsClear, is_clear}
 use Rattle.tk_report.proofs.ClearLaws.{clear-is_tested}
 

@@ -1,0 +1,4 @@
+pub mod OrdinaryRun
+pub mod PassingOver
+pub mod FalsePositive
+pub mod ClearTests
