@@ -5,7 +5,7 @@ use Rattle.std.specs.Prelude.{◌==◌, ◌↔◌, Bool, not, find, Option}
 use Rattle.tk_shape.specs.declared.field.Field.{Field}
 use Rattle.tk_shape.specs.declared.shape.Shape.{Shape}
 use Rattle.tk_shape.specs.declared.differs.Differs.{Differs}
-use Rattle.tk_shape.specs.Numbers.{numbers_of}
+use Rattle.tk_shape.specs.Numbers.{format_and_numbers}
 use Rattle.tk_shape.specs.Differences.{fields, side_by_side, are_apart, first_difference}
 use Rattle.tk_shape.proofs.OneShape.{one_shape}
 
@@ -37,13 +37,20 @@ all_equal (f ∷ fs) (n ∷ ns) (m ∷ ms) long wide none =
     ap₂ (λ (k : ℕ) (ks : List ℕ). k ∷ ks) here.0
     (all_equal fs ns ms (omega (arith, long)) (omega (arith, wide)) here.1)
 
+first_same : {n m : ℕ} {ns ms : List ℕ} → ◌≡◌ {A = List ℕ} (n ∷ ns) (m ∷ ms) → n ≡ m
+first_same e = cc e
+
+rest_same : {n m : ℕ} {ns ms : List ℕ} → ◌≡◌ {A = List ℕ} (n ∷ ns) (m ∷ ms) → ns ≡ ms
+rest_same e = cc e
+
 same-shape : (s t : Shape) → first_difference s t ≡ None → s ≡ t
 same-shape s t none =
-    one_shape s t (all_equal fields (numbers_of s) (numbers_of t) refl refl none)
+    let same = all_equal fields (format_and_numbers s) (format_and_numbers t) refl refl none in
+    one_shape s t (first_same same) (rest_same same)
 
 no_difference : (s t : Shape) → s ≡ t → first_difference s t ≡ None
 no_difference s t same =
-    ap (λ (u : Shape). first_difference s u) (sym same) ∙ none_differs fields (numbers_of s)
+    ap (λ (u : Shape). first_difference s u) (sym same) ∙ none_differs fields (format_and_numbers s)
 
 -- there is no first difference exactly where the shapes are equal
 pub equal-first : (s t : Shape) (first : Option Differs) → first ≡ first_difference s t →

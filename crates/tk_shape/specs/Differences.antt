@@ -1,15 +1,15 @@
--- The first number in which two shapes differ.
+-- The first of format and numbers in which two shapes differ.
 use Rattle.std.specs.Prelude.{ℕ, ◌==◌, not, Bool, List, [], ◌∷◌, find, Option}
 use Rattle.tk_shape.specs.declared.field.Field.{Field}
 use Rattle.tk_shape.specs.declared.field.Field.TheVariants as field
 use Rattle.tk_shape.specs.declared.shape.Shape.{Shape}
 use Rattle.tk_shape.specs.declared.differs.Differs.{Differs}
-use Rattle.tk_shape.specs.Numbers.{numbers_of}
+use Rattle.tk_shape.specs.Numbers.{format_and_numbers}
 
--- what the numbers of a shape are of, in their order
+-- what the format and the numbers of a shape are of, in their order
 abbrev pub fields : List Field
 fields =
-    field.Servers ∷ field.Buckets ∷ field.Depth ∷ field.Retained ∷ field.Block ∷ field.Filter ∷ field.Hits
+    field.Format ∷ field.Servers ∷ field.Buckets ∷ field.Depth ∷ field.Retained ∷ field.Block ∷ field.Filter ∷ field.Hits
     ∷ field.Ahead ∷ field.Clients ∷ field.Phases ∷ field.Ticks ∷ field.Logs ∷ []
 
 -- each field with the numbers that two lists have for it
@@ -24,4 +24,4 @@ are_apart d = not (d.a == d.b)
 
 -- the first of them in which the two numbers differ
 abbrev pub first_difference : Shape → Shape → Option Differs
-first_difference s t = find are_apart (side_by_side fields (numbers_of s) (numbers_of t))
+first_difference s t = find are_apart (side_by_side fields (format_and_numbers s) (format_and_numbers t))

@@ -4,8 +4,9 @@ use Rattle.std.specs.Int.{is_power_of_two}
 use Rattle.tk_shape.specs.declared.field.Field.{Field}
 use Rattle.tk_shape.specs.declared.field.Field.TheVariants as field
 
--- the numbers of a shape, in range or not
+-- the format and the numbers of a shape, in range or not
 pub record Numbers : Type 0 where
+  pub format : ℕ
   pub servers : ℕ
   pub buckets : ℕ
   pub depth : ℕ
@@ -19,10 +20,11 @@ pub record Numbers : Type 0 where
   pub ticks : ℕ
   pub logs : ℕ
 
--- twelve numbers in their order
-abbrev pub numbers_in : List ℕ → Numbers
-numbers_in ns =
+-- a format, and twelve numbers in their order
+abbrev pub numbers_in : ℕ → List ℕ → Numbers
+numbers_in format ns =
     record {
+      format = format;
       servers = slice_index ns 0;
       buckets = slice_index ns 1;
       depth = slice_index ns 2;

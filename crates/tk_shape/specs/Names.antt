@@ -4,6 +4,7 @@ use Rattle.tk_shape.specs.declared.field.Field.{Field}
 use Rattle.tk_shape.specs.declared.field.Field.TheVariants as field
 
 abbrev pub field_name : Field → List ℕ
+field_name field.Format = codes "format"
 field_name field.Servers = codes "servers"
 field_name field.Buckets = codes "buckets"
 field_name field.Depth = codes "depth"

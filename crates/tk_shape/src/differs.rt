@@ -1,5 +1,5 @@
 ghost use Rattle.std.specs.Prelude.{◌≡◌, ◌↔◌, None, find};
-ghost use Rattle.tk_shape.specs.Numbers.{numbers_of};
+ghost use Rattle.tk_shape.specs.Numbers.{format_and_numbers};
 ghost use Rattle.tk_shape.specs.Differences.{fields, side_by_side, are_apart, first_difference};
 
 use crate::{Field, Shape};
@@ -21,8 +21,8 @@ impl Differs {
 }
 
 impl Shape {
-    /// The first field, in the order of the twelve numbers, in which this shape (`a`) and another
-    /// (`b`) differ.
+    /// The first field, the format and then the twelve numbers in their order, in which this shape
+    /// (`a`) and another (`b`) differ.
     pub fn differs(&self, other: &Shape) -> Option<Differs>
         ensures equal { (result ≡ None) ↔ (self.now ≡ other.now) }
         ensures first { result ≡ first_difference self.now other.now }
@@ -31,10 +31,12 @@ impl Shape {
     }
 
     /// Each field with the numbers of both.
-    fn beside(&self, other: &Shape) -> [Differs; 12]
-        ensures { result ≡ side_by_side fields (numbers_of self.now) (numbers_of other.now) }
+    fn beside(&self, other: &Shape) -> [Differs; 13]
+        ensures { result ≡ side_by_side fields (format_and_numbers self.now)
+            (format_and_numbers other.now) }
     {
         [
+            Differs::at(Field::Format, self.format, other.format),
             Differs::at(Field::Servers, self.servers, other.servers),
             Differs::at(Field::Buckets, self.buckets, other.buckets),
             Differs::at(Field::Depth, self.depth, other.depth),

@@ -1,9 +1,11 @@
 ghost use Rattle.std.specs.Prelude.{◌≡◌};
 ghost use Rattle.tk_shape.specs.Names.{field_name};
 
-/// What limits a run: one of a shape's twelve numbers, or a product of them.
+/// What two shapes may differ in, or what limits a run: a shape's format, one of its twelve numbers, or a product of
+/// them.
 #[derive(Clone, Copy, Debug, PartialEq, Eq)]
 pub enum Field {
+    Format,
     Servers,
     Buckets,
     Depth,
@@ -32,6 +34,7 @@ impl Field {
         ensures { result.now ≡ field_name self }
     {
         match self {
+            Field::Format => b"format",
             Field::Servers => b"servers",
             Field::Buckets => b"buckets",
             Field::Depth => b"depth",

@@ -34,6 +34,20 @@ impl Shape {
         self.buckets / 8
     }
 
+    /// A seed that expands to a vector: none in format 1.
+    pub fn seed_len(&self) -> u32
+        ensures { result ≡ formula.seed_len self.now }
+    {
+        if self.format == 2 { 32 } else { 0 }
+    }
+
+    /// A piece of a read cell: a seed, and then a vector.
+    pub fn piece_len(&self) -> u32
+        ensures { result ≡ formula.piece_len self.now }
+    {
+        self.seed_len() + self.vector_len()
+    }
+
     /// A write cell or a keyed cell of a tape.
     pub fn cell_len(&self) -> u32
         ensures { result ≡ formula.cell_len self.now }
@@ -45,7 +59,7 @@ impl Shape {
     pub fn read_cell_len(&self) -> u32
         ensures { result ≡ formula.read_cell_len self.now }
     {
-        8 + 2 * (self.servers - 1) * self.vector_len()
+        8 + 2 * (self.servers - 1) * self.piece_len()
     }
 
     /// A tape: write cells and read cells by turn and client, keyed cells by log and number.
@@ -71,11 +85,22 @@ impl Shape {
         26 + 4 * self.hits + self.block
     }
 
-    /// The frame of a read.
+    /// The frame of a read of the last server, or of any in format 1.
     pub fn read_len(&self) -> u32
         ensures { result ≡ formula.read_len self.now }
     {
         14 + 2 * self.vector_len()
+    }
+
+    /// The frame of a read with two seeds, and with the two vectors too where they are shown.
+    pub fn seed_read_len(&self, shown: bool) -> u32
+        ensures { result ≡ formula.seed_read_len self.now shown }
+    {
+        if shown {
+            78 + 2 * self.vector_len()
+        } else {
+            78
+        }
     }
 
     /// The frame of a reply.

@@ -1,5 +1,5 @@
-//! The twelve numbers that fix a run, their ranges, and every length that they give; and the small list types of
-//! the layers above.
+//! The format and the twelve numbers that fix a run, their ranges, and every length that they give; and the small list
+//! types of the layers above.
 #![tactic(auto)]
 
 mod bytes;

@@ -1,11 +1,13 @@
-ghost use Rattle.std.specs.Prelude.{◌≡◌, IfOk, IfErr, OnOk, Some, None, Err, false};
+ghost use Rattle.std.specs.Prelude.{◌≡◌, ◌≤◌, IfOk, IfErr, OnOk, Some, None, Err, false};
 ghost use Rattle.tk_shape.specs.Ranges.{IsShape};
 
 use crate::Field;
 
-/// The numbers that fix a run.
+/// What fixes a run: its format, and its numbers.
 #[derive(Clone, Copy, Debug, PartialEq, Eq)]
 pub struct Shape {
+    /// How reads tell servers their vectors: 1 as they are, 2 by seeds to all servers but the last.
+    pub format: u32,
     /// Replicated servers, 2 to 8.
     pub servers: u32,
     /// Buckets of a table: a power of two, 8 to 4,096.
@@ -30,7 +32,7 @@ pub struct Shape {
     pub ticks: u32,
     /// Logs, 1 to 256.
     pub logs: u32,
-    pub ghost in_range: { IsShape servers buckets depth retained block filter_bits hits ahead clients phases ticks logs },
+    pub ghost in_range: { IsShape format servers buckets depth retained block filter_bits hits ahead clients phases ticks logs },
 }
 
 /// The first line of the table of limits that numbers break, and the number that breaks it.
@@ -44,11 +46,25 @@ impl Shape {
     ghost use Rattle.tk_shape.specs.Limits.{broken, numbers_in, limit};
     ghost use Rattle.tk_shape.specs.Numbers.{numbers_of};
 
-    /// The shape of twelve numbers, in the order of its fields. Where limits are broken the answer names the first.
+    /// The shape of format 1 of twelve numbers, as `of` gives it.
     pub fn new(numbers: [u32; 12]) -> Result<Shape, ShapeError>
+        ensures format { IfOk result (λ s. s.format ≡ 1) }
         ensures found { IfOk result (λ s. numbers_of s ≡ numbers) }
-        ensures kept { OnOk result (broken (numbers_in numbers) ≡ None) }
-        ensures broken { IfErr result (λ e. broken (numbers_in numbers) ≡ Some (limit e.field e.value false)) }
+        ensures kept { OnOk result (broken (numbers_in 1 numbers) ≡ None) }
+        ensures broken { IfErr result (λ e. broken (numbers_in 1 numbers) ≡ Some (limit e.field e.value false)) }
+    {
+        Shape::of(1, numbers)
+    }
+
+    /// The shape of a format and twelve numbers, in the order of its fields. Where limits are broken the answer names
+    /// the first.
+    pub fn of(format: u32, numbers: [u32; 12]) -> Result<Shape, ShapeError>
+        requires low { 1 ≤ format }
+        requires high { format ≤ 2 }
+        ensures format { IfOk result (λ s. s.format ≡ format) }
+        ensures found { IfOk result (λ s. numbers_of s ≡ numbers) }
+        ensures kept { OnOk result (broken (numbers_in format numbers) ≡ None) }
+        ensures broken { IfErr result (λ e. broken (numbers_in format numbers) ≡ Some (limit e.field e.value false)) }
     {
         let [
             servers,
@@ -116,6 +132,7 @@ impl Shape {
             });
         }
         Ok(Shape {
+            format,
             servers,
             buckets,
             depth,
@@ -136,6 +153,7 @@ impl Shape {
         ensures { result ≡ numbers_of self.now }
     {
         let Shape {
+            format: _,
             servers,
             buckets,
             depth,

@@ -1,7 +1,7 @@
 -- Twelve numbers, each read once, are the list of them.
 use Rattle.std.proofs.Common.{sym, rules, ◌≡◌, length}
 use Rattle.std.proofs.lemmas.Slice.Eq.{text_from_reads}
-use Rattle.tk_shape.proofs.shape.Shape.new.Goals as goal
+use Rattle.tk_shape.proofs.shape.Shape.of.Goals as goal
 
 pub returns-clause-found : goal.returns-clause-found
 returns-clause-found c =
