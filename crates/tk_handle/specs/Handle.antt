@@ -20,6 +20,10 @@ unfoldable pub key_bytes : List ℕ → ℕ → ℕ → ℕ → List ℕ
 key_bytes key stream place n =
     take n (flat_map (λ i. to_le_bytes w32 (word key stream i)) (range_with_len place (div_ceil n 4)))
 
+-- the first n bytes that a seed of 32 bytes expands to
+abbrev pub expanded : ℕ → List ℕ → List ℕ
+expanded n seed = key_bytes seed 0 0 n
+
 -- the handle of a log, from a root of 32 bytes
 abbrev pub handle_from : ℕ → List ℕ → Handle
 handle_from id root =
