@@ -1,24 +1,24 @@
--- Shares of a bucket, and the block that their answers give.
+-- Completed vectors of a bucket, and the block that their answers give.
 use Rattle.std.proofs.Common.{◌≡◌, ◌≢◌, ℕ, zero, suc, ◌+◌, ◌*◌, ◌<◌, cond, Some, List, [], ◌∷◌, ◌++◌, length, replicate, map, refl, ap, sym, ◌∙◌, arith}
 use Rattle.std.specs.List.{slice_get}
 use Rattle.tk_kernel.specs.Xor.{xor_bytes, xor_all}
 use Rattle.tk_kernel.specs.Pieces.{AllSized}
 use Rattle.tk_kernel.specs.Chosen.{has_bit, chosen_from, chosen_sum}
 use Rattle.tk_kernel.proofs.Offers.{xor_bytes_comm, xor_bytes_twice, xor_bytes-zeros, length-xor_bytes, length-xor_all, xor_all-append}
-use Rattle.tk_bits.specs.Shares.{unit_vector, last_share, shares}
+use Rattle.tk_bits.specs.Shares.{unit_vector, last_share, completed}
 use Rattle.tk_bits.proofs.Vectors.{length-unit_vector, has_bit-unit_same, has_bit-unit_other}
 use Rattle.tk_bits.proofs.Sums.{sums_add}
 
-length-last_share : (size i : ℕ) (drawn : List (List ℕ)) → AllSized size drawn → length (last_share size i drawn) ≡ size
+pub length-last_share : (size i : ℕ) (drawn : List (List ℕ)) → AllSized size drawn → length (last_share size i drawn) ≡ size
 length-last_share size i drawn h =
     length-xor_bytes (unit_vector size i) (xor_all size drawn) (length-unit_vector size i ∙ sym (length-xor_all size drawn h)) ∙ length-unit_vector size i
 
-AllSized-append : (size : ℕ) (us vs : List (List ℕ)) → AllSized size us → AllSized size vs → AllSized size (us ++ vs)
+pub AllSized-append : (size : ℕ) (us vs : List (List ℕ)) → AllSized size us → AllSized size vs → AllSized size (us ++ vs)
 AllSized-append size [] vs h k = k
 AllSized-append size (u ∷ us) vs h k = (h.0, AllSized-append size us vs h.1 k)
 
-pub shares_join : (size i : ℕ) (drawn : List (List ℕ)) → AllSized size drawn → xor_all size (shares size i drawn) ≡ unit_vector size i
-shares_join size i drawn h =
+pub completed_join : (size i : ℕ) (drawn : List (List ℕ)) → AllSized size drawn → xor_all size (completed size i drawn) ≡ unit_vector size i
+completed_join size i drawn h =
     let all = xor_all size drawn in
     let unit = unit_vector size i in
     let last = last_share size i drawn in
@@ -54,10 +54,10 @@ module _ (width size i : ℕ) (within : i < 8 * size) where
       one_chosen (j + 1) k xs h.1 (omega arith) (omega arith)
       ∙ sym (ap (λ b. Some (xor_all width (cond b (x ∷ others) others))) (has_bit-unit_other size i j within apart))
 
-pub answers_join : (width size i : ℕ) (blocks drawn : List (List ℕ)) → AllSized width blocks → length blocks ≡ 8 * size → AllSized size drawn →
-    i < length blocks → slice_get blocks i ≡ Some (xor_all width (map (chosen_sum width blocks) (shares size i drawn)))
+pub completed_answers : (width size i : ℕ) (blocks drawn : List (List ℕ)) → AllSized width blocks → length blocks ≡ 8 * size → AllSized size drawn →
+    i < length blocks → slice_get blocks i ≡ Some (xor_all width (map (chosen_sum width blocks) (completed size i drawn)))
 unfolding chosen_sum
-answers_join width size i blocks drawn h e k less =
+completed_answers width size i blocks drawn h e k less =
     one_chosen width size i (omega arith) 0 i blocks h (omega arith) less
-    ∙ ap (λ v. Some (chosen_sum width blocks v)) (sym (shares_join size i drawn k))
-    ∙ ap Some (sums_add width size blocks (shares size i drawn) h (AllSized-append size drawn (last_share size i drawn ∷ []) k (length-last_share size i drawn k, tt)))
+    ∙ ap (λ v. Some (chosen_sum width blocks v)) (sym (completed_join size i drawn k))
+    ∙ ap Some (sums_add width size blocks (completed size i drawn) h (AllSized-append size drawn (last_share size i drawn ∷ []) k (length-last_share size i drawn k, tt)))

@@ -1,12 +1,13 @@
 //! Why answers to shares are worth joining.
 ghost use Rattle.tk_bits.specs.Laws.{LastIsComputed, SharesJoin, SumsAdd, AnswersJoin};
 
-/// The first servers get the drawn vectors in their order, and the last one gets the computed share.
+/// The first servers get the drawn vectors in their order, each with its seed, and the last one gets the computed
+/// vector without a seed.
 pub fn last_is_computed()
     ensures { LastIsComputed }
 {}
 
-/// All shares of a bucket join to its unit vector.
+/// The vectors of all shares of a bucket join to its unit vector.
 pub fn shares_join()
     ensures { SharesJoin }
 {}

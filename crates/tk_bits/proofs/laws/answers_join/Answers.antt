@@ -1,4 +1,4 @@
-use Rattle.tk_bits.proofs.Wanted.{answers_join}
+use Rattle.tk_bits.proofs.Seeded.{answers_join}
 use Rattle.tk_bits.proofs.laws.answers_join.Goals as goal
 
 pub returns : goal.returns

@@ -1,4 +1,4 @@
-use Rattle.tk_bits.proofs.Wanted.{shares_join}
+use Rattle.tk_bits.proofs.Seeded.{shares_join}
 use Rattle.tk_bits.proofs.laws.shares_join.Goals as goal
 
 pub returns : goal.returns
