@@ -1,2 +1,4 @@
 pub mod Joined
+pub mod Written
+pub mod KeyedReads
 pub mod CellOpening

@@ -1,13 +1,14 @@
 -- The words that clients use: a book of keys, or a tape of drawn bytes.
-use Rattle.std.specs.Prelude.{◌≡◌, ℕ, ◌+◌, ◌-◌, ◌*◌, ◌%◌, List, [], length, take, drop, map, slice_index_or, Option}
+use Rattle.std.specs.Prelude.{◌≡◌, ℕ, ◌+◌, ◌-◌, ◌*◌, ◌%◌, ◌==◌, Bool, true, false, cond, List, [], ◌++◌, length, take, drop, map}
+use Rattle.std.specs.Prelude.{slice_index_or, flat_map, Option}
 use Rattle.std.specs.List.{range_with_len}
 use Rattle.tk_shape.specs.declared.shape.Shape.{Shape}
 use Rattle.tk_handle.specs.declared.handle.Handle.{Handle}
 use Rattle.tk_kernel.specs.Pieces.{pieces}
 use Rattle.tk_words.specs.declared.log_seeds.LogSeeds.{LogSeeds}
 use Rattle.tk_words.specs.Pieces.{piece, word_at_byte}
-use Rattle.tk_shape.specs.Lengths.{turn_count, vector_len, cell_len, read_cell_len, tape_len}
-use Rattle.tk_handle.specs.Handle.{word, key_bytes}
+use Rattle.tk_shape.specs.Lengths.{turn_count, seed_len, vector_len, piece_len, cell_len, read_cell_len, tape_len}
+use Rattle.tk_handle.specs.Handle.{word, key_bytes, expanded}
 use Rattle.tk_choice.specs.Choice.{keyed_pair, keyed_hits}
 use Rattle.tk_seal.specs.Seal.{sealed_with, opened_with, keyed_pad, keyed_tag}
 
@@ -73,6 +74,41 @@ cell_tag shape cell = drop (shape.block - 16) (cell_block shape cell)
 abbrev pub cell_sealed : Shape → List ℕ → List ℕ → List ℕ
 cell_sealed shape cell text = sealed_with (cell_pad shape cell) (λ masked. cell_tag shape cell) text
 
+-- ---- what a read cell has
+
+-- for each of the two buckets of a read something for each server but the last
+pub record BothBuckets : Type 0 where
+  pub first : List (List ℕ)
+  pub second : List (List ℕ)
+
+-- bytes cut into as many as a read has, of one size: the first bucket's, and then the second's
+abbrev pub cut_for_both : Shape → ℕ → List ℕ → BothBuckets
+cut_for_both shape size bytes =
+    let each = shape.servers - 1 in
+    record {
+      first = pieces size each bytes;
+      second = pieces size each (drop (each * size) bytes);
+    }
+
+-- what becomes of each of them
+abbrev pub for_each : (List ℕ → List ℕ) → BothBuckets → BothBuckets
+for_each f both = record { first = map f both.first; second = map f both.second }
+
+-- all of them, one after the other
+abbrev pub joined : BothBuckets → List ℕ
+joined both = flat_map (λ v. v) both.first ++ flat_map (λ v. v) both.second
+
+-- the pieces of a read cell
+abbrev pub cell_pieces : Shape → List ℕ → BothBuckets
+cell_pieces shape cell = cut_for_both shape (piece_len shape) (drop 8 cell)
+
+-- the seed of a piece, and the vector after it
+abbrev pub piece_seed : Shape → List ℕ → List ℕ
+piece_seed shape p = take (seed_len shape) p
+
+abbrev pub piece_vector : Shape → List ℕ → List ℕ
+piece_vector shape p = drop (seed_len shape) p
+
 -- ---- what a book gives for a number s of a log
 
 abbrev pub blank_handle : Handle
@@ -114,11 +150,6 @@ pub record FreshWrite : Type 0 where
   pub hits : List ℕ
   pub block : List ℕ
 
--- for each of the two buckets of a read a vector for each server but the last
-pub record DrawnVectors : Type 0 where
-  pub first : List (List ℕ)
-  pub second : List (List ℕ)
-
 abbrev pub seed_at : List (List ℕ) → ℕ → List ℕ
 seed_at seeds c = slice_index_or seeds c []
 
@@ -130,15 +161,6 @@ cell_write shape cell =
       second = (cell_pair shape cell).1;
       hits = cell_hits shape cell;
       block = cell_block shape cell;
-    }
-
--- the vectors that these bytes have: the first bucket's, and then the second's
-abbrev pub vectors_of : Shape → List ℕ → DrawnVectors
-vectors_of shape bytes =
-    let each = shape.servers - 1 in
-    record {
-      first = pieces (vector_len shape) each bytes;
-      second = pieces (vector_len shape) each (drop (each * vector_len shape) bytes);
     }
 
 abbrev pub keyed_write : Shape → List ℕ → ℕ → FreshWrite
@@ -161,12 +183,30 @@ fresh_pair shape (keyed handles seeds) g c =
     (word (seed_at seeds c) (2 * g + 1) 0 % shape.buckets, word (seed_at seeds c) (2 * g + 1) 1 % shape.buckets)
 fresh_pair shape (drawn tape) g c = cell_pair shape (read_cell shape tape g c)
 
-unfoldable pub fresh_vectors : Shape → WordBook → ℕ → ℕ → DrawnVectors
-fresh_vectors shape (keyed handles seeds) g c =
-    vectors_of shape (key_bytes (seed_at seeds c) (2 * g + 1) 16 (2 * (shape.servers - 1) * vector_len shape))
-fresh_vectors shape (drawn tape) g c = vectors_of shape (drop 8 (read_cell shape tape g c))
+-- what a client's seed gives for both buckets of a read, of one size
+abbrev pub keyed_for_both : Shape → ℕ → List ℕ → ℕ → BothBuckets
+keyed_for_both shape size seed g =
+    cut_for_both shape size (key_bytes seed (2 * g + 1) 16 (2 * (shape.servers - 1) * size))
 
--- ---- all words of a book but the vectors of reads: what is said, sent, shown and read depends on these alone
+-- the seeds of a read, which are empty in format 1
+unfoldable pub fresh_seeds : Shape → WordBook → ℕ → ℕ → BothBuckets
+fresh_seeds shape (keyed handles seeds) g c = keyed_for_both shape (seed_len shape) (seed_at seeds c) g
+fresh_seeds shape (drawn tape) g c = for_each (piece_seed shape) (cell_pieces shape (read_cell shape tape g c))
+
+-- the vectors of a read: keyed ones are those that the seeds expand to in format 2
+unfoldable pub fresh_vectors : Shape → WordBook → ℕ → ℕ → BothBuckets
+fresh_vectors shape (keyed handles seeds) g c =
+    cond (shape.format == 2)
+    (for_each (expanded (vector_len shape)) (keyed_for_both shape (seed_len shape) (seed_at seeds c) g))
+    (keyed_for_both shape (vector_len shape) (seed_at seeds c) g)
+fresh_vectors shape (drawn tape) g c = for_each (piece_vector shape) (cell_pieces shape (read_cell shape tape g c))
+
+-- whether vectors are shown beside their seeds: those of a tape are, since they aren't what the seeds expand to
+abbrev pub shows_vectors : WordBook → Bool
+shows_vectors (keyed handles seeds) = false
+shows_vectors (drawn tape) = true
+
+-- ---- all words of a book but the seeds and vectors of reads: what is said, sent, shown and read depends on these alone
 
 pub record BookWords : Type 0 where
   pub pair : ℕ → ℕ → ℕ × ℕ

@@ -1,9 +1,11 @@
 //! What the cells of a tape have.
-ghost use Rattle.std.specs.Prelude.{◌≡◌, ◌+◌, ◌-◌, ◌*◌, ◌≤◌, ◌<◌, length};
+ghost use Rattle.std.specs.Prelude.{◌≡◌, ◌+◌, ◌-◌, ◌*◌, ◌≤◌, ◌<◌, ◌++◌, length, take, drop, flat_map};
 ghost use Rattle.std.specs.List.{AllByRecursion};
-ghost use Rattle.tk_shape.specs.Lengths.{cell_len};
+ghost use Rattle.tk_shape.specs.Lengths.{cell_len, read_cell_len, seed_len, vector_len};
+ghost use Rattle.tk_kernel.specs.Pieces.{pieces};
 ghost use Rattle.tk_words.specs.Pieces.{piece, word_at_byte};
 ghost use Rattle.tk_words.specs.Words.{cell_pair, cell_hits, cell_block, cell_pad, cell_tag};
+ghost use Rattle.tk_words.specs.Words.{joined, for_each, cell_pieces, piece_seed, piece_vector};
 
 use tk_shape::Shape;
 
@@ -70,4 +72,55 @@ pub(crate) fn pad_and_tag<'a>(shape: &Shape, cell: &'a [u8]) -> (&'a [u8], &'a [
     ensures tag_len { length result.1.now ≡ 16 }
 {
     cell_block(shape, cell).split_at(shape.block as usize - 16)
+}
+
+// The seeds and the vectors of a read cell's pieces.
+pub(crate) fn cell_seeds_and_vectors(
+    shape: &Shape,
+    cell: &[u8],
+    seeds: &mut [u8],
+    vectors: &mut [u8],
+)
+    requires whole { length cell.now ≡ read_cell_len shape.now }
+    requires seeds_room { length seeds.old ≡ 2 * (shape.now.servers - 1) * seed_len shape.now }
+    requires vectors_room { length vectors.old ≡ 2 * (shape.now.servers - 1) * vector_len shape.now }
+    ensures seeds { seeds.new ≡ joined (for_each (piece_seed shape.now) (cell_pieces shape.now cell.now)) }
+    ensures vectors { vectors.new ≡ joined (for_each (piece_vector shape.now) (cell_pieces shape.now cell.now)) }
+{
+    let count = 2 * (shape.servers as usize - 1);
+    let (front, back) = (shape.seed_len() as usize, shape.vector_len() as usize);
+    take_apart(&cell[8..], count, front, back, seeds, vectors);
+}
+
+// Cuts so many pieces in two, and puts their fronts one after the other, and likewise their backs.
+fn take_apart(
+    bytes: &[u8],
+    count: usize,
+    front: usize,
+    back: usize,
+    fronts: &mut [u8],
+    backs: &mut [u8],
+)
+    requires whole { length bytes.now ≡ count * (front + back) }
+    requires fronts_room { length fronts.old ≡ count * front }
+    requires backs_room { length backs.old ≡ count * back }
+    ensures fronts { fronts.new ≡ flat_map (take front) (pieces (front + back) count bytes.now) }
+    ensures backs { backs.new ≡ flat_map (drop front) (pieces (front + back) count bytes.now) }
+{
+    let mut rest = bytes;
+    'pieces: for i in 0..count {
+        let (piece, after) = rest.split_at(front + back);
+        let (one, other) = piece.split_at(front);
+        put(fronts, i * front, one);
+        put(backs, i * back, other);
+        rest = after;
+    }
+}
+
+// Writes a part over the bytes from a place on.
+fn put(bytes: &mut [u8], at: usize, part: &[u8])
+    requires { at + length part.now ≤ length bytes.old }
+    ensures { bytes.new ≡ take at bytes.old ++ part.now ++ drop (at + length part.now) bytes.old }
+{
+    bytes[at..at + part.len()].copy_from_slice(part);
 }

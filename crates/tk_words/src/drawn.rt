@@ -2,7 +2,7 @@ ghost use Rattle.std.specs.Prelude.{◌≡◌, ◌+◌, ◌-◌, ◌*◌, ◌<�
 ghost use Rattle.tk_words.specs.Words.{write_cells_len, read_cells_len};
 ghost use Rattle.tk_shape.specs.Lengths.{tape_len, turn_count, cell_len, read_cell_len};
 
-use crate::cells::{cell_block, cell_hits, cell_pair, pad_and_tag, piece};
+use crate::cells::{cell_block, cell_hits, cell_pair, cell_seeds_and_vectors, pad_and_tag, piece};
 use crate::{Draws, LogSeeds, Tape};
 use tk_seal::{mask, unmask};
 use tk_shape::Shape;
@@ -122,10 +122,20 @@ impl Draws for DrawnDraws {
         cell_pair(&self.shape, cell)
     }
 
-    fn fresh_read(&self, client: u32, turn: u32, vectors: &mut [u8]) -> (u32, u32) {
+    fn fresh_read(
+        &self,
+        client: u32,
+        turn: u32,
+        seeds: &mut [u8],
+        vectors: &mut [u8],
+    ) -> (u32, u32) {
         let cell = self.read_cell(turn, client);
-        vectors.copy_from_slice(&cell[8..]);
+        cell_seeds_and_vectors(&self.shape, cell, seeds, vectors);
         cell_pair(&self.shape, cell)
+    }
+
+    fn shows(&self) -> bool {
+        true
     }
 
     ghost serves = { λ draws. draws.whole };

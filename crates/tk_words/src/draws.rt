@@ -1,11 +1,12 @@
 ghost use Rattle.std.specs.Prelude.{◌≡◌, ◌<◌, ◌≤◌, ◌+◌, ◌-◌, ◌*◌, ◌++◌, length, take, IsTrue, Some};
-ghost use Rattle.std.specs.Prelude.{None, ℕ, IfSome, IfNone, replicate, flat_map};
+ghost use Rattle.std.specs.Prelude.{None, ℕ, IfSome, IfNone, replicate};
 ghost use Rattle.std.specs.List.{AllByRecursion};
 ghost use Rattle.tk_shape.specs.declared.shape.Shape.{Shape};
-ghost use Rattle.tk_shape.specs.Lengths.{turn_count, vector_len};
+ghost use Rattle.tk_shape.specs.Lengths.{turn_count, seed_len, vector_len};
 ghost use Rattle.tk_seal.specs.Texts.{is_allowed};
 ghost use Rattle.tk_words.specs.Words.{WordBook, IsBook, pair_of, pair_under, hits_of, hits_under};
-ghost use Rattle.tk_words.specs.Words.{sealed, opened, fresh_write, fresh_pair, fresh_vectors, words_of};
+ghost use Rattle.tk_words.specs.Words.{sealed, opened, fresh_write, fresh_pair, words_of};
+ghost use Rattle.tk_words.specs.Words.{fresh_seeds, fresh_vectors, joined, shows_vectors};
 ghost use Rattle.tk_words.specs.Opening.{OpensWhatSeals, OpensSealed};
 
 use crate::LogSeeds;
@@ -99,18 +100,26 @@ pub trait Draws: Sync {
         ensures second_in { result.1 < (shape self.now).buckets }
         ensures hits_in { AllByRecursion (λ h. h < (shape self.now).filter_bits) hits.new };
 
-    /// The two buckets of a dummy read, and the drawn vectors of any read: for the first bucket a vector
-    /// for each server but the last, and then likewise for the second.
-    fn fresh_read(&self, client: u32, turn: u32, vectors: &mut [u8]) -> (u32, u32)
+    /// The two buckets of a dummy read, and the seeds and the drawn vectors of any read: for the first
+    /// bucket one for each server but the last, and then likewise for the second. In format 1 the seeds are empty.
+    fn fresh_read(&self, client: u32, turn: u32, seeds: &mut [u8], vectors: &mut [u8]) -> (u32, u32)
         requires client_in { client < (shape self.now).clients }
         requires turn_in { turn < turn_count (shape self.now) }
-        requires room { length vectors.old
+        requires seeds_room { length seeds.old
+            ≡ 2 * ((shape self.now).servers - 1) * seed_len (shape self.now) }
+        requires vectors_room { length vectors.old
             ≡ 2 * ((shape self.now).servers - 1) * vector_len (shape self.now) }
         ensures pair { result ≡ fresh_pair (shape self.now) (book self.now) turn client }
-        ensures vectors { vectors.new ≡ flat_map (λ v. v) (fresh_vectors (shape self.now) (book self.now) turn client).first
-            ++ flat_map (λ v. v) (fresh_vectors (shape self.now) (book self.now) turn client).second }
+        ensures seeds { seeds.new
+            ≡ joined (fresh_seeds (shape self.now) (book self.now) turn client) }
+        ensures vectors { vectors.new
+            ≡ joined (fresh_vectors (shape self.now) (book self.now) turn client) }
         ensures first_in { result.0 < (shape self.now).buckets }
         ensures second_in { result.1 < (shape self.now).buckets };
+
+    /// Whether vectors are shown beside their seeds, as those of a tape are.
+    fn shows(&self) -> bool
+        ensures { result ≡ shows_vectors (book self.now) };
 
     // The book serves the shape.
     ghost serves: { (draws : Self) → IsBook (shape draws) (book draws) };

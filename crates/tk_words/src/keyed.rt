@@ -1,8 +1,11 @@
-ghost use Rattle.std.specs.Prelude.{◌≡◌, ◌+◌, ◌*◌, ◌%◌, ◌<◌, length};
-ghost use Rattle.tk_handle.specs.Handle.{word};
+ghost use Rattle.std.specs.Prelude.{◌≡◌, ◌+◌, ◌-◌, ◌*◌, ◌%◌, ◌<◌, ◌≤◌, ◌==◌, cond, length};
+ghost use Rattle.std.specs.Prelude.{◌++◌, take, drop, flat_map};
+ghost use Rattle.tk_shape.specs.Lengths.{seed_len, vector_len};
+ghost use Rattle.tk_kernel.specs.Pieces.{pieces};
+ghost use Rattle.tk_handle.specs.Handle.{word, key_bytes, expanded};
 
 use crate::{Draws, LogSeeds};
-use tk_handle::{Handle, Stream};
+use tk_handle::{Handle, Stream, fill};
 use tk_shape::Shape;
 
 /// The words of keys: each log's handle, and each client's seed.
@@ -105,12 +108,22 @@ impl Draws for KeyedDraws {
         pair
     }
 
-    fn fresh_read(&self, client: u32, turn: u32, vectors: &mut [u8]) -> (u32, u32) {
+    fn fresh_read(
+        &self,
+        client: u32,
+        turn: u32,
+        seeds: &mut [u8],
+        vectors: &mut [u8],
+    ) -> (u32, u32) {
         let mut words = Stream::at(self.seed(client), 2 * u64::from(turn) + 1, 0);
         let pair = next_pair(&mut words, self.shape.buckets);
         words.skip(14);
-        words.fill(vectors);
+        fill_read(&self.shape, &mut words, seeds, vectors);
         pair
+    }
+
+    fn shows(&self) -> bool {
+        false
     }
 
     ghost serves = { λ draws. (draws.handle_each, draws.seed_each) };
@@ -137,4 +150,53 @@ fn next_pair(words: &mut Stream, buckets: u32) -> (u32, u32)
     let mut pair = [0; 2];
     words.remainders(buckets, &mut pair);
     (pair[0], pair[1])
+}
+
+// The seeds and the vectors of a read, from a place of a stream on. In format 1 there are no seeds, and the vectors
+// stand in the stream; in format 2 the seeds do, and expand to the vectors.
+fn fill_read(shape: &Shape, words: &mut Stream, seeds: &mut [u8], vectors: &mut [u8])
+    requires front { words.old.place ≡ 16 }
+    requires seeds_room { length seeds.old ≡ 2 * (shape.now.servers - 1) * seed_len shape.now }
+    requires vectors_room { length vectors.old ≡ 2 * (shape.now.servers - 1) * vector_len shape.now }
+    ensures seeds { let at = words.old in
+        seeds.new ≡ key_bytes at.key at.stream 16 (length seeds.old) }
+    ensures vectors { let at = words.old in vectors.new ≡ cond (shape.now.format == 2)
+        (flat_map (expanded (vector_len shape.now))
+        (pieces 32 (2 * (shape.now.servers - 1)) seeds.new))
+        (key_bytes at.key at.stream 16 (length vectors.old)) }
+{
+    if shape.format == 2 {
+        words.fill(seeds);
+        let count = 2 * (shape.servers as usize - 1);
+        expand_each(seeds, count, shape.vector_len() as usize, vectors);
+    } else {
+        words.fill(vectors);
+    }
+}
+
+// What so many seeds expand to, each in so many bytes, one after the other.
+fn expand_each(seeds: &[u8], count: usize, size: usize, out: &mut [u8])
+    requires whole { length seeds.now ≡ count * 32 }
+    requires room { length out.old ≡ count * size }
+    requires short { size ≤ 65536 }
+    ensures { out.new ≡ flat_map (expanded size) (pieces 32 count seeds.now) }
+{
+    let mut rest = seeds;
+    'seeds: for i in 0..count {
+        let (seed, after) = rest.split_at(32);
+        expand(seed, i * size, size, out);
+        rest = after;
+    }
+}
+
+// Writes what a seed expands to, in so many bytes, over those from a place on.
+fn expand(seed: &[u8], at: usize, size: usize, out: &mut [u8])
+    requires whole { length seed.now ≡ 32 }
+    requires room { at + size ≤ length out.old }
+    requires short { size ≤ 65536 }
+    ensures { out.new ≡ take at out.old ++ expanded size seed.now ++ drop (at + size) out.old }
+{
+    let mut key = [0; 32];
+    key.copy_from_slice(seed);
+    fill(&key, 0, 0, &mut out[at..at + size]);
 }
