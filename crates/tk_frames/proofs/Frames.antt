@@ -1,20 +1,19 @@
 -- Frames: what is read is spelled so and in range where no check fails, and what is in range is read from its spelling.
-use Rattle.std.proofs.Common.{◌≡◌, ℕ, ◌<◌, ◌≤◌, List, [], ◌∷◌, ◌++◌, length, take, drop, Some, None, refl, sym, ap, subst, ◌∙◌, arith}
+use Rattle.std.proofs.Common.{◌≡◌, ℕ, ◌<◌, ◌≤◌, List, [], ◌∷◌, ◌++◌, length, drop, Some, None, refl, sym, ap, subst, ◌∙◌, arith}
 use Rattle.std.proofs.lemmas.Bool.{ltb-true, lt-ltb, leb-true, le-leb}
 use Rattle.std.proofs.lemmas.List.{drop_at, take_at, length-append, length-drop, length-take, take-append-drop}
 use Rattle.std.proofs.lemmas.Option.{none-some}
 use Rattle.std.proofs.lemmas.Nat.{from_be_bytes-to_be_bytes_4}
 use Rattle.tk_shape.specs.declared.shape.Shape.{Shape}
-use Rattle.tk_shape.specs.Lengths.{turn_count, vector_len, width, write_len, read_len, reply_len}
+use Rattle.tk_shape.specs.Lengths.{turn_count, width, write_len, reply_len}
 use Rattle.tk_frames.specs.declared.write_frame.WriteFrame.{WriteFrame}
-use Rattle.tk_frames.specs.declared.read_frame.ReadFrame.{ReadFrame}
 use Rattle.tk_frames.specs.declared.reply_frame.ReplyFrame.{ReplyFrame}
 use Rattle.tk_frames.specs.declared.fault.FrameError.{FrameError}
 use Rattle.tk_frames.specs.declared.fault.Name.TheVariants as name
-use Rattle.tk_frames.specs.Spelling.{be32, write_fields, write_frame, read_frame, reply_frame}
-use Rattle.tk_frames.specs.Ranges.{IsWrite, IsRead, IsReply}
-use Rattle.tk_frames.specs.Fields.{number_at, write_in, read_in, reply_in}
-use Rattle.tk_frames.specs.Faults.{first_fault, check_on, client_check, turn_check, asker_checks, write_field_checks, write_checks, read_checks, reply_checks}
+use Rattle.tk_frames.specs.Spelling.{be32, write_fields, write_frame, reply_frame}
+use Rattle.tk_frames.specs.Ranges.{IsWrite, IsReply}
+use Rattle.tk_frames.specs.Fields.{number_at, write_in, reply_in}
+use Rattle.tk_frames.specs.Faults.{first_fault, check_on, client_check, turn_check, asker_checks, write_field_checks, write_checks, reply_checks}
 use Rattle.tk_frames.proofs.BigEndian.{IsBytes, IsBytes-drop, number-join}
 use Rattle.tk_frames.proofs.Bounds.{turn_count_small}
 use Rattle.tk_frames.proofs.Checking.{none-first, none-both}
@@ -51,14 +50,14 @@ write_found shape bytes fits e =
       head-join 1 bytes (omega arith) head.0.first head.0.second ∙ ap (λ xs. 1 ∷ 1 ∷ xs) (sym fields),
     )
 
--- ---- reads and replies
+-- ---- replies
 
-record AskerFits (shape : Shape) (client turn epoch : ℕ) : Type 0 where
-  client_fits : client < shape.clients
-  turn_fits : turn < turn_count shape
-  epoch_fits : epoch ≤ shape.phases
+pub record AskerFits (shape : Shape) (client turn epoch : ℕ) : Type 0 where
+  pub client_fits : client < shape.clients
+  pub turn_fits : turn < turn_count shape
+  pub epoch_fits : epoch ≤ shape.phases
 
-asker_stands : (shape : Shape) (bytes : List ℕ) → first_fault (asker_checks shape bytes) ≡ None →
+pub asker_stands : (shape : Shape) (bytes : List ℕ) → first_fault (asker_checks shape bytes) ≡ None →
     AskerFits shape (number_at 2 bytes) (number_at 6 bytes) (number_at 10 bytes)
 asker_stands shape bytes e =
     let on_epoch = check_on name.Epoch (number_at 10 bytes) _ in
@@ -67,7 +66,7 @@ asker_stands shape bytes e =
     let epoch = none-first on_epoch [] turn.1 in
     record { client_fits = ltb-true _ _ client.0; turn_fits = ltb-true _ _ turn.0; epoch_fits = leb-true _ _ epoch.0 }
 
-asker_passes : (shape : Shape) (bytes : List ℕ) → AskerFits shape (number_at 2 bytes) (number_at 6 bytes) (number_at 10 bytes) →
+pub asker_passes : (shape : Shape) (bytes : List ℕ) → AskerFits shape (number_at 2 bytes) (number_at 6 bytes) (number_at 10 bytes) →
     first_fault (asker_checks shape bytes) ≡ None
 asker_passes shape bytes fits =
     let on_epoch = check_on name.Epoch (number_at 10 bytes) _ in
@@ -75,24 +74,30 @@ asker_passes shape bytes fits =
     (none-both (turn_check shape (number_at 6 bytes)) (on_epoch ∷ []) (lt-ltb _ _ fits.turn_fits)
     (none-both on_epoch [] (le-leb _ _ fits.epoch_fits) refl))
 
--- three numbers and two halves, the first of them of so many bytes
-halves-join : (half : ℕ) (bytes : List ℕ) → IsBytes bytes → 14 ≤ length bytes →
-    be32 (number_at 2 bytes) ++ (be32 (number_at 6 bytes) ++ (be32 (number_at 10 bytes) ++ (take half (drop 14 bytes) ++ drop half (drop 14 bytes)))) ≡ drop 2 bytes
-halves-join half bytes fits le =
+-- whom a frame names, and what comes after that
+pub asker-join : (bytes : List ℕ) → IsBytes bytes → 14 ≤ length bytes →
+    be32 (number_at 2 bytes) ++ (be32 (number_at 6 bytes) ++ (be32 (number_at 10 bytes) ++ drop 14 bytes)) ≡ drop 2 bytes
+asker-join bytes fits le =
     let at2 = number-join 2 6 bytes fits refl (omega arith) in
     let at6 = number-join 6 10 bytes fits refl (omega arith) in
     let at10 = number-join 10 14 bytes fits refl le in
-    ap (λ rest. be32 (number_at 2 bytes) ++ (be32 (number_at 6 bytes) ++ (be32 (number_at 10 bytes) ++ rest))) (take-append-drop half (drop 14 bytes))
-    ∙ ap (λ rest. be32 (number_at 2 bytes) ++ (be32 (number_at 6 bytes) ++ rest)) at10
+    ap (λ rest. be32 (number_at 2 bytes) ++ (be32 (number_at 6 bytes) ++ rest)) at10
     ∙ ap (λ rest. be32 (number_at 2 bytes) ++ rest) at6
     ∙ at2
 
-record AskerAgain (bytes : List ℕ) (client turn epoch : ℕ) : Type 0 where
-  client_again : number_at 2 bytes ≡ client
-  turn_again : number_at 6 bytes ≡ turn
-  epoch_again : number_at 10 bytes ≡ epoch
+-- the same where that stands in parts
+pub parts-join : (bytes parts : List ℕ) → IsBytes bytes → 14 ≤ length bytes → parts ≡ drop 14 bytes →
+    be32 (number_at 2 bytes) ++ (be32 (number_at 6 bytes) ++ (be32 (number_at 10 bytes) ++ parts)) ≡ drop 2 bytes
+parts-join bytes parts fits le joined =
+    ap (λ rest. be32 (number_at 2 bytes) ++ (be32 (number_at 6 bytes) ++ (be32 (number_at 10 bytes) ++ rest))) joined
+    ∙ asker-join bytes fits le
 
-asker-again : (shape : Shape) (kind client turn epoch : ℕ) (rest : List ℕ) → AskerFits shape client turn epoch →
+pub record AskerAgain (bytes : List ℕ) (client turn epoch : ℕ) : Type 0 where
+  pub client_again : number_at 2 bytes ≡ client
+  pub turn_again : number_at 6 bytes ≡ turn
+  pub epoch_again : number_at 10 bytes ≡ epoch
+
+pub asker-again : (shape : Shape) (kind client turn epoch : ℕ) (rest : List ℕ) → AskerFits shape client turn epoch →
     AskerAgain (kind ∷ 1 ∷ (be32 client ++ (be32 turn ++ (be32 epoch ++ rest)))) client turn epoch
 asker-again shape kind client turn epoch rest fits =
     record {
@@ -101,18 +106,8 @@ asker-again shape kind client turn epoch rest fits =
       epoch_again = from_be_bytes-to_be_bytes_4 epoch (omega (arith, fits.epoch_fits, shape.in_range.phases_high));
     }
 
-pub length-read_frame : (shape : Shape) (r : ReadFrame) → IsRead shape r → length (read_frame r) ≡ read_len shape
-length-read_frame shape r fits = omega (arith, length-append r.first r.second, fits.first_len, fits.second_len)
-
 pub length-reply_frame : (shape : Shape) (r : ReplyFrame) → IsReply shape r → length (reply_frame r) ≡ reply_len shape
 length-reply_frame shape r fits = omega (arith, length-append r.first r.second, fits.first_len, fits.second_len)
-
-pub read-again : (shape : Shape) (r : ReadFrame) → IsRead shape r → read_in shape (read_frame r) ≡ r
-read-again shape r fits =
-    let asker = asker-again shape 2 r.client r.turn r.epoch (r.first ++ r.second) (record { client_fits = fits.client; turn_fits = fits.turn; epoch_fits = fits.epoch }) in
-    let first = take_at r.first r.second (vector_len shape) fits.first_len in
-    let second = drop_at r.first r.second (vector_len shape) fits.first_len in
-    λ i. record { client = asker.client_again i; turn = asker.turn_again i; epoch = asker.epoch_again i; first = first i; second = second i }
 
 pub reply-again : (shape : Shape) (r : ReplyFrame) → IsReply shape r → reply_in shape (reply_frame r) ≡ r
 reply-again shape r fits =
@@ -121,13 +116,6 @@ reply-again shape r fits =
     let second = drop_at r.first r.second (width shape) fits.first_len in
     λ i. record { client = asker.client_again i; turn = asker.turn_again i; epoch = asker.epoch_again i; first = first i; second = second i }
 
-pub read_passes : (shape : Shape) (r : ReadFrame) → IsRead shape r → first_fault (read_checks shape (read_frame r)) ≡ None
-read_passes shape r fits =
-    let again : IsRead shape (read_in shape (read_frame r)) = subst (IsRead shape) (sym (read-again shape r fits)) fits in
-    head_passes (read_len shape) 2 (read_frame r) (asker_checks shape (read_frame r))
-    (record { long = length-read_frame shape r fits; first = refl; second = refl })
-    (asker_passes shape (read_frame r) (record { client_fits = again.client; turn_fits = again.turn; epoch_fits = again.epoch }))
-
 pub reply_passes : (shape : Shape) (r : ReplyFrame) → IsReply shape r → first_fault (reply_checks shape (reply_frame r)) ≡ None
 reply_passes shape r fits =
     let again : IsReply shape (reply_in shape (reply_frame r)) = subst (IsReply shape) (sym (reply-again shape r fits)) fits in
@@ -135,30 +123,13 @@ reply_passes shape r fits =
     (record { long = length-reply_frame shape r fits; first = refl; second = refl })
     (asker_passes shape (reply_frame r) (record { client_fits = again.client; turn_fits = again.turn; epoch_fits = again.epoch }))
 
-pub read_found : (shape : Shape) (bytes : List ℕ) → IsBytes bytes → first_fault (read_checks shape bytes) ≡ None →
-    IsRead shape (read_in shape bytes) × (bytes ≡ read_frame (read_in shape bytes))
-read_found shape bytes fits e =
-    let head = head_stands (read_len shape) 2 bytes (asker_checks shape bytes) e in
-    let long = head.0.long in
-    let asker = asker_stands shape bytes head.1 in
-    let halves = halves-join (vector_len shape) bytes fits (omega arith) in (
-      record {
-        client = asker.client_fits;
-        turn = asker.turn_fits;
-        epoch = asker.epoch_fits;
-        first_len = omega (arith, length-take (vector_len shape) (drop 14 bytes), length-drop 14 bytes);
-        second_len = omega (arith, length-drop (vector_len shape) (drop 14 bytes), length-drop 14 bytes);
-      },
-      head-join 2 bytes (omega arith) head.0.first head.0.second ∙ ap (λ xs. 2 ∷ 1 ∷ xs) (sym halves),
-    )
-
 pub reply_found : (shape : Shape) (bytes : List ℕ) → IsBytes bytes → first_fault (reply_checks shape bytes) ≡ None →
     IsReply shape (reply_in shape bytes) × (bytes ≡ reply_frame (reply_in shape bytes))
 reply_found shape bytes fits e =
     let head = head_stands (reply_len shape) 3 bytes (asker_checks shape bytes) e in
     let long = head.0.long in
     let asker = asker_stands shape bytes head.1 in
-    let halves = halves-join (width shape) bytes fits (omega arith) in (
+    let halves = parts-join bytes _ fits (omega arith) (take-append-drop (width shape) (drop 14 bytes)) in (
       record {
         client = asker.client_fits;
         turn = asker.turn_fits;

@@ -3,6 +3,7 @@ pub mod Bounds
 pub mod Checking
 pub mod EpochLaws
 pub mod Frames
+pub mod ReadLaws
 pub mod Heads
 pub mod InOrderLaws
 pub mod MarkCounts

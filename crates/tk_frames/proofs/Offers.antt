@@ -1,7 +1,8 @@
 -- What the proofs of other crates may cite.
 
 -- A read and a reply are read from their spelling.
-pub use Rattle.tk_frames.proofs.Frames.{read-again, reply-again}
+pub use Rattle.tk_frames.proofs.ReadLaws.{read-again}
+pub use Rattle.tk_frames.proofs.Frames.{reply-again}
 -- How many turns a shape has at most.
 pub use Rattle.tk_frames.proofs.Bounds.{turn_count_small}
 -- What stands before a mark.

@@ -1,7 +1,7 @@
 -- What a decoder checks, in its order, and the first check that bytes fail.
-use Rattle.std.specs.Prelude.{◌≡◌, ℕ, ◌+◌, ◌*◌, nat_lt, nat_le, ◌==◌, ◌||◌, ◌&&◌, Bool, List, [], ◌∷◌, ◌++◌, length, map, drop, slice_index, Option, Some, None, Result, MatchResult, if◌then◌else◌}
+use Rattle.std.specs.Prelude.{◌≡◌, ℕ, ◌+◌, ◌*◌, nat_lt, nat_le, ◌==◌, ◌||◌, ◌&&◌, Bool, List, [], ◌∷◌, ◌++◌, length, map, drop, slice_index, Option, Some, None, Result, MatchResult, if◌then◌else◌, true, false}
 use Rattle.tk_shape.specs.declared.shape.Shape.{Shape}
-use Rattle.tk_shape.specs.Lengths.{turn_count, write_len, record_len, read_len, reply_len}
+use Rattle.tk_shape.specs.Lengths.{turn_count, write_len, record_len, read_len, seed_read_len, reply_len}
 use Rattle.tk_frames.specs.declared.fault.Name.{Name}
 use Rattle.tk_frames.specs.declared.fault.Name.TheVariants as name
 use Rattle.tk_frames.specs.declared.fault.FrameError.{FrameError}
@@ -75,8 +75,29 @@ position_check shape bytes =
 abbrev pub write_checks : Shape → List ℕ → List Check
 write_checks shape bytes = head_checks (write_len shape) 1 bytes ++ write_field_checks shape (drop 2 bytes)
 
+-- the length of a read of a kind
+abbrev pub read_len_of : Shape → ℕ → ℕ
+read_len_of shape kind =
+    if kind == 6 then seed_read_len shape false
+    else if kind == 7 then seed_read_len shape true
+    else read_len shape
+
+-- a read of a kind
+abbrev pub read_checks_of : Shape → ℕ → List ℕ → List Check
+read_checks_of shape kind bytes = head_checks (read_len_of shape kind) kind bytes ++ asker_checks shape bytes
+
+-- a read of any kind: the kind comes first, since reads differ in length
+abbrev pub any_read_checks : Shape → List ℕ → List Check
+any_read_checks shape bytes =
+    let kind = slice_index bytes 0 in
+    record { fault = fault.Length (read_len shape) (length bytes); passed = nat_le 2 (length bytes) }
+    ∷ record { fault = fault.Kind kind; passed = kind == 2 || kind == 6 || kind == 7 }
+    ∷ read_checks_of shape kind bytes
+
+-- in format 1 there is one kind of read
 abbrev pub read_checks : Shape → List ℕ → List Check
-read_checks shape bytes = head_checks (read_len shape) 2 bytes ++ asker_checks shape bytes
+read_checks shape bytes =
+    if shape.format == 2 then any_read_checks shape bytes else read_checks_of shape 2 bytes
 
 abbrev pub reply_checks : Shape → List ℕ → List Check
 reply_checks shape bytes = head_checks (reply_len shape) 3 bytes ++ asker_checks shape bytes

@@ -3,8 +3,11 @@ use Rattle.std.specs.Prelude.{ℕ, zero, suc, ◌*◌, List, [], ◌∷◌, take
 use Rattle.std.specs.Int.{w32, w64, from_be_bytes}
 use Rattle.tk_shape.specs.declared.shape.Shape.{Shape}
 use Rattle.tk_shape.specs.Lengths.{vector_len, width}
+use Rattle.tk_handle.specs.Handle.{expanded}
 use Rattle.tk_frames.specs.declared.write_frame.WriteFrame.{WriteFrame}
 use Rattle.tk_frames.specs.declared.read_frame.ReadFrame.{ReadFrame}
+use Rattle.tk_frames.specs.declared.seeds.Seeds.{Seeds}
+use Rattle.tk_frames.specs.declared.seeds.Seeds.TheVariants.{Plain, Seeded, Shown}
 use Rattle.tk_frames.specs.declared.reply_frame.ReplyFrame.{ReplyFrame}
 use Rattle.tk_frames.specs.declared.entry.Placed.{Placed}
 use Rattle.tk_frames.specs.declared.entry.Entry.TheVariants.{Write, Mark}
@@ -33,15 +36,36 @@ write_in shape fields =
       block = drop (4 * shape.hits) (drop 16 fields);
     }
 
-abbrev pub read_in : Shape → List ℕ → ReadFrame
-read_in shape bytes =
+-- the seeds of a read of this kind, where this comes after its asker
+abbrev pub seeds_by : ℕ → List ℕ → Seeds
+seeds_by kind rest =
+    if kind == 6 then Seeded rest else if kind == 7 then Shown (take 64 rest) else Plain
+
+-- its vector for the first bucket, and for the second
+abbrev pub first_by : Shape → Seeds → List ℕ → List ℕ
+first_by shape Plain rest = take (vector_len shape) rest
+first_by shape (Seeded seeds) rest = expanded (vector_len shape) (take 32 seeds)
+first_by shape (Shown seeds) rest = take (vector_len shape) (drop 64 rest)
+
+abbrev pub second_by : Shape → Seeds → List ℕ → List ℕ
+second_by shape Plain rest = drop (vector_len shape) rest
+second_by shape (Seeded seeds) rest = expanded (vector_len shape) (drop 32 seeds)
+second_by shape (Shown seeds) rest = drop (vector_len shape) (drop 64 rest)
+
+-- the read that these bytes spell, where its seeds are these
+abbrev pub read_with : Shape → Seeds → List ℕ → ReadFrame
+read_with shape seeds bytes =
     record {
       client = number_at 2 bytes;
       turn = number_at 6 bytes;
       epoch = number_at 10 bytes;
-      first = take (vector_len shape) (drop 14 bytes);
-      second = drop (vector_len shape) (drop 14 bytes);
+      first = first_by shape seeds (drop 14 bytes);
+      second = second_by shape seeds (drop 14 bytes);
+      seeds = seeds;
     }
+
+abbrev pub read_in : Shape → List ℕ → ReadFrame
+read_in shape bytes = read_with shape (seeds_by (slice_index bytes 0) (drop 14 bytes)) bytes
 
 abbrev pub reply_in : Shape → List ℕ → ReplyFrame
 reply_in shape bytes =

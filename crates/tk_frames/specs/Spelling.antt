@@ -4,6 +4,8 @@ use Rattle.std.specs.List.{flat_map}
 use Rattle.std.specs.Int.{w32, w64, to_be_bytes}
 use Rattle.tk_frames.specs.declared.write_frame.WriteFrame.{WriteFrame}
 use Rattle.tk_frames.specs.declared.read_frame.ReadFrame.{ReadFrame}
+use Rattle.tk_frames.specs.declared.seeds.Seeds.{Seeds}
+use Rattle.tk_frames.specs.declared.seeds.Seeds.TheVariants.{Plain, Seeded, Shown}
 use Rattle.tk_frames.specs.declared.reply_frame.ReplyFrame.{ReplyFrame}
 use Rattle.tk_frames.specs.declared.entry.Placed.{Placed}
 use Rattle.tk_frames.specs.declared.entry.Entry.{Entry}
@@ -23,8 +25,22 @@ write_fields w =
 abbrev pub write_frame : WriteFrame → List ℕ
 write_frame w = 1 ∷ 1 ∷ write_fields w
 
+-- the kind of a read
+abbrev pub read_kind : Seeds → ℕ
+read_kind Plain = 2
+read_kind (Seeded seeds) = 6
+read_kind (Shown seeds) = 7
+
+-- what tells a read's vectors
+abbrev pub told : Seeds → List ℕ → List ℕ → List ℕ
+told Plain first second = first ++ second
+told (Seeded seeds) first second = seeds
+told (Shown seeds) first second = seeds ++ (first ++ second)
+
 abbrev pub read_frame : ReadFrame → List ℕ
-read_frame r = 2 ∷ 1 ∷ (be32 r.client ++ be32 r.turn ++ be32 r.epoch ++ r.first ++ r.second)
+read_frame r =
+    read_kind r.seeds ∷ 1
+    ∷ (be32 r.client ++ be32 r.turn ++ be32 r.epoch ++ told r.seeds r.first r.second)
 
 abbrev pub reply_frame : ReplyFrame → List ℕ
 reply_frame r = 3 ∷ 1 ∷ (be32 r.client ++ be32 r.turn ++ be32 r.epoch ++ r.first ++ r.second)

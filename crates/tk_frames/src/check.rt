@@ -5,6 +5,7 @@ ghost use Rattle.tk_frames.specs.declared.fault.FrameError.TheVariants as fault;
 ghost use Rattle.tk_frames.specs.Fields.{numbers};
 ghost use Rattle.tk_frames.specs.Faults.{first_fault, head_checks, hit_check, write_field_checks};
 ghost use Rattle.tk_frames.specs.Faults.{asker_checks, position_check, write_checks, read_checks};
+ghost use Rattle.tk_frames.specs.Faults.{read_len_of, read_checks_of, any_read_checks};
 ghost use Rattle.tk_frames.specs.Faults.{reply_checks, mark_checks, record_checks};
 
 use crate::kind::{self, VERSION};
@@ -106,8 +107,46 @@ pub fn check_write(shape: &Shape, bytes: &[u8]) -> Result<(), FrameError>
 pub fn check_read(shape: &Shape, bytes: &[u8]) -> Result<(), FrameError>
     ensures { result_err result ≡ first_fault (read_checks shape.now bytes.now) }
 {
-    check_head(bytes, shape.read_len(), kind::READ)?;
+    if shape.format == 2 {
+        check_any_read(shape, bytes)
+    } else {
+        check_read_of(shape, kind::READ, bytes)
+    }
+}
+
+/// The kind is looked at before the length, since reads differ in length.
+fn check_any_read(shape: &Shape, bytes: &[u8]) -> Result<(), FrameError>
+    ensures { result_err result ≡ first_fault (any_read_checks shape.now bytes.now) }
+{
+    match bytes {
+        [kind::READ, _, ..] => check_read_of(shape, kind::READ, bytes),
+        [kind::SEEDED, _, ..] => check_read_of(shape, kind::SEEDED, bytes),
+        [kind::SHOWN, _, ..] => check_read_of(shape, kind::SHOWN, bytes),
+        [got, _, ..] => Err(FrameError::Kind { got: *got }),
+        _ => Err(FrameError::Length {
+            want: u64::from(shape.read_len()),
+            got: bytes.len() as u64,
+        }),
+    }
+}
+
+fn check_read_of(shape: &Shape, kind: u8, bytes: &[u8]) -> Result<(), FrameError>
+    ensures { result_err result ≡ first_fault (read_checks_of shape.now kind bytes.now) }
+{
+    check_head(bytes, read_len_of(shape, kind), kind)?;
     check_asker(shape, bytes)
+}
+
+/// The length of a read of a kind.
+fn read_len_of(shape: &Shape, kind: u8) -> u32
+    ensures len { result ≡ read_len_of shape.now kind }
+    ensures low { 14 ≤ result }
+{
+    match kind {
+        kind::SEEDED => shape.seed_read_len(false),
+        kind::SHOWN => shape.seed_read_len(true),
+        _ => shape.read_len(),
+    }
 }
 
 pub fn check_reply(shape: &Shape, bytes: &[u8]) -> Result<(), FrameError>

@@ -53,7 +53,8 @@ pub fn decode_placed(alloc: Global, shape: &Shape, bytes: &[u8]) -> Result<Place
     }
 }
 
-/// The read that the bytes spell, if they spell one in range for the shape.
+/// The read that the bytes spell, if they spell one in range for the shape. In format 2 the kind is looked at before the
+/// length, since reads differ in length.
 pub fn decode_read(alloc: Global, shape: &Shape, bytes: &[u8]) -> Result<ReadFrame, FrameError>
     ensures found { IfOk result (λ r. IsRead shape.now r × (bytes.now ≡ read_frame r)) }
     ensures only { (r : ReadFrame) → IsRead shape.now r → bytes.now ≡ read_frame r → GivesUnlessMemory result r }

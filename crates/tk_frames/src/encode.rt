@@ -5,10 +5,11 @@ ghost use Rattle.std.specs.Prelude.{vec_len, vec_capacity, OnOk, OnErr};
 ghost use Rattle.std.specs.List.{flat_map};
 ghost use Rattle.tk_frames.specs.Spelling.{be32, be64, write_fields, write_frame, read_frame};
 ghost use Rattle.tk_frames.specs.Spelling.{reply_frame, placed_frame};
+ghost use Rattle.tk_frames.specs.Ranges.{AreTold};
 
 use crate::kind::{self, VERSION};
-use crate::{Entry, Placed, ReadFrame, ReplyFrame, WriteFrame};
-use tk_shape::{Bytes, Memory};
+use crate::{Entry, Placed, ReadFrame, ReplyFrame, Seeds, WriteFrame};
+use tk_shape::Memory;
 
 /// Appends bytes for which there is room.
 fn put(out: &mut Vec<u8>, bytes: &[u8])
@@ -101,13 +102,23 @@ pub fn encode_placed(frame: &Placed, out: &mut Vec<u8>) -> Result<(), Memory>
     }
 }
 
-/// Appends the one spelling of a read.
+/// Appends the one spelling of a read. Vectors that seeds alone tell are what the seeds expand to.
 pub fn encode_read(frame: &ReadFrame, out: &mut Vec<u8>) -> Result<(), Memory>
+    requires told { AreTold frame.now.seeds frame.now.first frame.now.second }
     ensures ok { OnOk result (out.new.items ≡ out.old.items ++ read_frame frame.now) }
     ensures err { OnErr result (out.new.items ≡ out.old.items) }
 {
     let asker = [frame.client, frame.turn, frame.epoch];
-    encode_halves(kind::READ, asker, &frame.first, &frame.second, out)
+    let (first, second) = (frame.first.as_slice(), frame.second.as_slice());
+    match &frame.seeds {
+        Seeds::Plain => encode_asked(kind::READ, asker, &[], first, second, out),
+        Seeds::Seeded(seeds) => {
+            encode_asked(kind::SEEDED, asker, seeds.as_slice(), &[], &[], out)
+        }
+        Seeds::Shown(seeds) => {
+            encode_asked(kind::SHOWN, asker, seeds.as_slice(), first, second, out)
+        }
+    }
 }
 
 /// Appends the one spelling of a reply.
@@ -116,25 +127,43 @@ pub fn encode_reply(frame: &ReplyFrame, out: &mut Vec<u8>) -> Result<(), Memory>
     ensures err { OnErr result (out.new.items ≡ out.old.items) }
 {
     let asker = [frame.client, frame.turn, frame.epoch];
-    encode_halves(kind::REPLY, asker, &frame.first, &frame.second, out)
+    let (first, second) = (frame.first.as_slice(), frame.second.as_slice());
+    encode_asked(kind::REPLY, asker, &[], first, second, out)
 }
 
-/// Appends a read or a reply, which differ in their kind and in the length of their halves.
-fn encode_halves(
+/// What a read or a reply begins with: its kind, the version and who asks.
+fn head_of(kind: u8, asker: [u32; 3]) -> [u8; 14]
+    ensures { result ≡ kind ∷ 1 ∷ flat_map be32 asker }
+{
+    let [client, turn, epoch] = asker;
+    let (c, t, e) = (
+        client.to_be_bytes(),
+        turn.to_be_bytes(),
+        epoch.to_be_bytes(),
+    );
+    [
+        kind, VERSION, c[0], c[1], c[2], c[3], t[0], t[1], t[2], t[3], e[0], e[1], e[2], e[3],
+    ]
+}
+
+/// Appends a read or a reply: the asker, the seeds if there are any, and both vectors or sums.
+fn encode_asked(
     kind: u8,
     asker: [u32; 3],
-    first: &Bytes,
-    second: &Bytes,
+    seeds: &[u8],
+    first: &[u8],
+    second: &[u8],
     out: &mut Vec<u8>,
 ) -> Result<(), Memory>
-    ensures ok { OnOk result (out.new.items ≡ out.old.items ++ (kind ∷ 1 ∷ (flat_map be32 asker ++ first.now ++ second.now))) }
+    ensures ok { OnOk result (out.new.items
+        ≡ out.old.items ++ (kind ∷ 1 ∷ (flat_map be32 asker ++ (seeds.now ++ (first.now ++ second.now))))) }
     ensures err { OnErr result (out.new.items ≡ out.old.items) }
 {
-    let (first, second) = (first.as_slice(), second.as_slice());
     let halves = first.len().saturating_add(second.len());
-    out.reserve(halves.saturating_add(14))?;
-    put(out, &[kind, VERSION]);
-    put_words(out, asker.as_slice());
+    let rest = seeds.len().saturating_add(halves);
+    out.reserve(rest.saturating_add(14))?;
+    put(out, &head_of(kind, asker));
+    put(out, seeds);
     put(out, first);
     put(out, second);
     Ok(())

@@ -1,15 +1,15 @@
 //! Laws of frames and of their order, each for every shape.
 ghost use Rattle.std.specs.Prelude.{◌≡◌, ℕ, ◌<◌, List, [], ◌∷◌, ◌++◌, length, true, false};
 ghost use Rattle.tk_shape.specs.declared.shape.Shape.{Shape};
-ghost use Rattle.tk_shape.specs.Lengths.{write_len, record_len, read_len, reply_len};
+ghost use Rattle.tk_shape.specs.Lengths.{write_len, record_len, reply_len};
 ghost use Rattle.tk_frames.specs.declared.write_frame.WriteFrame.{WriteFrame};
 ghost use Rattle.tk_frames.specs.declared.read_frame.ReadFrame.{ReadFrame};
 ghost use Rattle.tk_frames.specs.declared.reply_frame.ReplyFrame.{ReplyFrame};
 ghost use Rattle.tk_frames.specs.declared.entry.Placed.{Placed};
 ghost use Rattle.tk_frames.specs.declared.entry.Entry.TheVariants.{Write, Mark};
-ghost use Rattle.tk_frames.specs.Spelling.{write_frame, read_frame, reply_frame, placed_frame, entry_frame};
+ghost use Rattle.tk_frames.specs.Spelling.{write_frame, read_frame, reply_frame, placed_frame, entry_frame, read_kind};
 ghost use Rattle.tk_frames.specs.Ranges.{IsWrite, IsRead, IsReply, IsPlaced};
-ghost use Rattle.tk_frames.specs.Faults.{write_checks, read_checks, reply_checks, placed_checks};
+ghost use Rattle.tk_frames.specs.Faults.{write_checks, read_checks, reply_checks, placed_checks, read_len_of};
 ghost use Rattle.tk_frames.specs.Order.{is_mark_of, has_mark, records, before};
 ghost use Rattle.tk_frames.specs.Laws.{IsOneSpelling, FindsEachFault};
 
@@ -34,7 +34,7 @@ pub fn lengths()
     ensures writes { (shape : Shape) (w : WriteFrame) → IsWrite shape w → length (write_frame w) ≡ write_len shape }
     ensures records { (shape : Shape) (position : ℕ) (w : WriteFrame) → IsWrite shape w → length (entry_frame position (Write w)) ≡ record_len shape }
     ensures marks { (position e : ℕ) → length (entry_frame position (Mark e)) ≡ 14 }
-    ensures reads { (shape : Shape) (r : ReadFrame) → IsRead shape r → length (read_frame r) ≡ read_len shape }
+    ensures reads { (shape : Shape) (r : ReadFrame) → IsRead shape r → length (read_frame r) ≡ read_len_of shape (read_kind r.seeds) }
     ensures replies { (shape : Shape) (r : ReplyFrame) → IsReply shape r → length (reply_frame r) ≡ reply_len shape }
 {}
 

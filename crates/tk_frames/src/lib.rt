@@ -11,6 +11,7 @@ mod laws;
 mod numbers;
 mod read_frame;
 mod reply_frame;
+mod seeds;
 mod value;
 mod write_frame;
 
@@ -22,5 +23,6 @@ pub use laws::{before_a_mark, each_fault, lengths, one_spelling};
 pub use numbers::{u32_at, u64_at};
 pub use read_frame::ReadFrame;
 pub use reply_frame::ReplyFrame;
+pub use seeds::Seeds;
 pub use tk_shape::Memory;
 pub use write_frame::WriteFrame;

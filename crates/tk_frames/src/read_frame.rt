@@ -1,3 +1,4 @@
+use crate::Seeds;
 use tk_shape::Bytes;
 
 /// What a client asks one server in a turn: a vector for each of two buckets, over one epoch.
@@ -8,4 +9,5 @@ pub struct ReadFrame {
     pub epoch: u32,
     pub first: Bytes,
     pub second: Bytes,
+    pub seeds: Seeds,
 }

@@ -1,11 +1,16 @@
 //! The values whose fields stand in bytes.
-ghost use Rattle.std.specs.Prelude.{◌≡◌, ◌+◌, ◌*◌, ◌≤◌, length, IfOk};
-ghost use Rattle.tk_shape.specs.Lengths.{read_len, reply_len};
-ghost use Rattle.tk_frames.specs.Fields.{numbers, write_in, read_in, reply_in, placed_mark_in, placed_record_in};
+ghost use Rattle.std.specs.Prelude.{◌≡◌, ◌+◌, ◌*◌, ◌≤◌, length, take, drop, slice_index, IfOk, true, false};
+ghost use Rattle.tk_shape.specs.Lengths.{vector_len, read_len, seed_read_len, reply_len};
+ghost use Rattle.tk_handle.specs.Handle.{expanded};
+ghost use Rattle.tk_frames.specs.declared.seeds.Seeds.TheVariants.{Plain, Seeded, Shown};
+ghost use Rattle.tk_frames.specs.Fields.{numbers, write_in, read_with, read_in, reply_in};
+ghost use Rattle.tk_frames.specs.Fields.{placed_mark_in, placed_record_in};
+ghost use Rattle.tk_frames.specs.Faults.{read_len_of};
 
 use crate::numbers::{u32_at, u64_at};
-use crate::{Entry, Placed, ReadFrame, ReplyFrame, WriteFrame};
+use crate::{Entry, Placed, ReadFrame, ReplyFrame, Seeds, WriteFrame, kind};
 use std::alloc::Global;
+use tk_handle::fill;
 use tk_shape::{Bytes, Memory, Shape, Words};
 
 fn hits_of(alloc: Global, count: u32, bytes: &[u8]) -> Result<Words, Memory>
@@ -38,8 +43,19 @@ pub fn write_of(alloc: Global, shape: &Shape, fields: &[u8]) -> Result<WriteFram
 }
 
 pub fn read_of(alloc: Global, shape: &Shape, bytes: &[u8]) -> Result<ReadFrame, Memory>
-    requires { length bytes.now ≡ read_len shape.now }
+    requires { length bytes.now ≡ read_len_of shape.now (slice_index bytes.now 0) }
     ensures { IfOk result (λ r. r ≡ read_in shape.now bytes.now) }
+{
+    match bytes[0] {
+        kind::SEEDED => seeded_read_of(alloc, shape, bytes),
+        kind::SHOWN => shown_read_of(alloc, shape, bytes),
+        _ => plain_read_of(alloc, shape, bytes),
+    }
+}
+
+fn plain_read_of(alloc: Global, shape: &Shape, bytes: &[u8]) -> Result<ReadFrame, Memory>
+    requires { length bytes.now ≡ read_len shape.now }
+    ensures { IfOk result (λ r. r ≡ read_with shape.now Plain bytes.now) }
 {
     let (_, vectors) = bytes.split_at(14);
     let (first, second) = vectors.split_at(shape.vector_len() as usize);
@@ -49,7 +65,53 @@ pub fn read_of(alloc: Global, shape: &Shape, bytes: &[u8]) -> Result<ReadFrame, 
         epoch: u32_at(bytes, 10),
         first: Bytes::from_slice(alloc, first)?,
         second: Bytes::from_slice(alloc, second)?,
+        seeds: Seeds::Plain,
     })
+}
+
+fn seeded_read_of(alloc: Global, shape: &Shape, bytes: &[u8]) -> Result<ReadFrame, Memory>
+    requires { length bytes.now ≡ seed_read_len shape.now false }
+    ensures { IfOk result (λ r. r ≡ read_with shape.now (Seeded (drop 14 bytes.now)) bytes.now) }
+{
+    let (_, seeds) = bytes.split_at(14);
+    let (first, second) = seeds.split_at(32);
+    Ok(ReadFrame {
+        client: u32_at(bytes, 2),
+        turn: u32_at(bytes, 6),
+        epoch: u32_at(bytes, 10),
+        first: expansion(alloc, shape, first)?,
+        second: expansion(alloc, shape, second)?,
+        seeds: Seeds::Seeded(Bytes::from_slice(alloc, seeds)?),
+    })
+}
+
+fn shown_read_of(alloc: Global, shape: &Shape, bytes: &[u8]) -> Result<ReadFrame, Memory>
+    requires { length bytes.now ≡ seed_read_len shape.now true }
+    ensures { IfOk result (λ r. r ≡ read_with shape.now (Shown (take 64 (drop 14 bytes.now))) bytes.now) }
+{
+    let (_, told) = bytes.split_at(14);
+    let (seeds, vectors) = told.split_at(64);
+    let (first, second) = vectors.split_at(shape.vector_len() as usize);
+    Ok(ReadFrame {
+        client: u32_at(bytes, 2),
+        turn: u32_at(bytes, 6),
+        epoch: u32_at(bytes, 10),
+        first: Bytes::from_slice(alloc, first)?,
+        second: Bytes::from_slice(alloc, second)?,
+        seeds: Seeds::Shown(Bytes::from_slice(alloc, seeds)?),
+    })
+}
+
+/// The vector that a seed expands to.
+fn expansion(alloc: Global, shape: &Shape, seed: &[u8]) -> Result<Bytes, Memory>
+    requires { length seed.now ≡ 32 }
+    ensures { IfOk result (λ v. v ≡ expanded (vector_len shape.now) seed.now) }
+{
+    let mut key = [0; 32];
+    key.copy_from_slice(seed);
+    let mut vector = vec![in alloc; 0u8; shape.vector_len() as usize]?;
+    fill(&key, 0, 0, vector.as_mut_slice());
+    Ok(Bytes::from_vec(vector))
 }
 
 pub fn reply_of(alloc: Global, shape: &Shape, bytes: &[u8]) -> Result<ReplyFrame, Memory>

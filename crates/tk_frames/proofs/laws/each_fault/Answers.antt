@@ -1,7 +1,8 @@
 use Rattle.std.proofs.Common.{drop, ap, ◌∙◌}
 use Rattle.tk_frames.specs.Fields.{write_in, read_in, reply_in, placed_in}
 use Rattle.tk_frames.specs.Faults.{first_fault, write_checks, read_checks, reply_checks, placed_checks}
-use Rattle.tk_frames.proofs.Frames.{write_found, write_passes, read_found, read_passes, reply_found, reply_passes}
+use Rattle.tk_frames.proofs.Frames.{write_found, write_passes, reply_found, reply_passes}
+use Rattle.tk_frames.proofs.ReadLaws.{read_found, read_passes}
 use Rattle.tk_frames.proofs.PlacedFrames.{placed_found, placed_passes}
 use Rattle.tk_frames.proofs.laws.each_fault.Goals as goal
 

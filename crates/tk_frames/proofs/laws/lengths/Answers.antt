@@ -1,4 +1,5 @@
-use Rattle.tk_frames.proofs.Frames.{length-write_frame, length-read_frame, length-reply_frame}
+use Rattle.tk_frames.proofs.Frames.{length-write_frame, length-reply_frame}
+use Rattle.tk_frames.proofs.ReadLaws.{length-read_frame}
 use Rattle.tk_frames.proofs.PlacedFrames.{length-record_frame}
 use Rattle.tk_frames.proofs.laws.lengths.Goals as goal
 
