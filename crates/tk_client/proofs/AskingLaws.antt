@@ -1,30 +1,34 @@
 -- Vectors that lie one after the other, and the frames that carry them.
-use Rattle.std.proofs.Common.{◌≡◌, ◌≢◌, ap, ap₂, sym, ◌∙◌, subst, arith, IsTrue}
-use Rattle.std.proofs.Common.{ℕ, zero, suc, ◌+◌, ◌-◌, ◌*◌, ◌/◌, ◌%◌, ◌^◌, ◌<◌, ◌≤◌}
+use Rattle.std.proofs.Common.{◌≡◌, ◌≢◌, refl, ap, ap₂, sym, ◌∙◌, subst, arith, IsTrue, Bool, true, false, cond}
+use Rattle.std.proofs.Common.{ℕ, zero, suc, ◌+◌, ◌-◌, ◌*◌, ◌/◌, ◌%◌, ◌^◌, ◌<◌, ◌≤◌, ltb-true}
 use Rattle.std.proofs.Common.{List, [], ◌∷◌, ◌++◌, length, map, get_or, take, drop, append_assoc}
 use Rattle.std.proofs.Common.{append-nil, length-append, Option}
-use Rattle.std.specs.Prelude.{slice_index_or}
+use Rattle.std.specs.Prelude.{slice_index_or, nat_lt, ◌==◌, ◌&&◌}
 use Rattle.std.specs.List.{range_with_len, flat_map, concat}
 use Rattle.std.specs.Int.{is_power_of_two}
 use Rattle.std.specs.Int.Count.{ones}
 use Rattle.std.proofs.Math.Seq.{take-append_seam}
 use Rattle.std.proofs.lemmas.Bool.{eqb-true}
 use Rattle.std.proofs.lemmas.List.{drop-drop, take_at, drop_at}
-use Rattle.std.proofs.lemmas.List.Concat.{concat_is}
 use Rattle.std.proofs.lemmas.List.FromFn.{map-range_with_len_more}
 use Rattle.std.proofs.lemmas.Nat.{div-add-mod', ones_cat, zero_from_ones, le-div, mod-mul-add}
+use Rattle.std.proofs.Math.Nat.{mul-div_cancel}
 use Rattle.tk_shape.specs.declared.shape.Shape.{Shape}
-use Rattle.tk_shape.specs.Lengths.{vector_len}
+use Rattle.tk_shape.specs.Lengths.{seed_len, vector_len}
 use Rattle.tk_kernel.specs.Pieces.{pieces, all_pieces, AllSized}
-use Rattle.tk_kernel.proofs.Offers.{all_pieces-append, all_pieces_short, all_pieces-concat}
-use Rattle.tk_kernel.proofs.Offers.{concat-all_pieces}
-use Rattle.tk_kernel.proofs.Offers.{AllSized-all_pieces}
-use Rattle.tk_bits.specs.Shares.{last_share, shares}
-use Rattle.tk_words.specs.Words.{WordBook, words_of, DrawnVectors}
-use Rattle.tk_words.specs.Words.{fresh_vectors}
+use Rattle.tk_kernel.proofs.Offers.{pieces-append, all_pieces-append, all_pieces_short}
+use Rattle.tk_kernel.proofs.Offers.{concat-all_pieces, AllSized-all_pieces}
+use Rattle.tk_bits.specs.Shares.{last_share, completed, shares, share_at}
+use Rattle.tk_bits.proofs.Offers.{vector-at, seed-at}
+use Rattle.tk_words.specs.Words.{WordBook, words_of, BothBuckets, joined}
+use Rattle.tk_words.specs.Words.{fresh_seeds, fresh_vectors, shows_vectors}
 use Rattle.tk_frames.specs.declared.read_frame.ReadFrame.{ReadFrame}
+use Rattle.tk_frames.specs.declared.seeds.Seeds.{Seeds}
+use Rattle.tk_frames.specs.declared.seeds.Seeds.TheVariants.{Plain, Seeded, Shown}
+use Rattle.tk_client.specs.declared.asking.Asker.{Asker}
 use Rattle.tk_client.specs.Reader.{Target}
-use Rattle.tk_client.specs.Asked.{pair_for, frame_with, asked, AreWhole}
+use Rattle.tk_client.specs.Asked.{pair_for, seeds_told, frame_with, frame_for, asked, AreForBoth}
+use Rattle.tk_client.specs.Framing.{Cut, cut, frame_from}
 
 -- ---- a vector has a bit for each bucket
 
@@ -91,12 +95,12 @@ all_pieces-last size (b ∷ bs) last some h e =
     ∙ all_pieces-append size b (concat bs ++ last) some h.0
     ∙ ap (λ ps. b ∷ ps) (all_pieces-last size bs last some h.1 e)
 
--- the drawn vectors and the last share after them are the shares of a bucket
-pub shares_behind : (size bucket : ℕ) (drawn_bytes last all : List ℕ) → 0 < size →
+-- the drawn vectors and then the last share are the completed vectors of a bucket
+pub completed_behind : (size bucket : ℕ) (drawn_bytes last all : List ℕ) → 0 < size →
     length drawn_bytes % size ≡ 0 → length last ≡ size →
     last ≡ last_share size bucket (all_pieces size drawn_bytes) → all ≡ drawn_bytes ++ last →
-    all_pieces size all ≡ shares size bucket (all_pieces size drawn_bytes)
-shares_behind size bucket drawn_bytes last all some whole long is joined =
+    all_pieces size all ≡ completed size bucket (all_pieces size drawn_bytes)
+completed_behind size bucket drawn_bytes last all some whole long is joined =
     let ps = all_pieces size drawn_bytes in
     ap (all_pieces size) joined
     ∙ ap (λ (bytes : List ℕ). all_pieces size (bytes ++ last))
@@ -111,11 +115,7 @@ written_back len items new same =
     let rest = drop (length new) items in
     ap (λ n. take n (new ++ rest)) same ∙ take-append_seam new rest
 
--- ---- the drawn vectors
-
--- all of them, the second bucket's after the first's
-abbrev pub joined_vectors : DrawnVectors → List ℕ
-joined_vectors vectors = flat_map (λ v. v) vectors.first ++ flat_map (λ v. v) vectors.second
+-- ---- what is drawn
 
 length-joined : (size : ℕ) (vs : List (List ℕ)) → AllSized size vs →
     length (flat_map (λ v. v) vs) ≡ length vs * size
@@ -126,88 +126,166 @@ length-joined size (v ∷ vs) h =
     let here = h.0 in
     omega (arith, both, rest, here)
 
-all_pieces-joined : (size : ℕ) (vs : List (List ℕ)) → 0 < size → AllSized size vs →
-    all_pieces size (flat_map (λ v. v) vs) ≡ vs
-all_pieces-joined size vs some h =
-    ap (all_pieces size) (sym (concat_is vs)) ∙ all_pieces-concat size vs some h
+pieces-joined : (size : ℕ) (vs : List (List ℕ)) → AllSized size vs →
+    pieces size (length vs) (flat_map (λ v. v) vs) ≡ vs
+pieces-joined size [] h = refl
+pieces-joined size (v ∷ vs) h =
+    pieces-append size (length vs) v (flat_map (λ x. x) vs) h.0
+    ∙ ap (λ ps. v ∷ ps) (pieces-joined size vs h.1)
 
--- the vectors of either bucket, where the second's lie after the first's
-pub record AreHalves (shape : Shape) (vectors : DrawnVectors) (front back : List ℕ) : Type 0 where
-  pub front_is : all_pieces (vector_len shape) front ≡ vectors.first
-  pub back_is : all_pieces (vector_len shape) back ≡ vectors.second
+-- bytes that hold what is drawn for one bucket, and those for the other
+pub record AreHalves (shape : Shape) (size : ℕ) (both : BothBuckets) (front back : List ℕ)
+    : Type 0 where
+  pub front_is : pieces size (shape.servers - 1) front ≡ both.first
+  pub back_is : pieces size (shape.servers - 1) back ≡ both.second
 
-pub halves : (shape : Shape) (vectors : DrawnVectors) (bytes front back : List ℕ) (each : ℕ) →
-    AreWhole shape vectors →
-    bytes ≡ joined_vectors vectors →
-    each ≡ (shape.servers - 1) * vector_len shape → front ≡ take each bytes →
-    back ≡ drop each bytes →
-    AreHalves shape vectors front back
-halves shape vectors bytes front back each whole joined each_is front_is back_is =
-    let size = vector_len shape in
-    let first = flat_map (λ v. v) vectors.first in
-    let second = flat_map (λ v. v) vectors.second in
+pub halves : (shape : Shape) (size : ℕ) (both : BothBuckets) (bytes front back : List ℕ)
+    (each : ℕ) → AreForBoth shape size both → bytes ≡ joined both →
+    each ≡ (shape.servers - 1) * size → front ≡ take each bytes → back ≡ drop each bytes →
+    AreHalves shape size both front back
+halves shape size both bytes front back each whole is_joined each_is front_is back_is =
+    let first = flat_map (λ v. v) both.first in
+    let second = flat_map (λ v. v) both.second in
     let long : length first ≡ each =
-    length-joined size vectors.first whole.first_sized ∙ ap (λ n. n * size) whole.first_each
+    length-joined size both.first whole.first_sized ∙ ap (λ n. n * size) whole.first_each
     ∙ sym each_is in
+    let cut = λ (n : ℕ) (xs : List ℕ). pieces size n xs in
     record {
       front_is =
-          ap (all_pieces size) (front_is ∙ ap (take each) joined ∙ take_at first second each long)
-          ∙ all_pieces-joined size vectors.first (vector_some shape) whole.first_sized;
+          ap₂ cut (sym whole.first_each)
+          (front_is ∙ ap (take each) is_joined ∙ take_at first second each long)
+          ∙ pieces-joined size both.first whole.first_sized;
       back_is =
-          ap (all_pieces size) (back_is ∙ ap (drop each) joined ∙ drop_at first second each long)
-          ∙ all_pieces-joined size vectors.second (vector_some shape) whole.second_sized;
+          ap₂ cut (sym whole.second_each)
+          (back_is ∙ ap (drop each) is_joined ∙ drop_at first second each long)
+          ∙ pieces-joined size both.second whole.second_sized;
     }
+
+-- as many whole pieces as there are
+pub all-pieces : (size count : ℕ) (bytes : List ℕ) → 0 < size → length bytes ≡ count * size →
+    all_pieces size bytes ≡ pieces size count bytes
+all-pieces size count bytes some long =
+    ap (λ n. pieces size n bytes) (ap (λ n. n / size) long ∙ mul-div_cancel count some)
 
 -- ---- the frames
 
 -- the frame that carries these two vectors
-abbrev pub framed : ℕ → ℕ → ℕ → List ℕ → List ℕ → ReadFrame
-framed g c e x y = record { client = c; turn = g; epoch = e; first = x; second = y }
+abbrev pub framed : Asker → List ℕ → List ℕ → Seeds → ReadFrame
+framed a x y s =
+    record { client = a.client; turn = a.turn; epoch = a.epoch; first = x; second = y; seeds = s }
 
 -- one server further
-pub frames_more : (g c e : ℕ) (us vs : List (List ℕ)) (frames more : List ReadFrame) (server : ℕ)
-    (x y : List ℕ) → 1 ≤ server →
-    x ≡ slice_index_or us (server - 1) [] → y ≡ slice_index_or vs (server - 1) [] →
-    more ≡ frames ++ framed g c e x y ∷ [] →
-    frames ≡ map (frame_with g c e us vs) (range_with_len 1 (server - 1)) →
-    more ≡ map (frame_with g c e us vs) (range_with_len 1 (server + 1 - 1))
-unfolding frame_with
-frames_more g c e us vs frames more server x y low x_is y_is pushed so_far =
-    let each = frame_with g c e us vs in
-    let here : framed g c e x y ≡ each server = ap₂ (framed g c e) x_is y_is in
+pub frames_more : (shape : Shape) (shows : Bool) (a : Asker) (one other : Cut)
+    (frames more : List ReadFrame) (server : ℕ) (x y : List ℕ) (s : Seeds) → 1 ≤ server →
+    x ≡ one.vector server → y ≡ other.vector server →
+    s ≡ seeds_told shape shows server (one.seed server ++ other.seed server) →
+    more ≡ frames ++ framed a x y s ∷ [] →
+    frames ≡ map (frame_from shape shows a one other) (range_with_len 1 (server - 1)) →
+    more ≡ map (frame_from shape shows a one other) (range_with_len 1 (server + 1 - 1))
+unfolding frame_from
+frames_more shape shows a one other frames more server x y s low x_is y_is s_is pushed so_far =
+    let each = frame_from shape shows a one other in
+    let here : framed a x y s ≡ each server = λ i. framed a (x_is i) (y_is i) (s_is i) in
     let count : server - 1 + 1 ≡ server + 1 - 1 = omega (arith, low) in
     pushed ∙ ap₂ (λ (fs : List ReadFrame) (f : ReadFrame). fs ++ f ∷ []) so_far here
     ∙ sym (map-range_with_len_more each 1 (server - 1) server (omega (arith, low)))
     ∙ ap (λ n. map each (range_with_len 1 n)) count
 
--- what is drawn over one shape is drawn over the same
-pub fresh_joined : (own shape : Shape) (b : WordBook) (g c : ℕ) (bytes : List ℕ) → own ≡ shape →
-    bytes ≡ joined_vectors (fresh_vectors own b g c) →
-    bytes ≡ joined_vectors (fresh_vectors shape b g c)
-fresh_joined own shape b g c bytes same joined =
-    subst (λ s. bytes ≡ joined_vectors (fresh_vectors s b g c)) same joined
+-- the seeds that server j is told, where it is told any
+pub told-alike : (shape : Shape) (shows : Bool) (j : ℕ) (s t : List ℕ) →
+    (j < shape.servers → s ≡ t) → seeds_told shape shows j s ≡ seeds_told shape shows j t
+told-alike shape shows j s t same =
+    elim (nat_lt j shape.servers) as
+    (λ low. nat_lt j shape.servers ≡ low →
+    cond (low && shape.format == 2) (cond shows (Shown s) (Seeded s)) Plain
+    ≡ cond (low && shape.format == 2) (cond shows (Shown t) (Seeded t)) Plain) [
+      | true ↦ λ e.
+          ap (λ (x : List ℕ). cond (shape.format == 2) (cond shows (Shown x) (Seeded x)) Plain)
+          (same (ltb-true j shape.servers e))
+      | false ↦ λ e. refl
+    ] refl
 
--- the halves of the drawn bytes, each completed to shares, are what the frames carry
-pub frames_asked : (own shape : Shape) (b : WordBook) (g c e : ℕ) (t : Option Target) (pair : ℕ × ℕ)
-    (bytes front back first second : List ℕ) (each : ℕ) →
-    let size = vector_len shape in
-    own ≡ shape → pair ≡ pair_for (words_of own b) g c t →
-    bytes ≡ joined_vectors (fresh_vectors shape b g c) →
-    AreWhole shape (fresh_vectors shape b g c) →
-    each ≡ (shape.servers - 1) * size → front ≡ take each bytes → back ≡ drop each bytes →
-    all_pieces size first ≡ shares size pair.0 (all_pieces size front) →
-    all_pieces size second ≡ shares size pair.1 (all_pieces size back) →
-    map (frame_with g c e (all_pieces size first) (all_pieces size second))
+-- one bucket's part of a frame: the bytes of its seeds and of its vectors, and what they are
+pub record IsCut (shape : Shape) (bucket : ℕ) (seeds drawn : List (List ℕ))
+    (seed_bytes vector_bytes : List ℕ) : Type 0 where
+  pub seeds_each : length seeds ≡ shape.servers - 1
+  pub drawn_each : length drawn ≡ shape.servers - 1
+  pub seeds_are : pieces (seed_len shape) (shape.servers - 1) seed_bytes ≡ seeds
+  pub vectors_are : all_pieces (vector_len shape) vector_bytes
+      ≡ completed (vector_len shape) bucket drawn
+
+module _ (shape : Shape) (bucket : ℕ) (seeds drawn : List (List ℕ))
+    (seed_bytes vector_bytes : List ℕ)
+    (is : IsCut shape bucket seeds drawn seed_bytes vector_bytes) (j : ℕ) (low : 1 ≤ j) where
+  vector-of : (cut shape seed_bytes vector_bytes).vector j
+      ≡ (share_at (shares (vector_len shape) bucket seeds drawn) (j - 1)).vector
+  vector-of =
+      ap (λ vs. slice_index_or vs (j - 1) []) is.vectors_are
+      ∙ sym (vector-at (vector_len shape) bucket (j - 1) seeds drawn)
+
+  seed-of : j < shape.servers → (cut shape seed_bytes vector_bytes).seed j
+      ≡ (share_at (shares (vector_len shape) bucket seeds drawn) (j - 1)).seed
+  seed-of high =
+      let place : j - 1 < shape.servers - 1 = omega (arith, low, high) in
+      sym (piece_at (seed_len shape) (j - 1) (shape.servers - 1) seed_bytes place)
+      ∙ ap (λ ps. get_or ps (j - 1) []) is.seeds_are
+      ∙ sym (seed-at (vector_len shape) bucket (j - 1) seeds drawn
+      (omega (arith, place, is.drawn_each)))
+
+-- what bytes say of server j is its frame
+frame-is : (shape : Shape) (shows : Bool) (a : Asker) (pair : ℕ × ℕ) (seeds drawn : BothBuckets)
+    (first_seeds second_seeds first second : List ℕ) →
+    IsCut shape pair.0 seeds.first drawn.first first_seeds first →
+    IsCut shape pair.1 seeds.second drawn.second second_seeds second → (j : ℕ) → 1 ≤ j →
+    frame_from shape shows a (cut shape first_seeds first) (cut shape second_seeds second) j
+    ≡ frame_with shape shows a.turn a.client a.epoch
+    (shares (vector_len shape) pair.0 seeds.first drawn.first)
+    (shares (vector_len shape) pair.1 seeds.second drawn.second)
+    j
+unfolding frame_from frame_with
+frame-is shape shows a pair seeds drawn first_seeds second_seeds first second one other j low =
+    let x = vector-of shape pair.0 seeds.first drawn.first first_seeds first one j low in
+    let y = vector-of shape pair.1 seeds.second drawn.second second_seeds second other j low in
+    let told = told-alike shape shows j _ _ (λ high.
+    ap₂ (λ (s t : List ℕ). s ++ t)
+    (seed-of shape pair.0 seeds.first drawn.first first_seeds first one j low high)
+    (seed-of shape pair.1 seeds.second drawn.second second_seeds second other j low high)) in
+    λ i. framed a (x i) (y i) (told i)
+
+-- functions that agree on a range give the same list of it
+map-agree : {A : Type 0} (f h : ℕ → A) (a n : ℕ) → ((k : ℕ) → a ≤ k → f k ≡ h k) →
+    map f (range_with_len a n) ≡ map h (range_with_len a n)
+map-agree f h a zero same = refl
+map-agree {A} f h a (suc n) same =
+    ap₂ (λ (x : A) (xs : List A). x ∷ xs) (same a (omega arith))
+    (map-agree f h (a + 1) n (λ k low. same k (omega (arith, low))))
+
+-- what is drawn over one shape is drawn over the same
+pub fresh_joined : (fresh : Shape → BothBuckets) (own shape : Shape) (bytes : List ℕ) →
+    own ≡ shape → bytes ≡ joined (fresh own) → bytes ≡ joined (fresh shape)
+fresh_joined fresh own shape bytes same is_joined =
+    is_joined ∙ ap (λ s. joined (fresh s)) same
+
+-- the bytes of seeds and vectors of both buckets give the frames
+pub frames_asked : (own shape : Shape) (b : WordBook) (a : Asker) (t : Option Target)
+    (pair : ℕ × ℕ) (first_seeds second_seeds first second : List ℕ) →
+    let seeds = fresh_seeds shape b a.turn a.client in
+    let drawn = fresh_vectors shape b a.turn a.client in
+    own ≡ shape → pair ≡ pair_for (words_of own b) a.turn a.client t →
+    IsCut shape pair.0 seeds.first drawn.first first_seeds first →
+    IsCut shape pair.1 seeds.second drawn.second second_seeds second →
+    map (frame_from shape (shows_vectors b) a (cut shape first_seeds first) (cut shape second_seeds second))
     (range_with_len 1 shape.servers)
-    ≡ asked shape b g c e t
-frames_asked own shape b g c e t pair bytes front back first second each
-    same pair_is joined whole each_is front_is back_is first_is second_is =
-    let size = vector_len shape in
-    let vectors = fresh_vectors shape b g c in
-    let is_pair : pair ≡ pair_for (words_of shape b) g c t =
-    subst (λ s. pair ≡ pair_for (words_of s b) g c t) same pair_is
+    ≡ asked shape b a.turn a.client a.epoch t
+frames_asked own shape b a t pair first_seeds second_seeds first second same pair_is one other =
+    let seeds = fresh_seeds shape b a.turn a.client in
+    let drawn = fresh_vectors shape b a.turn a.client in
+    let is_pair : pair ≡ pair_for (words_of shape b) a.turn a.client t =
+    subst (λ s. pair ≡ pair_for (words_of s b) a.turn a.client t) same pair_is
     in
-    let both = halves shape vectors bytes front back each whole joined each_is front_is back_is in
-    ap₂ (λ (us vs : List (List ℕ)). map (frame_with g c e us vs) (range_with_len 1 shape.servers))
-    (first_is ∙ ap₂ (λ (p : ℕ × ℕ) (vs : List (List ℕ)). shares size p.0 vs) is_pair both.front_is)
-    (second_is ∙ ap₂ (λ (p : ℕ × ℕ) (vs : List (List ℕ)). shares size p.1 vs) is_pair both.back_is)
+    map-agree
+    (frame_from shape (shows_vectors b) a (cut shape first_seeds first) (cut shape second_seeds second))
+    (frame_for shape b a.turn a.client a.epoch pair) 1 shape.servers
+    (frame-is shape (shows_vectors b) a pair seeds drawn first_seeds second_seeds first second one other)
+    ∙ ap (λ (p : ℕ × ℕ). map (frame_for shape b a.turn a.client a.epoch p) (range_with_len 1 shape.servers))
+    is_pair

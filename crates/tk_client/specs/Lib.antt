@@ -4,6 +4,7 @@ pub mod Writes
 pub mod Saying
 pub mod Outboxes
 pub mod Asked
+pub mod Framing
 pub mod Searching
 pub mod Positions
 pub mod Taken

@@ -1,19 +1,24 @@
-ghost use Rattle.std.specs.Prelude.{◌≡◌, ◌-◌, ◌*◌, ◌<◌, ◌≤◌, length, map, slice_index_or};
+ghost use Rattle.std.specs.Prelude.{◌≡◌, ◌-◌, ◌*◌, ◌<◌, ◌≤◌, length, map, slice_index_or, cond};
 ghost use Rattle.std.specs.Prelude.{ℕ, [], ◌++◌, IfSome, IfOk, OnOk, OnErr};
 ghost use Rattle.std.specs.List.{range_with_len};
-ghost use Rattle.tk_shape.specs.Lengths.{turn_count, vector_len};
+ghost use Rattle.tk_shape.specs.Lengths.{turn_count, seed_len, vector_len};
 ghost use Rattle.tk_kernel.specs.Pieces.{all_pieces};
-ghost use Rattle.tk_bits.specs.Shares.{shares};
+ghost use Rattle.tk_bits.specs.Shares.{completed};
+ghost use Rattle.tk_words.specs.Pieces.{piece};
 ghost use Rattle.tk_words.specs.Words.{words_of, fresh_pair};
+ghost use Rattle.tk_frames.specs.declared.read_frame.ReadFrame.{ReadFrame};
+ghost use Rattle.tk_frames.specs.declared.seeds.Seeds.TheVariants.{Seeded, Shown};
+ghost use Rattle.tk_frames.specs.Ranges.{AreTold};
 ghost use Rattle.tk_frames.specs.Spelling.{read_frame};
-ghost use Rattle.tk_client.specs.Asked.{pair_for, frame_with, asked};
+ghost use Rattle.tk_client.specs.Asked.{pair_for, seeds_told, asked};
+ghost use Rattle.tk_client.specs.Framing.{frame_from, cut, AreAllTold};
 
 use crate::open_read::OpenRead;
 use crate::pairing::{KeptPair, ReadPair, pair_to_keep};
 use crate::target::Target;
 use std::alloc::Global;
 use tk_bits::share;
-use tk_frames::{ReadFrame, encode_read};
+use tk_frames::{ReadFrame, Seeds, encode_read};
 use tk_shape::{Bytes, Memory, Shape};
 use tk_words::Draws;
 
@@ -31,20 +36,58 @@ pub(crate) fn read_frames<D: Draws>(
     requires turn_in { read.turn < turn_count shape.now }
     requires log_in { IfSome read.target (λ t. t.log < shape.now.logs) }
     requires number_in { IfSome read.target (λ t. t.number < turn_count shape.now) }
-    ensures { IfOk result (λ r. r.0.items
+    ensures asked { IfOk result (λ r. r.0.items
         ≡ asked shape.now (D.book draws.now) read.turn client read.epoch read.target) }
+    ensures told { IfOk result (λ r. AreAllTold r.0.items) }
 {
-    let each = (shape.servers as usize - 1) * shape.vector_len() as usize;
-    let mut drawn = vec![in alloc; 0u8; 2 * each]?;
-    let fresh = draws.fresh_read(client, read.turn, drawn.as_mut_slice());
+    let others = shape.servers as usize - 1;
+    let each_seed = others * shape.seed_len() as usize;
+    let each_vector = others * shape.vector_len() as usize;
+    let mut seeds = vec![in alloc; 0u8; 2 * each_seed]?;
+    let mut drawn = vec![in alloc; 0u8; 2 * each_vector]?;
+    let fresh = draws.fresh_read(
+        client,
+        read.turn,
+        seeds.as_mut_slice(),
+        drawn.as_mut_slice(),
+    );
     let ReadPair { pair, kept } = buckets(shape, draws, read.target, fresh);
     let (first_bucket, second_bucket) = pair;
-    let (first, second) = drawn.as_slice().split_at(each);
-    let first = all_shares(alloc, shape, first_bucket, first)?;
-    let second = all_shares(alloc, shape, second_bucket, second)?;
-    let (first, second) = (first.as_slice(), second.as_slice());
-    let frames = frames_of(alloc, shape, client, read, first, second)?;
+    let (first_seeds, second_seeds) = seeds.as_slice().split_at(each_seed);
+    let (first, second) = drawn.as_slice().split_at(each_vector);
+    let first = all_vectors(alloc, shape, first_bucket, first)?;
+    let second = all_vectors(alloc, shape, second_bucket, second)?;
+    let first = Shares {
+        seeds: first_seeds,
+        vectors: first.as_slice(),
+    };
+    let second = Shares {
+        seeds: second_seeds,
+        vectors: second.as_slice(),
+    };
+    let asker = Asker {
+        client,
+        turn: read.turn,
+        epoch: read.epoch,
+    };
+    let frames = frames_of(alloc, shape, draws.shows(), asker, &first, &second)?;
     Ok((frames, kept))
+}
+
+/// Who asks, and over which epoch.
+#[derive(Clone, Copy)]
+struct Asker {
+    client: u32,
+    turn: u32,
+    epoch: u32,
+}
+
+/// The shares of a bucket: the seeds of all servers but the last, one after the other, and likewise
+/// the vectors of all.
+#[derive(Clone, Copy)]
+struct Shares<'a> {
+    seeds: &'a [u8],
+    vectors: &'a [u8],
 }
 
 /// The buckets of a read: the pair of what it is for, or else those that are drawn, of which nothing
@@ -76,11 +119,11 @@ fn buckets<D: Draws>(
 
 /// The vectors of all servers for a bucket, one after the other: those that are drawn, and the one
 /// that completes them.
-fn all_shares(alloc: Global, shape: &Shape, bucket: u32, drawn: &[u8]) -> Result<Vec<u8>, Memory>
+fn all_vectors(alloc: Global, shape: &Shape, bucket: u32, drawn: &[u8]) -> Result<Vec<u8>, Memory>
     requires bucket_in { bucket < shape.now.buckets }
     requires whole { length drawn.now ≡ (shape.now.servers - 1) * vector_len shape.now }
-    ensures shares { let size = vector_len shape.now in IfOk result (λ all.
-        all_pieces size all.items ≡ shares size bucket (all_pieces size drawn.now)) }
+    ensures vectors { let size = vector_len shape.now in IfOk result (λ all.
+        all_pieces size all.items ≡ completed size bucket (all_pieces size drawn.now)) }
     ensures long { IfOk result (λ all.
         length all.items ≡ shape.now.servers * vector_len shape.now) }
 {
@@ -92,35 +135,73 @@ fn all_shares(alloc: Global, shape: &Shape, bucket: u32, drawn: &[u8]) -> Result
     Ok(all)
 }
 
-/// A frame for each server, with its vector of either bucket.
+/// A frame for each server, with its share of either bucket.
 fn frames_of(
     alloc: Global,
     shape: &Shape,
-    client: u32,
-    read: OpenRead,
-    first: &[u8],
-    second: &[u8],
+    shows: bool,
+    asker: Asker,
+    first: &Shares<'_>,
+    second: &Shares<'_>,
 ) -> Result<Vec<ReadFrame>, Memory>
-    requires first_long { length first.now ≡ shape.now.servers * vector_len shape.now }
-    requires second_long { length second.now ≡ shape.now.servers * vector_len shape.now }
-    ensures { let size = vector_len shape.now in
-        let firsts = all_pieces size first.now in
-        let seconds = all_pieces size second.now in
-        IfOk result (λ frames. frames.items
-        ≡ map (frame_with read.turn client read.epoch firsts seconds)
-        (range_with_len 1 shape.now.servers)) }
+    requires first_long { length first.now.vectors.now ≡ shape.now.servers * vector_len shape.now }
+    requires second_long { length second.now.vectors.now ≡ shape.now.servers * vector_len shape.now }
+    requires first_seeds { length first.now.seeds.now ≡ (shape.now.servers - 1) * seed_len shape.now }
+    requires second_seeds { length second.now.seeds.now ≡ (shape.now.servers - 1) * seed_len shape.now }
+    ensures { IfOk result (λ frames. frames.items
+        ≡ map (frame_from shape.now shows asker (cut shape.now first.now.seeds.now first.now.vectors.now)
+        (cut shape.now second.now.seeds.now second.now.vectors.now)) (range_with_len 1 shape.now.servers)) }
 {
     let mut frames = Vec::new(alloc);
     for server in 1..shape.servers + 1 {
         frames.push(ReadFrame {
-            client,
-            turn: read.turn,
-            epoch: read.epoch,
-            first: vector_of(alloc, shape, server, first)?,
-            second: vector_of(alloc, shape, server, second)?,
+            client: asker.client,
+            turn: asker.turn,
+            epoch: asker.epoch,
+            first: vector_of(alloc, shape, server, first.vectors)?,
+            second: vector_of(alloc, shape, server, second.vectors)?,
+            seeds: seeds_of(alloc, shape, shows, server, first.seeds, second.seeds)?,
         })?;
     }
     Ok(frames)
+}
+
+/// How a server is told its vectors, where these are the seeds of all servers but the last.
+fn seeds_of(
+    alloc: Global,
+    shape: &Shape,
+    shows: bool,
+    server: u32,
+    first: &[u8],
+    second: &[u8],
+) -> Result<Seeds, Memory>
+    requires server_low { 1 ≤ server }
+    requires server_high { server ≤ shape.now.servers }
+    requires first_long { length first.now ≡ (shape.now.servers - 1) * seed_len shape.now }
+    requires second_long { length second.now ≡ (shape.now.servers - 1) * seed_len shape.now }
+    ensures { IfOk result (λ seeds. seeds ≡ seeds_told shape.now shows server
+        (piece (seed_len shape.now) (server - 1) first.now
+        ++ piece (seed_len shape.now) (server - 1) second.now)) }
+{
+    if server == shape.servers || shape.format != 2 {
+        return Ok(Seeds::Plain);
+    }
+    let start = (server as usize - 1) * 32;
+    let mut seeds = Vec::new(alloc);
+    seeds.extend_from_slice(&first[start..start + 32])?;
+    seeds.extend_from_slice(&second[start..start + 32])?;
+    Ok(told(shows, Bytes::from_vec(seeds)))
+}
+
+/// Seeds with their vectors shown beside them or not.
+fn told(shows: bool, seeds: Bytes) -> Seeds
+    ensures { result ≡ cond shows (Shown seeds) (Seeded seeds) }
+{
+    if shows {
+        Seeds::Shown(seeds)
+    } else {
+        Seeds::Seeded(seeds)
+    }
 }
 
 /// The vector of a server among those of all.
@@ -142,6 +223,7 @@ pub(crate) fn append_frames(
     frames: &[ReadFrame],
     out: &mut Vec<Bytes>,
 ) -> Result<(), Memory>
+    requires told { AreAllTold frames.now }
     ensures appended { OnOk result (out.new.items ≡ out.old.items ++ map read_frame frames.now) }
     ensures kept { OnErr result (out.new.items ≡ out.old.items) }
 {
@@ -151,6 +233,7 @@ pub(crate) fn append_frames(
 }
 
 fn spelled_frames(alloc: Global, frames: &[ReadFrame]) -> Result<Vec<Bytes>, Memory>
+    requires told { AreAllTold frames.now }
     ensures { IfOk result (λ spelled. spelled.items ≡ map read_frame frames.now) }
 {
     let mut spelled = Vec::new(alloc);
@@ -161,6 +244,7 @@ fn spelled_frames(alloc: Global, frames: &[ReadFrame]) -> Result<Vec<Bytes>, Mem
 }
 
 fn spelled_frame(alloc: Global, frame: &ReadFrame) -> Result<Bytes, Memory>
+    requires told { AreTold frame.now.seeds frame.now.first frame.now.second }
     ensures { IfOk result (λ spelled. spelled ≡ read_frame frame.now) }
 {
     let mut out = Vec::new(alloc);

@@ -1,16 +1,13 @@
 -- The frames of the servers so far.
 use Rattle.std.proofs.Common.{◌≡◌, ◌-◌, map}
 use Rattle.std.specs.List.{range_with_len}
-use Rattle.tk_shape.specs.Lengths.{vector_len}
-use Rattle.tk_kernel.specs.Pieces.{all_pieces}
-use Rattle.tk_client.specs.Asked.{frame_with}
+use Rattle.tk_client.specs.Framing.{cut, frame_from}
 use Rattle.tk_client.proofs.asking.frames_of.Given as goal
 
 abbrev pub invariant-loop-server : goal.invariant-loop-server
 invariant-loop-server l =
-    let size = vector_len l.shape in
     l.frames.items
     ≡ map
-    (frame_with l.read.turn l.client l.read.epoch
-    (all_pieces size l.first) (all_pieces size l.second))
+    (frame_from l.shape l.shows l.asker (cut l.shape l.first.seeds.now l.first.vectors.now)
+    (cut l.shape l.second.seeds.now l.second.vectors.now))
     (range_with_len 1 (l.server - 1))

@@ -1,5 +1,5 @@
 -- The laws are proved of the definitions.
-use Rattle.tk_client.proofs.InRangeLaws.{asked-in_range, pair-in_range, fresh-whole}
+use Rattle.tk_client.proofs.InRangeLaws.{asked-in_range, pair-in_range, fresh-whole, seeds-whole}
 use Rattle.tk_client.proofs.laws.asked_in_range.Goals as goal
 
 pub returns-clause-frames : goal.returns-clause-frames
@@ -10,3 +10,6 @@ returns-clause-buckets c = pair-in_range
 
 pub returns-clause-vectors : goal.returns-clause-vectors
 returns-clause-vectors c = fresh-whole
+
+pub returns-clause-seeds : goal.returns-clause-seeds
+returns-clause-seeds c = seeds-whole

@@ -19,6 +19,6 @@ returns-clause-counted g c =
     ∙ ap (λ n. length out + n)
     (length-map frames read_frame
     ∙ ap (λ (fs : List ReadFrame). length fs)
-    (c.as_slice.ensures.value ∙ c.in_ok-frames.ensures)
+    (c.as_slice.ensures.value ∙ c.in_ok-frames.ensures.asked)
     ∙ length-asked was.shape book c.args.turn was.number c.args.epoch target
     ∙ ap (λ (s : ClientState). s.shape.servers) c.self.view_is)

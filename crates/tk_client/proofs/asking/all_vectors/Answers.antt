@@ -1,12 +1,12 @@
--- The last share lies after the drawn vectors.
+-- The vector that completes them comes after the drawn vectors.
 use Rattle.std.proofs.Common.{◌≡◌, ◌∙◌, ap, ap₂, List, ℕ, ◌++◌, ◌-◌, ◌*◌, ◌%◌, length, arith}
 use Rattle.std.proofs.Common.{length-append}
 use Rattle.tk_shape.specs.Lengths.{vector_len}
 use Rattle.tk_kernel.specs.Pieces.{all_pieces}
 use Rattle.tk_bits.specs.Shares.{last_share}
-use Rattle.tk_client.proofs.AskingLaws.{vector_bits, vector_some, whole_vectors, shares_behind}
+use Rattle.tk_client.proofs.AskingLaws.{vector_bits, vector_some, whole_vectors, completed_behind}
 use Rattle.tk_client.proofs.AskingLaws.{last_behind, written_back}
-use Rattle.tk_client.proofs.asking.all_shares.Goals as goal
+use Rattle.tk_client.proofs.asking.all_vectors.Goals as goal
 
 -- what is after the drawn vectors is one vector
 long : (c : goal.After-all-5-1) →
@@ -62,8 +62,8 @@ share-requires-clause-whole c =
     ap₂ (λ n k. n % k) c.requires.whole long
     ∙ whole_vectors (shape.servers - 1) size (vector_some shape)
 
-pub returns-clause-shares : goal.returns-clause-shares
-returns-clause-shares c =
+pub returns-clause-vectors : goal.returns-clause-vectors
+returns-clause-vectors c =
     let shape = c.args.shape.now in
     let size = vector_len shape in
     let drawn = c.args.drawn.now in
@@ -91,5 +91,5 @@ returns-clause-shares c =
     written_back vector.len vector.items (others ++ last) same
     ∙ ap (λ (xs : List ℕ). xs ++ last) c.copy_from_slice.ensures.after
     in
-    shares_behind size c.args.bucket drawn last _ (vector_some shape) whole
+    completed_behind size c.args.bucket drawn last _ (vector_some shape) whole
     (c.share.auto.last ∙ long c) share_is joined
