@@ -1,7 +1,7 @@
 -- Frames that are answered together.
 use Rattle.std.proofs.Common.{◌*◌, ◌≡◌, ℕ, zero, suc, ◌<◌, inl, inr, refl, ap, ap₂, sym, ◌∙◌, arith}
 use Rattle.std.proofs.Common.{subst, List, [], ◌∷◌, ◌++◌, length, take, map, Option, Some, None}
-use Rattle.std.proofs.Common.{append_assoc, ◌≢◌, Bool, cond}
+use Rattle.std.proofs.Common.{◌≢◌, Bool, cond}
 use Rattle.std.proofs.lemmas.Bool.{eq-eqb, ne_eqb}
 use Rattle.std.specs.Prelude.{slice_index_or}
 use Rattle.std.specs.Option.{option_or}
@@ -14,7 +14,7 @@ use Rattle.tk_frames.specs.declared.fault.FrameError.{FrameError}
 use Rattle.tk_frames.specs.declared.fault.FrameError.TheVariants.{Length, Kind, Version, Field}
 use Rattle.tk_frames.specs.declared.fault.FrameError.TheVariants as faults
 use Rattle.tk_frames.specs.declared.read_frame.ReadFrame.{ReadFrame}
-use Rattle.tk_frames.specs.Faults.{first_fault, read_checks}
+use Rattle.tk_frames.specs.Faults.{first_fault, read_checks, IsRefusal}
 use Rattle.tk_frames.specs.Fields.{read_in}
 use Rattle.tk_frames.proofs.Offers.{read-again}
 use Rattle.tk_frames.specs.Lists.{first_some}
@@ -28,7 +28,7 @@ use Rattle.tk_cluster.specs.declared.error.AnswerError.{AnswerError}
 use Rattle.tk_cluster.specs.declared.error.AnswerError.TheVariants.{Epoch as OtherEpoch}
 use Rattle.tk_cluster.specs.declared.set.EpochSet.{EpochSet}
 use Rattle.tk_cluster.specs.Refusals.{answer_error, refusal_behind, answer_refusal, first_unanswered}
-use Rattle.tk_cluster.specs.Refusals.{other_epoch, SpellsRead, IsManyRefusal, IsAsked}
+use Rattle.tk_cluster.specs.Refusals.{other_epoch, SpellsRead, IsManyRefusal, IsAnswerRefusal, IsAsked}
 use Rattle.tk_cluster.specs.Many.{Names, AreNamed, AreReads}
 use Rattle.tk_cluster.proofs.Replying.{reply-over}
 
@@ -41,6 +41,32 @@ told (Kind got) behind = inr refl
 told (Version got) behind = inr refl
 told (Field name got) behind = inr refl
 told faults.Memory behind = inl refl
+
+-- a fault of the frame is told before anything else
+pub refused-frame : (fault : Option FrameError) (error : FrameError) (behind : Option AnswerError) →
+    IsRefusal fault error → IsManyRefusal (refusal_behind fault behind) (answer_error error)
+refused-frame None error behind same = inl (ap answer_error same)
+refused-frame (Some f) error behind same =
+    subst (λ e. IsManyRefusal (refusal_behind (Some f) behind) (answer_error e)) (sym same)
+    (told f behind)
+
+-- and it is why the bytes aren't answered
+module _ (shape : Shape) (number : ℕ) (bytes : List ℕ) where
+  refusing : (f : FrameError) → first_fault (read_checks shape bytes) ≡ Some f →
+      IsAnswerRefusal shape number bytes (answer_error f)
+  refusing (Length want got) is = is
+  refusing (Kind got) is = is
+  refusing (Version got) is = is
+  refusing (Field name got) is = is
+  refusing faults.Memory is = tt
+
+  pub refused-bytes : (fault : Option FrameError) (error : FrameError) →
+      first_fault (read_checks shape bytes) ≡ fault → IsRefusal fault error →
+      IsAnswerRefusal shape number bytes (answer_error error)
+  refused-bytes None error is same =
+      subst (λ e. IsAnswerRefusal shape number bytes (answer_error e)) (sym same) tt
+  refused-bytes (Some f) error is same =
+      subst (λ e. IsAnswerRefusal shape number bytes (answer_error e)) (sym same) (refusing f is)
 
 -- the epoch that the bytes name is that of the read that they spell
 epoch-spelled : (shape : Shape) (bytes : List ℕ) (r : ReadFrame) → SpellsRead shape bytes r →
@@ -120,7 +146,7 @@ module _ (shape : Shape) (number : ℕ) where
       (f : List ℕ) (r : ReadFrame) → AreReads shape number fs askers vectors →
       Names shape number f r →
       AreReads shape number (fs ++ f ∷ []) (askers ++ asker_of r ∷ [])
-      ((vectors ++ r.first ∷ []) ++ r.second ∷ [])
+      (vectors ++ r.first ∷ r.second ∷ [])
   reads-push fs askers vectors f r are one =
       record {
         reads = are.reads ++ r ∷ [];
@@ -129,8 +155,7 @@ module _ (shape : Shape) (number : ℕ) where
             ap (λ (left : List Asker). left ++ asker_of r ∷ []) are.askers_are
             ∙ sym (map-append asker_of are.reads (r ∷ []));
         vectors_are =
-            append_assoc vectors (r.first ∷ []) (r.second ∷ [])
-            ∙ ap (λ (vs : List (List ℕ)). vs ++ r.first ∷ r.second ∷ []) are.vectors_are
+            ap (λ (vs : List (List ℕ)). vs ++ r.first ∷ r.second ∷ []) are.vectors_are
             ∙ sym (both-push are.reads r);
       }
 

@@ -12,7 +12,7 @@ use crate::{AnswerError, EpochSet};
 use std::alloc::Global;
 use std::thread::Threads;
 use tk_batch::answer_all;
-use tk_replica::{Asker, Epoch, replies};
+use tk_replica::{Asker, Epoch, push_vectors, replies};
 use tk_shape::{Bytes, Memory};
 
 impl EpochSet {
@@ -63,8 +63,7 @@ impl EpochSet {
         for frame in frames {
             let read = self.read(alloc, frame.as_slice())?;
             askers.push(Asker::of(&read))?;
-            vectors.push(read.first)?;
-            vectors.push(read.second)?;
+            push_vectors(read, &mut vectors)?;
         }
         Ok((askers, vectors))
     }

@@ -19,10 +19,12 @@ no_table =
     }
 
 -- the least number that each field may have
-pub least : IsShape 2 8 1 1 24 64 1 0 1 1 1 1
+pub least : IsShape 1 2 8 1 1 24 64 1 0 1 1 1 1
 unfolding ones
 least =
     record {
+      format_low = omega arith;
+      format_high = omega arith;
       servers_low = omega arith;
       servers_high = omega arith;
       buckets_power = refl;
@@ -56,6 +58,7 @@ least =
 abbrev pub no_shape : Shape
 no_shape =
     record {
+      format = 1;
       servers = 2;
       buckets = 8;
       depth = 1;

@@ -22,5 +22,6 @@ pub use error::{PinError, ServeError};
 pub use held::Held;
 pub use laws::kept_from_floor_to_last;
 pub use replica::Replica;
+pub use reply::push_vectors;
 pub use state::ReplicaState;
 pub use tk_shape::Memory;

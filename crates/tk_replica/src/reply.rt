@@ -1,4 +1,4 @@
-ghost use Rattle.std.specs.Prelude.{◌≡◌, ◌*◌, ◌++◌, length, map, IfOk, OnOk};
+ghost use Rattle.std.specs.Prelude.{◌≡◌, ◌*◌, ◌++◌, ◌∷◌, [], length, map, IfOk, OnOk};
 ghost use Rattle.std.specs.List.{All, AllByRecursion};
 ghost use Rattle.tk_shape.specs.Lengths.{vector_len, width};
 ghost use Rattle.tk_frames.specs.Ranges.{IsRead, IsReply};
@@ -72,8 +72,17 @@ fn taken_apart(alloc: Global, reads: Vec<ReadFrame>) -> Result<(Vec<Asker>, Vec<
     let mut vectors = Vec::new(alloc);
     for read in reads {
         askers.push(Asker::of(&read))?;
-        vectors.push(read.first)?;
-        vectors.push(read.second)?;
+        push_vectors(read, &mut vectors)?;
     }
     Ok((askers, vectors))
+}
+
+/// Appends the two vectors of a read.
+pub fn push_vectors(read: ReadFrame, vectors: &mut Vec<Bytes>) -> Result<(), Memory>
+    ensures { OnOk result (vectors.new.items
+        ≡ vectors.old.items ++ read.first ∷ read.second ∷ []) }
+{
+    vectors.push(read.first)?;
+    vectors.push(read.second)?;
+    Ok(())
 }

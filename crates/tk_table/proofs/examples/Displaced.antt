@@ -7,10 +7,12 @@ use Rattle.tk_frames.specs.Order.{Record}
 use Rattle.tk_table.specs.Table.{retained, is_displaced}
 use Rattle.tk_table.proofs.Computing.{computing}
 
-pub narrow_ranges : IsShape 2 8 1 8 24 64 1 0 2 2 1 1
+pub narrow_ranges : IsShape 1 2 8 1 8 24 64 1 0 2 2 1 1
 unfolding computing
 narrow_ranges =
     record {
+      format_low = lit≤ tt;
+      format_high = lit≤ tt;
       servers_low = lit≤ tt;
       servers_high = lit≤ tt;
       buckets_power = refl;
@@ -42,12 +44,14 @@ narrow_ranges =
     }
 
 abbrev pub narrow : Shape
-narrow = record { servers = 2; buckets = 8; depth = 1; retained = 8; block = 24; filter_bits = 64; hits = 1; ahead = 0; clients = 2; phases = 2; ticks = 1; logs = 1; in_range = narrow_ranges }
+narrow = record { format = 1; servers = 2; buckets = 8; depth = 1; retained = 8; block = 24; filter_bits = 64; hits = 1; ahead = 0; clients = 2; phases = 2; ticks = 1; logs = 1; in_range = narrow_ranges }
 
-pub short_ranges : IsShape 2 8 1 2 24 64 1 0 2 2 1 1
+pub short_ranges : IsShape 1 2 8 1 2 24 64 1 0 2 2 1 1
 unfolding computing
 short_ranges =
     record {
+      format_low = lit≤ tt;
+      format_high = lit≤ tt;
       servers_low = lit≤ tt;
       servers_high = lit≤ tt;
       buckets_power = refl;
@@ -79,7 +83,7 @@ short_ranges =
     }
 
 abbrev pub short : Shape
-short = record { servers = 2; buckets = 8; depth = 1; retained = 2; block = 24; filter_bits = 64; hits = 1; ahead = 0; clients = 2; phases = 2; ticks = 1; logs = 1; in_range = short_ranges }
+short = record { format = 1; servers = 2; buckets = 8; depth = 1; retained = 2; block = 24; filter_bits = 64; hits = 1; ahead = 0; clients = 2; phases = 2; ticks = 1; logs = 1; in_range = short_ranges }
 
 -- a write with its position and buckets; the rest doesn't matter to the table
 abbrev at : ℕ → ℕ → ℕ → Record

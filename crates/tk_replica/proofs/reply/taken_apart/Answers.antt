@@ -26,9 +26,7 @@ loop-read-preserved c =
           c.of.ensures
           ∙ sym (map-append asker_of at.yielded (read ∷ []));
       vectors =
-          c.in_ok-push-3.ensures.items
-          ∙ ap (λ (vs : List (List ℕ)). vs ++ read.second ∷ []) c.in_ok-push-2.ensures.items
-          ∙ append_assoc at.vectors.items (read.first ∷ []) (read.second ∷ [])
+          c.in_ok-push_vectors.ensures
           ∙ ap (λ (vs : List (List ℕ)). vs ++ read.first ∷ read.second ∷ []) at.invariant.vectors
           ∙ sym (both-push at.yielded read);
       counted = omega arith;

@@ -26,14 +26,11 @@ loop-frame-preserved c =
     let askers = c.loop-frame.askers.items in
     let vectors = c.loop-frame.vectors.items in
     let new = c.push.new.self.items in
-    let now = c.push-in-loop-frame-2.new.self.items in
+    let now = c.push_vectors.new.vectors.items in
     let asked : new ≡ askers ++ asker_of read ∷ [] =
     c.in_ok-push.ensures.items ∙ ap (λ (a : Asker). askers ++ a ∷ []) c.of.ensures
     in
-    let both : now ≡ (vectors ++ read.first ∷ []) ++ read.second ∷ [] =
-    c.in_ok-push-3.ensures.items
-    ∙ ap (λ (vs : List (List ℕ)). vs ++ read.second ∷ []) c.in_ok-push-2.ensures.items
-    in
+    let both : now ≡ vectors ++ read.first ∷ read.second ∷ [] = c.in_ok-push_vectors.ensures in
     let one : Names s.shape s.number frame read =
     record {
       spells =
