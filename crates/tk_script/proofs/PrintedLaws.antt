@@ -74,8 +74,9 @@ script_lacks S has =
 
 pub prints_scripts : PrintsScripts
 unfolding printed
-prints_scripts S has rest = record {
+prints_scripts S format has rest = record {
   key_lines = lines_of_keys S.keys;
+  format = format;
   keys = keys_printed S.keys has;
   whole =
       lines_of-text_of (lines_of_script S) rest (script_lacks S has)
@@ -127,20 +128,20 @@ tape_alone bytes reads =
     (reads []))
 
 pub prints_keyed : PrintsKeyed
-prints_keyed S keys keyed has = record {
+prints_keyed S keys format keyed has = record {
   rest = [];
-  script = script_alone S (prints_scripts S has);
+  script = script_alone S (prints_scripts S format has);
   no_second = refl;
   no_history = refl;
   tape = tape_of_keyed S.shape S.keys [] (ap is_some keyed) refl;
 }
 
 pub prints_drawn : PrintsDrawn
-prints_drawn S bytes drawn are =
+prints_drawn S bytes format drawn are =
     let has : HasKeys S.keys = subst HasKeys (sym drawn) tt in
     record {
       rest = lines_of (printed_tape bytes);
-      script = prints_scripts S has (printed_tape bytes);
+      script = prints_scripts S format has (printed_tape bytes);
       no_second = refl;
       no_history = refl;
       tape = tape_of_drawn S.shape S.keys (lines_of (printed_tape bytes)) (kept_of S.shape bytes)

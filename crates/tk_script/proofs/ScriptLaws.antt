@@ -64,12 +64,13 @@ lines_are lines S rest s =
 
 -- lines that are a script's are read so
 pub script_begins : (lines : List Line) (S : Script) (key_lines rest : List Line) →
-    SpellsKeys key_lines S.keys →
+    S.shape.format ≡ 1 → SpellsKeys key_lines S.keys →
     lines ≡ codes "talek 1" ∷ shape_line S.shape ∷ kind_words (is_some S.keys)
     ∷ behind_head S key_lines rest →
     BeginsWithScript lines S rest
-script_begins lines S key_lines rest spelled whole = record {
+script_begins lines S key_lines rest format spelled whole = record {
   key_lines = key_lines;
+  format = format;
   keys = spelled;
   whole = whole
       ∙ ap (λ t. codes "talek 1" ∷ shape_line S.shape ∷ kind_words (is_some S.keys) ∷ t)

@@ -1,4 +1,4 @@
--- Numbers that keep each limit are those of a shape.
+-- Numbers of format 1 that keep each limit are those of a shape.
 use Rattle.std.proofs.Common.{◌≡◌, ℕ, ◌*◌, ◌≤◌, List, [], ◌∷◌, length, codes, Bool, true, false, IsTrue, Option, Some, None, Ok, cond, refl, sym, ◌∙◌, arith}
 use Rattle.std.specs.Prelude.{nat_le, not, find, ◌==◌, ◌&&◌}
 use Rattle.std.specs.List.{AllByRecursion}
@@ -42,9 +42,9 @@ power low high n h =
     let range = within low high n both.1 in
     (both.0, range.0, range.1)
 
--- the shape of numbers that break no limit
-shape_given : (n : Numbers) → broken n ≡ None → (s : Shape) × (n ≡ named s)
-shape_given n e =
+-- the shape of format 1 of numbers that break no limit
+shape_given : (n : Numbers) → n.format ≡ 1 → broken n ≡ None → (s : Shape) × (n ≡ named s)
+shape_given n one e =
     let servers_on = all_kept (limits n) e in
     let buckets_on = servers_on.1 in
     let depth_on = buckets_on.1 in
@@ -70,6 +70,7 @@ shape_given n e =
     let ticks = within 1 64 n.ticks ticks_on.0 in
     let logs = within 1 256 n.logs logs_on.0 in
     let shape : Shape = record {
+      format = n.format;
       servers = n.servers;
       buckets = n.buckets;
       depth = n.depth;
@@ -83,6 +84,8 @@ shape_given n e =
       ticks = n.ticks;
       logs = n.logs;
       in_range = record {
+        format_low = omega (arith, one);
+        format_high = omega (arith, one);
         servers_low = servers.0;
         servers_high = servers.1;
         buckets_power = buckets.0;
@@ -125,10 +128,10 @@ numbers_given : (o : Option (List ℕ)) (n : Numbers) → read_numbers o ≡ Ok 
     (s : Shape) × (n ≡ named s)
 numbers_given None n e = absurd (cc e)
 numbers_given (Some ns) n e =
-    let test = verdict_if (length ns == 12) (unbroken (numbers_in ns) (broken (numbers_in ns))) n
-    cause.Form e in
-    let kept = unbroken_from (numbers_in ns) n (broken (numbers_in ns)) test.1 in
-    let given = shape_given (numbers_in ns) kept.1 in
+    let test = verdict_if (length ns == 12) (unbroken (numbers_in 1 ns) (broken (numbers_in 1 ns)))
+    n cause.Form e in
+    let kept = unbroken_from (numbers_in 1 ns) n (broken (numbers_in 1 ns)) test.1 in
+    let given = shape_given (numbers_in 1 ns) refl kept.1 in
     (given.0, sym kept.0 ∙ given.1)
 
 pub shape_read : (line : Line) (n : Numbers) → read_shape line ≡ Ok n →

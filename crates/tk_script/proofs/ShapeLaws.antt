@@ -1,18 +1,15 @@
 -- A shape and its numbers.
-use Rattle.std.proofs.Common.{◌≡◌, ℕ, ◌+◌, ◌*◌, ◌≤◌, List, [], ◌∷◌, length, map, decimal, codes, true, IsTrue, Option, Some, None, Ok, cond, refl, ap, ◌∙◌, arith}
+use Rattle.std.proofs.Common.{◌≡◌, ℕ, ◌+◌, ◌*◌, ◌≤◌, List, [], ◌∷◌, length, map, decimal, codes, true, IsTrue, Option, Some, None, Ok, cond, refl, ap, sym, ◌∙◌, arith}
 use Rattle.std.specs.Prelude.{nat_le, not, find, ◌==◌}
 use Rattle.std.proofs.lemmas.Bool.Decides.{nat_tests}
 use Rattle.std.proofs.Math.Nat.{mul-le-mul_left, mul-le-mul_right}
-use Rattle.std.proofs.Math.Bool.{Bool-set}
-use Rattle.std.proofs.Math.Bridge.{le_prop}
 use Rattle.std.specs.List.{AllByRecursion}
 use Rattle.std.specs.Int.{is_power_of_two}
 use Rattle.std.proofs.lemmas.Bool.{and_from}
-use mathlib.Core.HLevel.{is_prop→PathP}
 use Rattle.tk_shape.specs.declared.shape.Shape.{Shape}
 use Rattle.tk_shape.specs.Numbers.{numbers_of}
-use Rattle.tk_shape.specs.Ranges.{IsShape}
 use Rattle.tk_shape.specs.Limits.{Numbers, Limit, is_between, broken, numbers_in, limits}
+use Rattle.tk_shape.proofs.Offers.{one_shape}
 use Rattle.tk_script.specs.declared.cause.Cause.TheVariants as cause
 use Rattle.tk_script.specs.Grammar.{Line, fields, shape_line}
 use Rattle.tk_script.specs.Reading.{named, numbers_after, unbroken, read_numbers, read_shape}
@@ -20,40 +17,6 @@ use Rattle.tk_script.proofs.CauseLaws.{lacks_by_test}
 use Rattle.tk_script.proofs.FieldLaws.{IsWord}
 use Rattle.tk_script.proofs.OptionLaws.{ok_same, verdict_if}
 use Rattle.tk_script.proofs.PartLaws.{numbers_after-are, numbers_after-some}
-
--- a shape's numbers make it
-pub one_shape : (s t : Shape) → numbers_of s ≡ numbers_of t → s ≡ t
-one_shape s t e =
-    let a : s.servers ≡ t.servers = cc e in
-    let b : s.buckets ≡ t.buckets = cc e in
-    let c : s.depth ≡ t.depth = cc e in
-    let d : s.retained ≡ t.retained = cc e in
-    let f : s.block ≡ t.block = cc e in
-    let g : s.filter_bits ≡ t.filter_bits = cc e in
-    let h : s.hits ≡ t.hits = cc e in
-    let k : s.ahead ≡ t.ahead = cc e in
-    let l : s.clients ≡ t.clients = cc e in
-    let m : s.phases ≡ t.phases = cc e in
-    let n : s.ticks ≡ t.ticks = cc e in
-    let o : s.logs ≡ t.logs = cc e in
-    λ i. record {
-      servers = a i;
-      buckets = b i;
-      depth = c i;
-      retained = d i;
-      block = f i;
-      filter_bits = g i;
-      hits = h i;
-      ahead = k i;
-      clients = l i;
-      phases = m i;
-      ticks = n i;
-      logs = o i;
-      in_range =
-          is_prop→PathP (λ j. IsShape (a j) (b j) (c j) (d j) (f j) (g j) (h j) (k j) (l j) (m j)
-          (n j) (o j))
-          (λ j. hlevel (le_prop, Bool-set)) s.in_range t.in_range i;
-    }
 
 -- a shape's numbers are words
 pub numbers_are_words : (s : Shape) → AllByRecursion IsWord (numbers_of s)
@@ -108,7 +71,7 @@ all_kept (l ∷ ls) kept = ap (λ ok. cond (not ok) (Some l) (find (λ (k : Limi
     kept.0 ∙ all_kept ls kept.1
 
 limits_kept : (s : Shape) → AllByRecursion (λ (l : Limit). l.kept ≡ true)
-    (limits (numbers_in (numbers_of s)))
+    (limits (named s))
 limits_kept s =
     let r = s.in_range in (
       between 2 8 s.servers r.servers_low r.servers_high,
@@ -164,12 +127,18 @@ limits_kept s =
 none_broken : (s : Shape) → broken (named s) ≡ None
 none_broken s = all_kept (limits (named s)) (limits_kept s)
 
-pub shape_whole : (s : Shape) (line : Line) → line ≡ shape_line s →
+-- a shape's line is read as its numbers in format 1
+numbers_whole : (s : Shape) → s.format ≡ 1 → read_numbers (Some (numbers_of s)) ≡ Ok (named s)
+numbers_whole s format =
+    ap (λ f. unbroken (numbers_in f (numbers_of s)) (broken (numbers_in f (numbers_of s)))) (sym format)
+    ∙ ap (unbroken (named s)) (none_broken s)
+
+pub shape_whole : (s : Shape) (line : Line) → s.format ≡ 1 → line ≡ shape_line s →
     read_shape line ≡ Ok (named s)
-shape_whole s line e =
+shape_whole s line format e =
     ap read_numbers (numbers_after-some (codes "shape") line (numbers_of s)
     (lacks_by_test (codes "shape") refl) (numbers_are_words s) e)
-    ∙ ap (unbroken (named s)) (none_broken s)
+    ∙ numbers_whole s format
 
 unbroken_from : (n m : Numbers) (o : Option Limit) → unbroken n o ≡ Ok m → n ≡ m
 unbroken_from n m None e = ok_same n m e
@@ -184,7 +153,7 @@ listed n =
     n.servers ∷ n.buckets ∷ n.depth ∷ n.retained ∷ n.block ∷ n.filter_bits ∷ n.hits ∷ n.ahead
     ∷ n.clients ∷ n.phases ∷ n.ticks ∷ n.logs ∷ []
 
-twelve : (ns : List ℕ) → length ns ≡ 12 → ns ≡ listed (numbers_in ns)
+twelve : (ns : List ℕ) → length ns ≡ 12 → ns ≡ listed (numbers_in 1 ns)
 twelve [] long = absurd (omega (arith, long))
 twelve (a ∷ []) long = absurd (omega (arith, long))
 twelve (a ∷ b ∷ []) long = absurd (omega (arith, long))
@@ -204,9 +173,9 @@ shape_from : (s : Shape) (line : Line) (o : Option (List ℕ)) →
     numbers_after (codes "shape") line ≡ o → read_numbers o ≡ Ok (named s) → line ≡ shape_line s
 shape_from s line None e said = absurd (cc said)
 shape_from s line (Some ns) e said =
-    let test = verdict_if (length ns == 12) (unbroken (numbers_in ns) (broken (numbers_in ns)))
+    let test = verdict_if (length ns == 12) (unbroken (numbers_in 1 ns) (broken (numbers_in 1 ns)))
     (named s) cause.Form said in
-    let same = unbroken_from (numbers_in ns) (named s) (broken (numbers_in ns)) test.1 in
+    let same = unbroken_from (numbers_in 1 ns) (named s) (broken (numbers_in 1 ns)) test.1 in
     (numbers_after-are (codes "shape") line ns e).0
     ∙ ap (λ ms. fields (codes "shape" ∷ map decimal ms))
     (twelve ns (equal_by (length ns) 12 test.0) ∙ ap listed same)
@@ -214,5 +183,17 @@ shape_from s line (Some ns) e said =
 pub shape_is : (s : Shape) (line : Line) → read_shape line ≡ Ok (named s) → line ≡ shape_line s
 shape_is s line e = shape_from s line (numbers_after (codes "shape") line) refl e
 
+-- what a shape's line says is in format 1
+format_from : (s : Shape) (o : Option (List ℕ)) → read_numbers o ≡ Ok (named s) → s.format ≡ 1
+format_from s None said = absurd (cc said)
+format_from s (Some ns) said =
+    let test = verdict_if (length ns == 12) (unbroken (numbers_in 1 ns) (broken (numbers_in 1 ns)))
+    (named s) cause.Form said in
+    sym (ap (λ (n : Numbers). n.format)
+    (unbroken_from (numbers_in 1 ns) (named s) (broken (numbers_in 1 ns)) test.1))
+
+pub shape_format : (s : Shape) (line : Line) → read_shape line ≡ Ok (named s) → s.format ≡ 1
+shape_format s line e = format_from s (numbers_after (codes "shape") line) e
+
 pub same_named : (s t : Shape) → named s ≡ named t → s ≡ t
-same_named s t e = one_shape s t (ap listed e)
+same_named s t e = one_shape s t (ap (λ (n : Numbers). n.format) e) (ap listed e)

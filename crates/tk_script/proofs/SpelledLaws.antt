@@ -25,16 +25,16 @@ use Rattle.tk_script.proofs.ScriptLaws.{behind_head, lines_are as script_lines_a
 use Rattle.tk_script.proofs.SectionLaws.{behind_words, behind_shape, head_parts, head_is, behind_handles, behind_seeds, keys_drawn, keys_keyed, keys_are, behind_says, says_from, behind_keys, behind_roles, roles_from, script_parts, script_is}
 use Rattle.tk_script.proofs.SectionLaws.{behind_head as then_roles}
 use Rattle.tk_script.proofs.ShapeGiven.{shape_read}
-use Rattle.tk_script.proofs.ShapeLaws.{shape_is, shape_whole}
+use Rattle.tk_script.proofs.ShapeLaws.{shape_is, shape_format, shape_whole}
 use Rattle.tk_script.proofs.WordLaws.{at, Comes, words_own, words_from}
 
 -- ---- the three lines at the front
 
 pub head_whole : (m : Bool) (line : ℕ) (lines behind : List Line) (shape : Shape)
-    (keyed : Bool) → MayBeOfKind shape keyed → IsDue m keyed →
+    (keyed : Bool) → shape.format ≡ 1 → MayBeOfKind shape keyed → IsDue m keyed →
     lines ≡ codes "talek 1" ∷ shape_line shape ∷ kind_words keyed ∷ behind →
     (n : ℕ) × (read_head m (at line lines) ≡ Ok (named shape, keyed, at n behind))
-head_whole m line lines behind shape keyed may due whole =
+head_whole m line lines behind shape keyed format may due whole =
     let second = at (line + 1) (shape_line shape ∷ kind_words keyed ∷ behind) in
     let third = at (line + 1 + 1) (kind_words keyed ∷ behind) in
     let fourth = at (line + 1 + 1 + 1) behind in (
@@ -44,7 +44,7 @@ head_whole m line lines behind shape keyed may due whole =
           (record { number = refl; lines = whole }) (words_own (codes "talek 1")))
           (named shape) third
           (next_taken read_shape second (shape_line shape) third (named shape)
-          (record { number = refl; lines = refl }) (shape_whole shape (shape_line shape) refl))
+          (record { number = refl; lines = refl }) (shape_whole shape (shape_line shape) format refl))
           keyed fourth
           (next_taken (read_kind m (named shape)) third (kind_words keyed) fourth keyed
           (record { number = refl; lines = refl }) (read_kind-whole m shape keyed may due)),
@@ -53,6 +53,7 @@ head_whole m line lines behind shape keyed may due whole =
 -- the lines that were read at the front
 record Head (m : Bool) (shape : Shape) (lines : List Line) (keyed : Bool)
     (behind : List Line) : Type 0 where
+  pub format : shape.format ≡ 1
   pub whole : lines ≡ codes "talek 1" ∷ shape_line shape ∷ kind_words keyed ∷ behind
   pub may : MayBeOfKind shape keyed
   pub due : IsDue m keyed
@@ -77,13 +78,19 @@ head_from m shape p x is e =
     let three_is = next_from (read_kind m n) second.0.1 third.0 third.1 in
     let kind = read_kind-is m shape three_is.line third.0.0
     (ap (λ k. read_kind m k three_is.line) (sym same_n) ∙ three_is.read_is) in
-    let shape_here = shape_is shape two.line (two.read_is ∙ ap Ok same_n) in
+    let read_here = two.read_is ∙ ap Ok same_n in
+    let shape_here = shape_is shape two.line read_here in
     let all = three one.line (codes "talek 1") two.line (shape_line shape) three_is.line
     (kind_words third.0.0) p.rest first.0.1.rest second.0.1.rest third.0.1.rest one.whole two.whole
     three_is.whole (words_from (codes "talek 1") one.line first.0.0 one.read_is) shape_here
     kind.word in
     subst (λ (z : Numbers × Bool × Place). Head m shape p.rest z.1 z.2.rest) same
-    (record { whole = all; may = kind.may; due = kind.due })
+    (record {
+      format = shape_format shape two.line read_here;
+      whole = all;
+      may = kind.may;
+      due = kind.due;
+    })
 
 -- the numbers at the front are a shape's
 head_shape_given : (m : Bool) (p : Place) (x : Numbers × Bool × Place) → read_head m p ≡ Ok x →
@@ -190,6 +197,7 @@ says_are shape ls line says q e =
 pub record ScriptRead (m : Bool) (shape : Shape) (lines : List Line) (t : ScriptLines)
     (behind : List Line) : Type 0 where
   pub sound : IsScript shape t.keys t.roles t.says
+  pub format : shape.format ≡ 1
   pub due : IsDue m (is_some t.keys)
   pub own : List Line
   pub spelled : SpellsKeys own t.keys
@@ -226,6 +234,7 @@ script_from m shape p keyed q r s t roles keys says head_read roles_read keys_re
         says_sound = text_lines.1;
         says_ordered = texts.1;
       };
+      format = head.format;
       due = subst (IsDue m) (sym k.kind) head.due;
       own = k.own;
       spelled = k.spelled;
@@ -275,7 +284,7 @@ script_read m p x e =
     (ok_same (t n, fourth.0.1) x fourth.2) (record {
       script = S;
       is = ap t shape.1;
-      begins = script_begins p.rest S read.own fourth.0.1.rest read.spelled read.whole;
+      begins = script_begins p.rest S read.own fourth.0.1.rest read.format read.spelled read.whole;
       due = read.due;
     })
 
@@ -285,7 +294,7 @@ pub script_whole : (m : Bool) (line : ℕ) (lines : List Line) (S : Script) (beh
 script_whole m line lines S behind s due =
     let tail = map say_line S.says ++ codes "end" ∷ behind in
     let head = head_whole m line lines (behind_head S s.key_lines behind) S.shape (is_some S.keys)
-    (may_be S.shape S.keys S.sound.tape_fits) due (script_lines_are lines S behind s) in
+    s.format (may_be S.shape S.keys S.sound.tape_fits) due (script_lines_are lines S behind s) in
     let roles = lines_whole (read_role (named S.shape)) (IsRoleLine S.shape) (role_whole S.shape)
     (map role_line S.roles) S.roles head.0 [] (s.key_lines ++ tail)
     (zip-lines role_line (is_role S.shape) S.roles S.sound.roles_sound) in

@@ -84,9 +84,10 @@ SpellsKeys lines (Some keys) =
     × AllByRecursion IsHandle keys.handles
     × AllByRecursion IsSeed keys.seeds
 
--- the lines begin with a script, and go on with the rest
+-- the lines begin with a script of format 1, and go on with the rest
 pub record BeginsWithScript (lines : List Line) (S : Script) (rest : List Line) : Type 0 where
   pub key_lines : List Line
+  pub format : S.shape.format ≡ 1
   pub keys : SpellsKeys key_lines S.keys
   pub whole : lines ≡ codes "talek 1" ∷ shape_line S.shape ∷ kind_line S.keys
       ∷ (map role_line S.roles ++ key_lines ++ map say_line S.says ++ codes "end" ∷ rest)

@@ -89,19 +89,20 @@ numbers_after word line = word_then word (parts_of line)
 
 -- ---- the shape line
 
--- a shape's numbers by their names
+-- a shape's format and numbers by their names
 abbrev pub named : Shape → Numbers
-named shape = numbers_in (numbers_of shape)
+named shape = numbers_in shape.format (numbers_of shape)
 
 -- the first limit that is broken refuses the line
 abbrev pub unbroken : Numbers → Option Limit → Verdict Numbers
 unbroken n None = Ok n
 unbroken n (Some l) = Err (cause.Shape l.field l.value)
 
+-- twelve numbers, in format 1
 abbrev pub read_numbers : Option (List ℕ) → Verdict Numbers
 read_numbers None = Err cause.Form
 read_numbers (Some ns) =
-    cond (length ns == 12) (unbroken (numbers_in ns) (broken (numbers_in ns))) (Err cause.Form)
+    cond (length ns == 12) (unbroken (numbers_in 1 ns) (broken (numbers_in 1 ns))) (Err cause.Form)
 
 abbrev pub read_shape : Line → Verdict Numbers
 read_shape line = read_numbers (numbers_after (codes "shape") line)
@@ -112,7 +113,8 @@ read_shape line = read_numbers (numbers_after (codes "shape") line)
 abbrev pub tape_in : Numbers → ℕ
 tape_in n =
     let cell = 8 + 4 * n.hits + n.block in
-    let read = 8 + 2 * (n.servers - 1) * (n.buckets / 8) in
+    let seed = cond (n.format == 2) 32 0 in
+    let read = 8 + 2 * (n.servers - 1) * (seed + n.buckets / 8) in
     n.phases * n.ticks * (n.clients * (cell + read) + n.logs * cell)
 
 abbrev pub drawn_if : ℕ → Verdict Bool

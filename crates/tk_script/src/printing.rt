@@ -11,10 +11,11 @@ use crate::{Keys, Script};
 use std::alloc::Global;
 use tk_shape::{Memory, Shape};
 
-/// Appends a script in its one printed form, or nothing if memory runs out. `parse` answers
+/// Appends a script of format 1 in its one printed form, or nothing if memory runs out. `parse` answers
 /// with the same script: for a script of keys see `parse_printed`, and for one of drawn words,
 /// which wants a tape after it, `parse_printed_with`.
 pub fn print(script: &Script, out: &mut Vec<u8>) -> Result<(), Memory>
+    requires { script.now.shape.format ≡ 1 }
     ensures ok { OnOk result (out.new.items ≡ out.old.items ++ printed script.now) }
     ensures err { OnErr result (out.new.items ≡ out.old.items) }
     ensures has { OnOk result (HasKeys script.now.keys) }
