@@ -3,10 +3,12 @@ use Rattle.std.proofs.Common.{refl, lit≤}
 use Rattle.std.specs.Int.Count.{ones}
 use Rattle.tk_shape.specs.Ranges.{IsShape}
 
-pub in-range : IsShape 3 256 4 512 256 4096 3 4 12 8 4 4
+pub in-range : IsShape 1 3 256 4 512 256 4096 3 4 12 8 4 4
 unfolding ones
 in-range =
     record {
+      format_low = lit≤ tt;
+      format_high = lit≤ tt;
       servers_low = lit≤ tt;
       servers_high = lit≤ tt;
       buckets_power = refl;

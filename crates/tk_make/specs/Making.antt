@@ -76,6 +76,7 @@ made_says n = flat_map (said_in_phase n) (range_with_len 1 8)
 
 -- the script is the one made from this number
 pub record IsMade (n : ℕ) (S : Script) : Type 0 where
+  pub format : S.shape.format ≡ 1
   pub shape : numbers_of S.shape ≡ made_numbers
   pub keys : S.keys ≡ Some (made_keys n)
   pub roles : S.roles ≡ made_roles

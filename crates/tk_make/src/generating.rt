@@ -23,9 +23,11 @@ pub fn generate(alloc: Global, number: u64) -> Result<Script, Memory>
 
 /// The shape of each script that is made.
 fn make_shape() -> Shape
-    ensures { numbers_of result ≡ made_numbers }
+    ensures format { result.format ≡ 1 }
+    ensures numbers { numbers_of result ≡ made_numbers }
 {
     Shape {
+        format: 1,
         servers: 3,
         buckets: 256,
         depth: 4,

@@ -6,19 +6,18 @@ use Rattle.std.specs.Prelude.{slice_index, slice_index_or, flat_map}
 use Rattle.std.specs.List.{range_with_len}
 use Rattle.std.proofs.lemmas.Bool.{cases_lt}
 use Rattle.std.proofs.lemmas.List.{get_or_past}
-use Rattle.tk_shape.specs.Lengths.{turn_count, vector_len}
+use Rattle.tk_shape.specs.Lengths.{turn_count}
 use Rattle.tk_schedule.specs.declared.history.History.{History}
 use Rattle.tk_schedule.specs.Schedule.{IsLegal, phases_over, epoch_at, blank_turn}
 use Rattle.tk_schedule.proofs.Offers.{none_made}
 use Rattle.tk_script.specs.declared.script.Script.{Script}
-use Rattle.tk_bits.specs.Shares.{shares}
-use Rattle.tk_words.specs.Words.{WordBook, BookWords, words_of, fresh_vectors}
+use Rattle.tk_words.specs.Words.{WordBook, BookWords, words_of}
 use Rattle.tk_frames.specs.declared.read_frame.ReadFrame.{ReadFrame}
 use Rattle.tk_frames.specs.Spelling.{placed_frame, read_frame}
 use Rattle.tk_frames.specs.Order.{Record, before}
 use Rattle.tk_client.specs.declared.target.Target.{Target}
 use Rattle.tk_client.specs.Reader.{Reader, target, at_epoch, after_read}
-use Rattle.tk_client.specs.Asked.{pair_for, frame_with}
+use Rattle.tk_client.specs.Asked.{pair_for, frame_for}
 use Rattle.tk_table.specs.Shown.{is_shown}
 use Rattle.tk_report.specs.Entries.{write_at, entries}
 use Rattle.tk_report.specs.Report.{read_over, answered, reader_before, target_at}
@@ -146,13 +145,6 @@ reads-agree S w H K c g n legal alike =
 
 -- ---- the frames of a read
 
--- the read frame for a target
-abbrev frame_for : Script → WordBook → ℕ → ℕ → ℕ → ℕ → ℕ × ℕ → ReadFrame
-frame_for S b g c j e pair =
-    let size = vector_len S.shape in
-    let drawn = fresh_vectors S.shape b g c in
-    frame_with g c e (shares size pair.0 drawn.first) (shares size pair.1 drawn.second) j
-
 pub frames-agree : AlikeFramesAgree
 unfolding read_at
 frames-agree S b H K c g n j legal alike =
@@ -160,7 +152,7 @@ frames-agree S b H K c g n j legal alike =
     let epoch : epoch_at H g c ≡ epoch_at K g c = alike.epochs g (omega arith) in
     let reads = reads-agree S w H K c g n legal alike in
     let read : read_at S b H g c j ≡ read_at S b K g c j =
-    ap₂ (λ (e : ℕ) (pair : ℕ × ℕ). frame_for S b g c j e pair) epoch reads.pair
+    ap₂ (λ (e : ℕ) (pair : ℕ × ℕ). frame_for S.shape b g c e pair j) epoch reads.pair
     in
     record {
       read = read;

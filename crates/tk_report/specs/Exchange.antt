@@ -2,18 +2,17 @@
 use Rattle.std.specs.Prelude.{ℕ, List, [], ◌∷◌, ◌++◌, map, flat_map}
 use Rattle.std.specs.List.{range_with_len}
 use Rattle.tk_shape.specs.declared.shape.Shape.{Shape}
-use Rattle.tk_shape.specs.Lengths.{turn_count, vector_len}
+use Rattle.tk_shape.specs.Lengths.{turn_count}
 use Rattle.tk_schedule.specs.declared.history.History.{History}
 use Rattle.tk_schedule.specs.Schedule.{epoch_at}
 use Rattle.tk_script.specs.declared.script.Script.{Script}
-use Rattle.tk_bits.specs.Shares.{shares}
-use Rattle.tk_words.specs.Words.{WordBook, BookWords, words_of, fresh_vectors}
+use Rattle.tk_words.specs.Words.{WordBook, BookWords, words_of}
 use Rattle.tk_frames.specs.declared.write_frame.WriteFrame.{WriteFrame}
 use Rattle.tk_frames.specs.declared.read_frame.ReadFrame.{ReadFrame}
 use Rattle.tk_frames.specs.Spelling.{placed_frame, read_frame, reply_frame}
 use Rattle.tk_frames.specs.Order.{Record}
 use Rattle.tk_table.specs.Replies.{reply_to}
-use Rattle.tk_client.specs.Asked.{pair_for, frame_with}
+use Rattle.tk_client.specs.Asked.{pair_for, frame_for}
 use Rattle.tk_report.specs.Entries.{write_at, entries_at}
 use Rattle.tk_report.specs.Report.{target_at, read_over}
 
@@ -25,12 +24,7 @@ read_pair S w H g c = pair_for w g c (target_at S w H g c)
 -- the read frame that a client sends to server j in a turn
 unfoldable pub read_at : Script → WordBook → History → ℕ → ℕ → ℕ → ReadFrame
 read_at S b H g c j =
-    let size = vector_len S.shape in
-    let pair = read_pair S (words_of S.shape b) H g c in
-    let drawn = fresh_vectors S.shape b g c in
-    frame_with g c (epoch_at H g c) (shares size pair.0 drawn.first)
-    (shares size pair.1 drawn.second)
-    j
+    frame_for S.shape b g c (epoch_at H g c) (read_pair S (words_of S.shape b) H g c) j
 
 -- a read frame, and after it the reply over these writes
 unfoldable pub with_reply : Shape → List Record → ReadFrame → List (List ℕ)

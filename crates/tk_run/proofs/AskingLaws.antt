@@ -2,15 +2,13 @@
 use Rattle.std.proofs.Common.{◌≡◌, refl, ap, ap₂, ◌∙◌}
 use Rattle.std.proofs.Common.{ℕ, ◌+◌, ◌<◌, Bool, List, [], ◌∷◌, map, Option, None}
 use Rattle.std.specs.List.{range_with_len}
-use Rattle.tk_shape.specs.Lengths.{vector_len}
-use Rattle.tk_bits.specs.Shares.{shares}
 use Rattle.tk_schedule.specs.declared.history.History.{History}
 use Rattle.tk_schedule.specs.Schedule.{epoch_at}
 use Rattle.tk_script.specs.declared.script.Script.{Script}
-use Rattle.tk_words.specs.Words.{WordBook, words_of, fresh_vectors}
+use Rattle.tk_words.specs.Words.{WordBook, words_of}
 use Rattle.tk_frames.specs.Spelling.{read_frame}
 use Rattle.tk_bloom.specs.Filters.{all_marked}
-use Rattle.tk_client.specs.Asked.{frame_with, asked, shown_by}
+use Rattle.tk_client.specs.Asked.{frame_for, asked, shown_by}
 use Rattle.tk_client.specs.declared.target.Target.{Target}
 use Rattle.tk_client.specs.Reader.{target, at_epoch}
 use Rattle.tk_client.specs.Client.{ClientState, opened, target_over}
@@ -34,14 +32,10 @@ map_same f g same (x ∷ xs) = ap₂ (λ y ys. y ∷ ys) (same x) (map_same f g 
 pub asked-read_at : (S : Script) (b : WordBook) (H : History) (g c : ℕ) →
     asked S.shape b g c (epoch_at H g c) (target_at S (words_of S.shape b) H g c)
     ≡ map (read_at S b H g c) (range_with_len 1 S.shape.servers)
-unfolding frame_with read_at read_pair
+unfolding read_at read_pair
 asked-read_at S b H g c =
-    let size = vector_len S.shape in
     let pair = read_pair S (words_of S.shape b) H g c in
-    let vectors = fresh_vectors S.shape b g c in
-    let us = shares size pair.0 vectors.first in
-    let vs = shares size pair.1 vectors.second in
-    map_same (frame_with g c (epoch_at H g c) us vs) (read_at S b H g c) (λ j. refl)
+    map_same (frame_for S.shape b g c (epoch_at H g c) pair) (read_at S b H g c) (λ j. refl)
     (range_with_len 1 S.shape.servers)
 
 -- a filter that shows what the writes before the epoch's mark do

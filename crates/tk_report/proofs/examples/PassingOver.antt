@@ -10,10 +10,12 @@ use Rattle.tk_words.specs.Words.{drawn}
 use Rattle.tk_report.specs.Report.{report}
 use Rattle.tk_report.proofs.Computing.{computing}
 
-pub shape_ranges : IsShape 2 8 1 1 24 64 1 4 2 2 3 1
+pub shape_ranges : IsShape 1 2 8 1 1 24 64 1 4 2 2 3 1
 unfolding computing
 shape_ranges =
     record {
+      format_low = lit≤ tt;
+      format_high = lit≤ tt;
       servers_low = lit≤ tt;
       servers_high = lit≤ tt;
       buckets_power = refl;
@@ -45,7 +47,7 @@ shape_ranges =
     }
 
 abbrev pub shape : Shape
-shape = record { servers = 2; buckets = 8; depth = 1; retained = 1; block = 24; filter_bits = 64; hits = 1; ahead = 4; clients = 2; phases = 2; ticks = 3; logs = 1; in_range = shape_ranges }
+shape = record { format = 1; servers = 2; buckets = 8; depth = 1; retained = 1; block = 24; filter_bits = 64; hits = 1; ahead = 4; clients = 2; phases = 2; ticks = 3; logs = 1; in_range = shape_ranges }
 
 pub script_sound : IsScript shape None (record { writer = 1; followers = 0 ∷ [] } ∷ []) (record { phase = 1; tick = 1; log = 0; text = codes "a" } ∷ record { phase = 1; tick = 1; log = 0; text = codes "b" } ∷ record { phase = 1; tick = 1; log = 0; text = codes "c" } ∷ [])
 unfolding computing
