@@ -3,19 +3,18 @@ use Rattle.std.proofs.Common.{◌≡◌, ap, sym, ◌∙◌, subst, arith}
 use Rattle.std.proofs.Common.{ℕ, ◌+◌, ◌-◌, ◌<◌, ◌≤◌, Bool, List, Option}
 use Rattle.std.specs.Prelude.{slice_index_or}
 use Rattle.std.proofs.lemmas.List.FromFn.{get_or-map-range_with_len}
-use Rattle.tk_shape.specs.Lengths.{turn_count, vector_len}
-use Rattle.tk_bits.specs.Shares.{shares}
+use Rattle.tk_shape.specs.Lengths.{turn_count}
 use Rattle.tk_schedule.specs.declared.history.History.{History}
 use Rattle.tk_schedule.specs.Schedule.{IsLegal, epoch_at, phases_over}
 use Rattle.tk_script.specs.declared.script.Script.{Script}
-use Rattle.tk_words.specs.Words.{WordBook, words_of, fresh_vectors}
+use Rattle.tk_words.specs.Words.{WordBook, words_of}
 use Rattle.tk_bloom.specs.Filters.{all_marked}
 use Rattle.tk_frames.specs.Order.{Record, before}
 use Rattle.tk_frames.specs.declared.read_frame.ReadFrame.{ReadFrame}
 use Rattle.tk_table.specs.Shown.{is_shown}
 use Rattle.tk_client.specs.declared.target.Target.{Target}
 use Rattle.tk_client.specs.Reader.{target, at_epoch}
-use Rattle.tk_client.specs.Asked.{frame_with, asked, shown_by}
+use Rattle.tk_client.specs.Asked.{frame_for, asked, shown_by}
 use Rattle.tk_client.specs.Looking.{FollowerState, looked_for}
 use Rattle.tk_replica.specs.declared.epoch.Epoch.{Epoch}
 use Rattle.tk_replica.specs.Epochs.{EpochStandsFor, IsEpochOf}
@@ -86,15 +85,12 @@ pub read-is : (S : Script) (b : WordBook) (H : History) (g c e j : ℕ) (marks :
     x ≡ slice_index_or frames (j - 1) x → x ≡ read_at S b H g c j
 unfolding read_at read_pair
 read-is S b H g c e j marks s frames x was epoch shows low high are here =
-    let size = vector_len S.shape in
     let pair = read_pair S (words_of S.shape b) H g c in
-    let drawn = fresh_vectors S.shape b g c in
-    let us = shares size pair.0 drawn.first in
-    let vs = shares size pair.1 drawn.second in
     let within : j - 1 < S.shape.servers = omega (arith, low, high) in
     let at : 1 + (j - 1) ≡ j = omega (arith, low) in
     here
     ∙ ap (λ (xs : List ReadFrame). slice_index_or xs (j - 1) x)
     (are ∙ asked-is S b H g c e marks s was epoch shows)
-    ∙ get_or-map-range_with_len (frame_with g c (epoch_at H g c) us vs) 1 S.shape.servers (j - 1) j
+    ∙ get_or-map-range_with_len (frame_for S.shape b g c (epoch_at H g c) pair) 1 S.shape.servers
+    (j - 1) j
     x within at

@@ -7,7 +7,7 @@ use Rattle.std.specs.Char.{encode_utf8}
 use Rattle.tk_schedule.specs.Schedule.{serial_history}
 use Rattle.tk_words.specs.Pieces.{word_at_byte}
 use Rattle.tk_words.specs.Words.{pair_of, hits_of, pad_of, tag_of, opened, fresh_write, fresh_pair}
-use Rattle.tk_words.specs.Words.{fresh_vectors}
+use Rattle.tk_words.specs.Words.{fresh_seeds, fresh_vectors}
 use Rattle.tk_frames.specs.Order.{before}
 use Rattle.tk_script.specs.Sent.{sendings_from, sent, sent_as}
 use Rattle.tk_report.specs.Entries.{write_at, placed_from, entries_before}
@@ -22,7 +22,7 @@ use Rattle.tk_privacy.specs.Privacy.{shown_read, cells_view}
 
 unfoldable pub computing : ⊤
 unfolding ones digits chars encode_utf8 is_utf8 serial_history word_at_byte pair_of hits_of pad_of
-    tag_of opened fresh_write fresh_pair fresh_vectors before sendings_from sent write_at
+    tag_of opened fresh_write fresh_pair fresh_seeds fresh_vectors before sendings_from sent write_at
     placed_from entries_before is_placeable retained_with retained_on target after_read lookup
     reader_before history_lines report_text report_of frame_with read_pair read_at frames_before
     tape_of masked_cell sent_as changed_read normal regained unnormal shown_read cells_view

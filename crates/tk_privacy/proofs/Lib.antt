@@ -13,4 +13,5 @@ pub mod StepsLaws
 pub mod AskingLaws
 pub mod ReadsLaws
 pub mod EnteringLaws
+pub mod OtherFormat
 pub mod examples

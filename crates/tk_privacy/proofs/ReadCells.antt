@@ -1,25 +1,27 @@
--- A read cell whose hidden vectors are changed.
+-- A read cell whose hidden vectors are changed, piece by piece.
 use Rattle.std.proofs.Common.{◌≡◌, ◌≢◌, ℕ, zero, suc, ◌+◌, ◌-◌, ◌*◌, ◌≤◌, ◌<◌, true, false, cond}
-use Rattle.std.proofs.Common.{List, [], ◌∷◌, ◌++◌, length, take, drop, get_or, set, refl}
-use Rattle.std.proofs.Common.{ap, ap₂, sym, ◌∙◌, arith, append_assoc, length-append, length-drop}
-use Rattle.std.proofs.Common.{take-append-drop, append-nil, ltb-true, ltb-false}
+use Rattle.std.proofs.Common.{List, [], ◌∷◌, ◌++◌, length, map, take, drop, get_or, set, refl}
+use Rattle.std.proofs.Common.{ap, ap₂, sym, subst, ◌∙◌, arith, append_assoc, length-append}
+use Rattle.std.proofs.Common.{length-drop, take-append-drop, append-nil, ltb-true, ltb-false}
+use Rattle.std.proofs.Common.{inl, inr}
 use Rattle.std.specs.Prelude.{nat_lt}
 use Rattle.std.specs.List.{concat}
+use Rattle.std.proofs.lemmas.Bool.{cases_lt, lt-ltb}
 use Rattle.std.proofs.lemmas.List.{take_all, length-take-le, set-get_or, length-set}
 use Rattle.std.proofs.lemmas.List.{get_or-set_same, get_or-set_other, get_or_append_left}
-use Rattle.std.proofs.lemmas.List.{get_or_push}
+use Rattle.std.proofs.lemmas.List.{get_or_push, take_at, drop_at}
 use Rattle.tk_shape.specs.declared.shape.Shape.{Shape}
-use Rattle.tk_shape.specs.Lengths.{vector_len, read_cell_len}
+use Rattle.tk_shape.specs.Lengths.{seed_len, vector_len, piece_len, read_cell_len}
 use Rattle.tk_kernel.specs.Xor.{xor_bytes, xor_all}
 use Rattle.tk_kernel.specs.Pieces.{pieces, AllSized}
 use Rattle.tk_kernel.proofs.Offers.{xor_bytes_assoc, xor_bytes_comm, xor_bytes_twice}
-use Rattle.tk_kernel.proofs.Offers.{length-xor_bytes, length-xor_all}
+use Rattle.tk_kernel.proofs.Offers.{length-xor_all}
 use Rattle.tk_kernel.proofs.Offers.{concat-pieces, length-pieces, AllSized-pieces, pieces-append}
-use Rattle.tk_bits.specs.Shares.{unit_vector, last_share, shares}
-use Rattle.tk_bits.proofs.Offers.{length-unit_vector}
-use Rattle.tk_words.specs.Words.{DrawnVectors, vectors_of}
+use Rattle.tk_bits.specs.Shares.{unit_vector, last_share, completed}
+use Rattle.tk_bits.proofs.Offers.{length-unit_vector, length-last_share}
+use Rattle.tk_words.specs.Words.{BothBuckets, cut_for_both, cell_pieces, piece_seed, piece_vector}
 use Rattle.tk_privacy.proofs.Tapes.{take_seam, drop_seam}
-use Rattle.tk_privacy.specs.Privacy.{with_hidden, changed_read, shown_read_cell, shown_vector}
+use Rattle.tk_privacy.specs.Privacy.{with_hidden, changed_read, shown_read_cell, shown_piece}
 
 -- ---- sums with one vector replaced
 
@@ -59,13 +61,6 @@ set-twice [] i x y = refl
 set-twice (v ∷ vs) zero x y = refl
 set-twice (v ∷ vs) (suc i) x y = ap (λ zs. v ∷ zs) (set-twice vs i x y)
 
-length-last_share : (size bucket : ℕ) (vs : List (List ℕ)) → AllSized size vs →
-    length (last_share size bucket vs) ≡ size
-length-last_share size bucket vs h =
-    length-xor_bytes (unit_vector size bucket) (xor_all size vs)
-    (length-unit_vector size bucket ∙ sym (length-xor_all size vs h))
-    ∙ length-unit_vector size bucket
-
 -- the last share of the changed vectors is the vector that was replaced
 last-of-changed : (size bucket i : ℕ) (vs : List (List ℕ)) → AllSized size vs → i < length vs →
     last_share size bucket (set vs i (last_share size bucket vs)) ≡ get_or vs i []
@@ -83,73 +78,174 @@ last-of-changed size bucket i vs h l =
     ∙ xor_bytes_twice all one (all_len ∙ sym one_len)))
     ∙ xor_bytes_twice unit one (unit_len ∙ sym one_len)
 
--- ---- vectors as they should be
+-- ---- what becomes of each of a list
 
-pub record AreVectors (shape : Shape) (vs : List (List ℕ)) : Type 0 where
-  pub count : length vs ≡ shape.servers - 1
-  pub sized : AllSized (vector_len shape) vs
+map-set : (f : List ℕ → List ℕ) (ps : List (List ℕ)) (i : ℕ) (x : List ℕ) →
+    map f (set ps i x) ≡ set (map f ps) i (f x)
+map-set f [] i x = refl
+map-set f (p ∷ ps) zero x = refl
+map-set f (p ∷ ps) (suc i) x = ap (λ zs. f p ∷ zs) (map-set f ps i x)
 
-with_hidden-vectors : (shape : Shape) (h bucket : ℕ) (vs : List (List ℕ)) → AreVectors shape vs →
-    AreVectors shape (with_hidden shape h bucket vs)
-with_hidden-vectors shape h bucket vs are =
-    let share = last_share (vector_len shape) bucket vs in
-    record {
-      count = length-set vs (h - 1) share ∙ are.count;
-      sized = sized-set (vector_len shape) vs (h - 1) share are.sized
-          (length-last_share (vector_len shape) bucket vs are.sized);
-    }
+get-map : (f : List ℕ → List ℕ) (ps : List (List ℕ)) (i : ℕ) → i < length ps →
+    get_or (map f ps) i [] ≡ f (get_or ps i [])
+get-map f [] i low = absurd (omega (arith, low))
+get-map f (p ∷ ps) zero low = refl
+get-map f (p ∷ ps) (suc i) low = get-map f ps i (omega (arith, low))
 
-with_hidden-twice : (shape : Shape) (h bucket : ℕ) (vs : List (List ℕ)) → 1 ≤ h →
-    h < shape.servers → AreVectors shape vs →
-    with_hidden shape h bucket (with_hidden shape h bucket vs) ≡ vs
-with_hidden-twice shape h bucket vs low high are =
-    let share = last_share (vector_len shape) bucket vs in
-    let changed = set vs (h - 1) share in
-    set-twice vs (h - 1) share (last_share (vector_len shape) bucket changed)
-    ∙ ap (set vs (h - 1)) (last-of-changed (vector_len shape) bucket (h - 1) vs are.sized
-    (omega (arith, are.count)))
-    ∙ set-get_or vs (h - 1) []
+length-mapped : (f : List ℕ → List ℕ) (ps : List (List ℕ)) → length (map f ps) ≡ length ps
+length-mapped f [] = refl
+length-mapped f (p ∷ ps) = ap suc (length-mapped f ps)
 
--- the vector of a server j that is not the hidden one: the share that it gets
-hidden-vector : (shape : Shape) (h j bucket : ℕ) (vs : List (List ℕ)) → 1 ≤ h → h < shape.servers →
-    1 ≤ j → j ≤ shape.servers → j ≢ h → AreVectors shape vs →
-    shown_vector shape h j (with_hidden shape h bucket vs)
-    ≡ get_or (shares (vector_len shape) bucket vs) (j - 1) []
-hidden-vector shape h j bucket vs low high j_low j_high differ are =
-    elim (nat_lt j shape.servers) as (λ t. nat_lt j shape.servers ≡ t →
-    get_or (set vs (h - 1) share) (cond t j h - 1) [] ≡ get_or (vs ++ share ∷ []) (j - 1) []) [
-      | true ↦ λ e.
-          let less : j < shape.servers = ltb-true j shape.servers e in
-          get_or-set_other vs (h - 1) (j - 1) share [] (λ same. differ (omega (arith, same)))
-          ∙ sym (get_or_append_left vs (share ∷ []) [] (j - 1) (omega (arith, are.count)))
-      | false ↦ λ e.
-          let last : shape.servers ≤ j = ltb-false j shape.servers e in
-          get_or-set_same vs (h - 1) share [] (omega (arith, are.count))
-          ∙ sym (get_or_push vs share [] (j - 1) (omega (arith, are.count, last)))
-    ] refl
-  where
-    share : List ℕ
-    share = last_share (vector_len shape) bucket vs
+sized-map : (f : List ℕ → List ℕ) (a b : ℕ) (ps : List (List ℕ)) →
+    ((p : List ℕ) → length p ≡ a → length (f p) ≡ b) → AllSized a ps → AllSized b (map f ps)
+sized-map f a b [] becomes h = tt
+sized-map f a b (p ∷ ps) becomes h = (becomes p h.0, sized-map f a b ps becomes h.1)
+
+-- ---- pieces as they should be
+
+pub record ArePieces (shape : Shape) (ps : List (List ℕ)) : Type 0 where
+  pub count : length ps ≡ shape.servers - 1
+  pub sized : AllSized (piece_len shape) ps
+
+-- their seeds and their vectors
+abbrev pub seeds_in : Shape → List (List ℕ) → List (List ℕ)
+seeds_in shape ps = map (piece_seed shape) ps
+
+abbrev pub vectors_in : Shape → List (List ℕ) → List (List ℕ)
+vectors_in shape ps = map (piece_vector shape) ps
+
+sized-vectors : (shape : Shape) (ps : List (List ℕ)) → ArePieces shape ps →
+    AllSized (vector_len shape) (vectors_in shape ps)
+sized-vectors shape ps are =
+    sized-map (piece_vector shape) (piece_len shape) (vector_len shape) ps
+    (λ p long. omega (arith, long, length-drop (seed_len shape) p)) are.sized
+
+module _ (shape : Shape) (h bucket : ℕ) (ps : List (List ℕ)) (high : h < shape.servers)
+    (are : ArePieces shape ps) where
+  place : h - 1 < length ps
+  place = let servers = shape.in_range.servers_low in omega (arith, high, are.count, servers)
+
+  abbrev own : List ℕ
+  own = get_or ps (h - 1) []
+
+  abbrev seed : List ℕ
+  seed = piece_seed shape own
+
+  abbrev share : List ℕ
+  share = last_share (vector_len shape) bucket (vectors_in shape ps)
+
+  length-seed : length seed ≡ seed_len shape
+  length-seed =
+      let long = sized-get (piece_len shape) ps (h - 1) are.sized place in
+      length-take-le (seed_len shape) own (omega (arith, long))
+
+  length-share : length share ≡ vector_len shape
+  length-share =
+      length-last_share (vector_len shape) bucket (vectors_in shape ps)
+      (sized-vectors shape ps are)
+
+  pub with_hidden-pieces : ArePieces shape (with_hidden shape h bucket ps)
+  with_hidden-pieces =
+      record {
+        count = length-set ps (h - 1) (seed ++ share) ∙ are.count;
+        sized = sized-set (piece_len shape) ps (h - 1) (seed ++ share) are.sized
+            (omega (arith, length-append seed share, length-seed, length-share));
+      }
+
+  -- the vectors of the changed pieces
+  vectors-hidden : vectors_in shape (with_hidden shape h bucket ps)
+      ≡ set (vectors_in shape ps) (h - 1) share
+  vectors-hidden =
+      map-set (piece_vector shape) ps (h - 1) (seed ++ share)
+      ∙ ap (set (vectors_in shape ps) (h - 1)) (drop_at seed share (seed_len shape) length-seed)
+
+  pub with_hidden-twice : with_hidden shape h bucket (with_hidden shape h bucket ps) ≡ ps
+  with_hidden-twice =
+      let size = vector_len shape in
+      let changed = seed ++ share in
+      let vectors = vectors_in shape ps in
+      let within : h - 1 < length vectors = omega (arith, place, length-mapped (piece_vector shape) ps) in
+      let own_seed : piece_seed shape (get_or (set ps (h - 1) changed) (h - 1) []) ≡ seed =
+      ap (piece_seed shape) (get_or-set_same ps (h - 1) changed [] place)
+      ∙ take_at seed share (seed_len shape) length-seed
+      in
+      let own_vector : last_share size bucket (vectors_in shape (set ps (h - 1) changed))
+      ≡ piece_vector shape own =
+      ap (last_share size bucket) vectors-hidden
+      ∙ last-of-changed size bucket (h - 1) vectors (sized-vectors shape ps are) within
+      ∙ get-map (piece_vector shape) ps (h - 1) place
+      in
+      set-twice ps (h - 1) changed _
+      ∙ ap (set ps (h - 1))
+      (ap₂ (λ (s v : List ℕ). s ++ v) own_seed own_vector ∙ take-append-drop (seed_len shape) own)
+      ∙ set-get_or ps (h - 1) []
+
+  -- what a server j that isn't the hidden one is shown: its seed, and the vector that it gets
+  module _ (j : ℕ) (low : 1 ≤ h) (j_low : 1 ≤ j) (j_high : j ≤ shape.servers) (differ : j ≢ h)
+    where
+      hidden-vector : piece_vector shape (shown_piece shape h j (with_hidden shape h bucket ps))
+          ≡ get_or (completed (vector_len shape) bucket (vectors_in shape ps)) (j - 1) []
+      hidden-vector =
+          let changed = seed ++ share in
+          let vectors = vectors_in shape ps in
+          let count = length-mapped (piece_vector shape) ps in
+          elim (nat_lt j shape.servers) as (λ t. nat_lt j shape.servers ≡ t →
+          piece_vector shape (get_or (set ps (h - 1) changed) (cond t j h - 1) [])
+          ≡ get_or (vectors ++ share ∷ []) (j - 1) []) [
+            | true ↦ λ e.
+                let less : j < shape.servers = ltb-true j shape.servers e in
+                let here : j - 1 < length ps = omega (arith, less, j_low, are.count) in
+                ap (piece_vector shape) (get_or-set_other ps (h - 1) (j - 1) changed []
+                (λ same. differ (omega (arith, same, low, j_low))))
+                ∙ sym (get-map (piece_vector shape) ps (j - 1) here)
+                ∙ sym (get_or_append_left vectors (share ∷ []) [] (j - 1) (omega (arith, here, count)))
+            | false ↦ λ e.
+                let last : shape.servers ≤ j = ltb-false j shape.servers e in
+                ap (piece_vector shape) (get_or-set_same ps (h - 1) changed [] place)
+                ∙ drop_at seed share (seed_len shape) length-seed
+                ∙ sym (get_or_push vectors share [] (j - 1) (omega (arith, are.count, count, last, j_high)))
+          ] refl
+
+      hidden-seed : j < shape.servers →
+          piece_seed shape (shown_piece shape h j (with_hidden shape h bucket ps))
+          ≡ get_or (seeds_in shape ps) (j - 1) []
+      hidden-seed less =
+          let changed = seed ++ share in
+          let here : j - 1 < length ps = omega (arith, less, j_low, are.count) in
+          ap (λ t. piece_seed shape (get_or (set ps (h - 1) changed) (cond t j h - 1) []))
+          (lt-ltb j shape.servers less)
+          ∙ ap (piece_seed shape) (get_or-set_other ps (h - 1) (j - 1) changed []
+          (λ same. differ (omega (arith, same, low, j_low))))
+          ∙ sym (get-map (piece_seed shape) ps (j - 1) here)
 
 -- where the hidden server is the last, that of any other
-open-vector : (shape : Shape) (h j bucket : ℕ) (vs : List (List ℕ)) → shape.servers ≤ h →
-    h ≤ shape.servers → 1 ≤ j → j ≤ shape.servers → j ≢ h → AreVectors shape vs →
-    shown_vector shape h j vs ≡ get_or (shares (vector_len shape) bucket vs) (j - 1) []
-open-vector shape h j bucket vs low high j_low j_high differ are =
-    elim (nat_lt j shape.servers) as (λ t. nat_lt j shape.servers ≡ t →
-    get_or vs (cond t j h - 1) [] ≡ get_or (vs ++ share ∷ []) (j - 1) []) [
-      | true ↦ λ e.
-          let less : j < shape.servers = ltb-true j shape.servers e in
-          sym (get_or_append_left vs (share ∷ []) [] (j - 1) (omega (arith, are.count)))
-      | false ↦ λ e.
-          let last : shape.servers ≤ j = ltb-false j shape.servers e in
-          absurd (differ (omega (arith, last)))
-    ] refl
-  where
-    share : List ℕ
-    share = last_share (vector_len shape) bucket vs
+module _ (shape : Shape) (h j bucket : ℕ) (ps : List (List ℕ)) (low : shape.servers ≤ h)
+    (high : h ≤ shape.servers) (j_low : 1 ≤ j) (j_high : j ≤ shape.servers) (differ : j ≢ h)
+    (are : ArePieces shape ps) where
+  less_than : j < shape.servers
+  less_than =
+      elim (cases_lt j shape.servers) [
+        | inl less ↦ less
+        | inr last ↦ absurd (differ (omega (arith, last, low, high, j_high)))
+      ]
 
--- ---- vectors joined, and cut again
+  shown-own : (f : List ℕ → List ℕ) → f (shown_piece shape h j ps) ≡ get_or (map f ps) (j - 1) []
+  shown-own f =
+      let less = less_than in
+      ap (λ t. f (get_or ps (cond t j h - 1) [])) (lt-ltb j shape.servers less)
+      ∙ sym (get-map f ps (j - 1) (omega (arith, less, j_low, are.count)))
+
+  open-vector : piece_vector shape (shown_piece shape h j ps)
+      ≡ get_or (completed (vector_len shape) bucket (vectors_in shape ps)) (j - 1) []
+  open-vector =
+      let vectors = vectors_in shape ps in
+      let count = length-mapped (piece_vector shape) ps in
+      let less = less_than in
+      shown-own (piece_vector shape)
+      ∙ sym (get_or_append_left vectors (last_share (vector_len shape) bucket vectors ∷ []) [] (j - 1)
+      (omega (arith, less, j_low, are.count, count)))
+
+-- ---- pieces joined, and cut again
 
 length-concat : (size : ℕ) (vs : List (List ℕ)) → AllSized size vs → length (concat vs)
     ≡ length vs * size
@@ -168,244 +264,262 @@ pieces-concat size (v ∷ vs) rest h =
     ∙ pieces-append size (length vs) v (concat vs ++ rest) h.0
     ∙ ap (λ zs. v ∷ zs) (pieces-concat size vs rest h.1)
 
--- both buckets' vectors
-pub record AreBoth (shape : Shape) (vs : DrawnVectors) : Type 0 where
-  pub first : AreVectors shape vs.first
-  pub second : AreVectors shape vs.second
+-- both buckets' pieces
+pub record AreBoth (shape : Shape) (ps : BothBuckets) : Type 0 where
+  pub first : ArePieces shape ps.first
+  pub second : ArePieces shape ps.second
 
-unfoldable joined : List ℕ → DrawnVectors → List ℕ
-joined front vs = front ++ (concat vs.first ++ concat vs.second)
+unfoldable joined : List ℕ → BothBuckets → List ℕ
+joined front ps = front ++ (concat ps.first ++ concat ps.second)
 
-unfoldable changed : Shape → ℕ → ℕ × ℕ → DrawnVectors → DrawnVectors
-changed shape h pair vs =
+unfoldable changed : Shape → ℕ → ℕ × ℕ → BothBuckets → BothBuckets
+changed shape h pair ps =
     record {
-      first = with_hidden shape h pair.0 vs.first;
-      second = with_hidden shape h pair.1 vs.second;
+      first = with_hidden shape h pair.0 ps.first;
+      second = with_hidden shape h pair.1 ps.second;
     }
-
--- the bytes of a read cell after its words
-abbrev vectors_in : Shape → List ℕ → DrawnVectors
-vectors_in shape cell = vectors_of shape (drop 8 cell)
 
 changed_read-is : (shape : Shape) (h : ℕ) (pair : ℕ × ℕ) (cell : List ℕ) →
     changed_read shape h pair cell
-    ≡ joined (take 8 cell) (changed shape h pair (vectors_in shape cell))
+    ≡ joined (take 8 cell) (changed shape h pair (cell_pieces shape cell))
 unfolding changed_read joined changed
 changed_read-is shape h pair cell = refl
 
-length-bytes : (shape : Shape) (vs : List (List ℕ)) → AreVectors shape vs → length (concat vs)
-    ≡ (shape.servers - 1) * vector_len shape
-length-bytes shape vs are = length-concat (vector_len shape) vs are.sized
-    ∙ ap (λ n. n * vector_len shape) are.count
+length-bytes : (shape : Shape) (ps : List (List ℕ)) → ArePieces shape ps → length (concat ps)
+    ≡ (shape.servers - 1) * piece_len shape
+length-bytes shape ps are = length-concat (piece_len shape) ps are.sized
+    ∙ ap (λ n. n * piece_len shape) are.count
 
-length-joined : (shape : Shape) (front : List ℕ) (vs : DrawnVectors) → length front ≡ 8 →
-    AreBoth shape vs → length (joined front vs) ≡ read_cell_len shape
+length-joined : (shape : Shape) (front : List ℕ) (ps : BothBuckets) → length front ≡ 8 →
+    AreBoth shape ps → length (joined front ps) ≡ read_cell_len shape
 unfolding joined
-length-joined shape front vs e are =
+length-joined shape front ps e are =
     omega (
       arith,
-      length-append front (concat vs.first ++ concat vs.second),
-      length-append (concat vs.first) (concat vs.second),
+      length-append front (concat ps.first ++ concat ps.second),
+      length-append (concat ps.first) (concat ps.second),
       e,
-      length-bytes shape vs.first are.first,
-      length-bytes shape vs.second are.second,
-      twice (shape.servers - 1) (vector_len shape),
+      length-bytes shape ps.first are.first,
+      length-bytes shape ps.second are.second,
+      twice (shape.servers - 1) (piece_len shape),
     )
   where
     twice : (n size : ℕ) → 2 * n * size ≡ n * size + n * size
     twice n size = omega arith
 
-front-joined : (front : List ℕ) (vs : DrawnVectors) → length front ≡ 8 → take 8 (joined front vs)
+front-joined : (front : List ℕ) (ps : BothBuckets) → length front ≡ 8 → take 8 (joined front ps)
     ≡ front
 unfolding joined
-front-joined front vs e = take_seam 8 front (concat vs.first ++ concat vs.second) e
+front-joined front ps e = take_seam 8 front (concat ps.first ++ concat ps.second) e
 
-vectors-joined : (shape : Shape) (front : List ℕ) (vs : DrawnVectors) → length front ≡ 8 →
-    AreBoth shape vs → vectors_in shape (joined front vs) ≡ vs
+pieces-joined : (shape : Shape) (front : List ℕ) (ps : BothBuckets) → length front ≡ 8 →
+    AreBoth shape ps → cell_pieces shape (joined front ps) ≡ ps
 unfolding joined
-vectors-joined shape front vs e are =
-    ap (vectors_of shape) (drop_seam 8 front (concat vs.first ++ concat vs.second) e)
+pieces-joined shape front ps e are =
+    ap (cut_for_both shape (piece_len shape))
+    (drop_seam 8 front (concat ps.first ++ concat ps.second) e)
     ∙ (λ i. record { first = first_cut i; second = second_cut i })
   where
-    first_cut : pieces (vector_len shape) (shape.servers - 1) (concat vs.first ++ concat vs.second)
-        ≡ vs.first
+    first_cut : pieces (piece_len shape) (shape.servers - 1) (concat ps.first ++ concat ps.second)
+        ≡ ps.first
     first_cut =
-        ap (λ n. pieces (vector_len shape) n (concat vs.first ++ concat vs.second))
+        ap (λ n. pieces (piece_len shape) n (concat ps.first ++ concat ps.second))
         (sym are.first.count)
-        ∙ pieces-concat (vector_len shape) vs.first (concat vs.second) are.first.sized
+        ∙ pieces-concat (piece_len shape) ps.first (concat ps.second) are.first.sized
 
-    second_cut : pieces (vector_len shape) (shape.servers - 1)
-        (drop ((shape.servers - 1) * vector_len shape) (concat vs.first ++ concat vs.second))
-        ≡ vs.second
+    second_cut : pieces (piece_len shape) (shape.servers - 1)
+        (drop ((shape.servers - 1) * piece_len shape) (concat ps.first ++ concat ps.second))
+        ≡ ps.second
     second_cut =
-        ap (pieces (vector_len shape) (shape.servers - 1))
-        (drop_seam ((shape.servers - 1) * vector_len shape) (concat vs.first) (concat vs.second)
-        (length-bytes shape vs.first are.first) ∙ sym (append-nil (concat vs.second)))
-        ∙ ap (λ n. pieces (vector_len shape) n (concat vs.second ++ [])) (sym are.second.count)
-        ∙ pieces-concat (vector_len shape) vs.second [] are.second.sized
+        ap (pieces (piece_len shape) (shape.servers - 1))
+        (drop_seam ((shape.servers - 1) * piece_len shape) (concat ps.first) (concat ps.second)
+        (length-bytes shape ps.first are.first) ∙ sym (append-nil (concat ps.second)))
+        ∙ ap (λ n. pieces (piece_len shape) n (concat ps.second ++ [])) (sym are.second.count)
+        ∙ pieces-concat (piece_len shape) ps.second [] are.second.sized
 
-changed-both : (shape : Shape) (h : ℕ) (pair : ℕ × ℕ) (vs : DrawnVectors) → AreBoth shape vs →
-    AreBoth shape (changed shape h pair vs)
+changed-both : (shape : Shape) (h : ℕ) (pair : ℕ × ℕ) (ps : BothBuckets) →
+    h < shape.servers → AreBoth shape ps → AreBoth shape (changed shape h pair ps)
 unfolding changed
-changed-both shape h pair vs are =
+changed-both shape h pair ps high are =
     record {
-      first = with_hidden-vectors shape h pair.0 vs.first are.first;
-      second = with_hidden-vectors shape h pair.1 vs.second are.second;
+      first = with_hidden-pieces shape h pair.0 ps.first high are.first;
+      second = with_hidden-pieces shape h pair.1 ps.second high are.second;
     }
 
-changed-twice : (shape : Shape) (h : ℕ) (pair : ℕ × ℕ) (vs : DrawnVectors) → 1 ≤ h →
-    h < shape.servers → AreBoth shape vs →
-    changed shape h pair (changed shape h pair vs) ≡ vs
+changed-twice : (shape : Shape) (h : ℕ) (pair : ℕ × ℕ) (ps : BothBuckets) →
+    h < shape.servers → AreBoth shape ps →
+    changed shape h pair (changed shape h pair ps) ≡ ps
 unfolding changed
-changed-twice shape h pair vs low high are =
+changed-twice shape h pair ps high are =
     λ i. record {
-      first = with_hidden-twice shape h pair.0 vs.first low high are.first i;
-      second = with_hidden-twice shape h pair.1 vs.second low high are.second i;
+      first = with_hidden-twice shape h pair.0 ps.first high are.first i;
+      second = with_hidden-twice shape h pair.1 ps.second high are.second i;
     }
 
 -- ---- a whole read cell
 
 module _ (shape : Shape) (cell : List ℕ) (whole : length cell ≡ read_cell_len shape) where
-  bytes_len : (shape.servers - 1) * vector_len shape + (shape.servers - 1) * vector_len shape
+  bytes_len : (shape.servers - 1) * piece_len shape + (shape.servers - 1) * piece_len shape
       ≡ length (drop 8 cell)
-  bytes_len = omega (arith, length-drop 8 cell, whole, twice (shape.servers - 1) (vector_len shape))
+  bytes_len = omega (arith, length-drop 8 cell, whole, twice (shape.servers - 1) (piece_len shape))
     where
       twice : (n size : ℕ) → 2 * n * size ≡ n * size + n * size
       twice n size = omega arith
 
-  rest_len : (shape.servers - 1) * vector_len shape
-      ≡ length (drop ((shape.servers - 1) * vector_len shape) (drop 8 cell))
+  rest_len : (shape.servers - 1) * piece_len shape
+      ≡ length (drop ((shape.servers - 1) * piece_len shape) (drop 8 cell))
   rest_len = omega (
     arith,
     bytes_len,
-    length-drop ((shape.servers - 1) * vector_len shape) (drop 8 cell),
+    length-drop ((shape.servers - 1) * piece_len shape) (drop 8 cell),
   )
 
   length-front : length (take 8 cell) ≡ 8
   length-front = length-take-le 8 cell (omega (arith, whole))
 
-  both : AreBoth shape (vectors_in shape cell)
+  pub both : AreBoth shape (cell_pieces shape cell)
   both =
       record {
         first = record {
-          count = length-pieces (vector_len shape) (shape.servers - 1) (drop 8 cell);
-          sized = AllSized-pieces (vector_len shape) (shape.servers - 1) (drop 8 cell)
+          count = length-pieces (piece_len shape) (shape.servers - 1) (drop 8 cell);
+          sized = AllSized-pieces (piece_len shape) (shape.servers - 1) (drop 8 cell)
               (omega (arith, bytes_len));
         };
         second = record {
-          count = length-pieces (vector_len shape) (shape.servers - 1)
-              (drop ((shape.servers - 1) * vector_len shape) (drop 8 cell));
-          sized = AllSized-pieces (vector_len shape) (shape.servers - 1)
-              (drop ((shape.servers - 1) * vector_len shape) (drop 8 cell))
+          count = length-pieces (piece_len shape) (shape.servers - 1)
+              (drop ((shape.servers - 1) * piece_len shape) (drop 8 cell));
+          sized = AllSized-pieces (piece_len shape) (shape.servers - 1)
+              (drop ((shape.servers - 1) * piece_len shape) (drop 8 cell))
               (omega (arith, rest_len));
         };
       }
 
-  joined-own : joined (take 8 cell) (vectors_in shape cell) ≡ cell
+  joined-own : joined (take 8 cell) (cell_pieces shape cell) ≡ cell
   unfolding joined
   joined-own =
       ap₂ (λ (xs ys : List ℕ). take 8 cell ++ (xs ++ ys))
-      (concat-pieces (vector_len shape) (shape.servers - 1) (drop 8 cell)
+      (concat-pieces (piece_len shape) (shape.servers - 1) (drop 8 cell)
       (omega (arith, bytes_len)))
-      (concat-pieces (vector_len shape) (shape.servers - 1)
-      (drop ((shape.servers - 1) * vector_len shape) (drop 8 cell)) (omega (arith, rest_len))
-      ∙ take_all ((shape.servers - 1) * vector_len shape)
-      (drop ((shape.servers - 1) * vector_len shape) (drop 8 cell)) (omega (arith, rest_len)))
+      (concat-pieces (piece_len shape) (shape.servers - 1)
+      (drop ((shape.servers - 1) * piece_len shape) (drop 8 cell)) (omega (arith, rest_len))
+      ∙ take_all ((shape.servers - 1) * piece_len shape)
+      (drop ((shape.servers - 1) * piece_len shape) (drop 8 cell)) (omega (arith, rest_len)))
       ∙ ap (λ xs. take 8 cell ++ xs)
-      (take-append-drop ((shape.servers - 1) * vector_len shape) (drop 8 cell))
+      (take-append-drop ((shape.servers - 1) * piece_len shape) (drop 8 cell))
       ∙ take-append-drop 8 cell
 
-  length-changed_read : (h : ℕ) (pair : ℕ × ℕ) → length (changed_read shape h pair cell)
-      ≡ read_cell_len shape
-  length-changed_read h pair =
-      ap length (changed_read-is shape h pair cell)
-      ∙ length-joined shape (take 8 cell) (changed shape h pair (vectors_in shape cell))
-      length-front (changed-both shape h pair (vectors_in shape cell) both)
+  module _ (h : ℕ) (pair : ℕ × ℕ) (high : h < shape.servers) where
+    length-changed_read : length (changed_read shape h pair cell) ≡ read_cell_len shape
+    length-changed_read =
+        ap length (changed_read-is shape h pair cell)
+        ∙ length-joined shape (take 8 cell) (changed shape h pair (cell_pieces shape cell))
+        length-front (changed-both shape h pair (cell_pieces shape cell) high both)
 
-  front-changed_read : (h : ℕ) (pair : ℕ × ℕ) → take 8 (changed_read shape h pair cell)
-      ≡ take 8 cell
-  front-changed_read h pair =
-      ap (take 8) (changed_read-is shape h pair cell)
-      ∙ front-joined (take 8 cell) (changed shape h pair (vectors_in shape cell)) length-front
+    pieces-changed_read : cell_pieces shape (changed_read shape h pair cell)
+        ≡ changed shape h pair (cell_pieces shape cell)
+    pieces-changed_read =
+        ap (cell_pieces shape) (changed_read-is shape h pair cell)
+        ∙ pieces-joined shape (take 8 cell) (changed shape h pair (cell_pieces shape cell))
+        length-front (changed-both shape h pair (cell_pieces shape cell) high both)
 
-  vectors-changed_read : (h : ℕ) (pair : ℕ × ℕ) → vectors_in shape (changed_read shape h pair cell)
-      ≡ changed shape h pair (vectors_in shape cell)
-  vectors-changed_read h pair =
-      ap (vectors_in shape) (changed_read-is shape h pair cell)
-      ∙ vectors-joined shape (take 8 cell) (changed shape h pair (vectors_in shape cell))
-      length-front (changed-both shape h pair (vectors_in shape cell) both)
+    front-changed_read : take 8 (changed_read shape h pair cell) ≡ take 8 cell
+    front-changed_read =
+        ap (take 8) (changed_read-is shape h pair cell)
+        ∙ front-joined (take 8 cell) (changed shape h pair (cell_pieces shape cell)) length-front
 
-  changed_read-twice : (h : ℕ) (pair : ℕ × ℕ) → 1 ≤ h → h < shape.servers →
-      changed_read shape h pair (changed_read shape h pair cell) ≡ cell
-  changed_read-twice h pair low high =
-      changed_read-is shape h pair (changed_read shape h pair cell)
-      ∙ ap₂ (λ (front : List ℕ) (vs : DrawnVectors). joined front (changed shape h pair vs))
-      (front-changed_read h pair) (vectors-changed_read h pair)
-      ∙ ap (joined (take 8 cell)) (changed-twice shape h pair (vectors_in shape cell) low high both)
-      ∙ joined-own
+    changed_read-twice : changed_read shape h pair (changed_read shape h pair cell) ≡ cell
+    changed_read-twice =
+        changed_read-is shape h pair (changed_read shape h pair cell)
+        ∙ ap₂ (λ (front : List ℕ) (ps : BothBuckets). joined front (changed shape h pair ps))
+        front-changed_read pieces-changed_read
+        ∙ ap (joined (take 8 cell))
+        (changed-twice shape h pair (cell_pieces shape cell) high both)
+        ∙ joined-own
 
   -- ---- the same where the hidden server may be the last
 
-  pub length-shown : (h : ℕ) (pair : ℕ × ℕ) → length (shown_read_cell shape h pair cell)
-      ≡ read_cell_len shape
-  length-shown h pair =
-      elim (nat_lt h shape.servers) as (λ b. length (cond b (changed_read shape h pair cell) cell)
-      ≡ read_cell_len shape)
-      [ true ↦ length-changed_read h pair | false ↦ whole ]
-
-  pub front-shown : (h : ℕ) (pair : ℕ × ℕ) → take 8 (shown_read_cell shape h pair cell)
-      ≡ take 8 cell
-  front-shown h pair =
-      elim (nat_lt h shape.servers) as (λ b. take 8 (cond b (changed_read shape h pair cell) cell)
-      ≡ take 8 cell)
-      [ true ↦ front-changed_read h pair | false ↦ refl ]
-
-  pub shown-twice : (h : ℕ) (pair : ℕ × ℕ) → 1 ≤ h →
-      shown_read_cell shape h pair (shown_read_cell shape h pair cell) ≡ cell
-  shown-twice h pair low =
-      elim (nat_lt h shape.servers) as (λ b. nat_lt h shape.servers ≡ b →
-      cond b (changed_read shape h pair (cond b (changed_read shape h pair cell) cell))
-      (cond b (changed_read shape h pair cell) cell) ≡ cell)
-      [ true ↦ λ e. changed_read-twice h pair low (ltb-true h shape.servers e) | false ↦ λ e. refl ]
-      refl
-
-  -- the vectors of a server that is not the hidden one
-  module _ (h j : ℕ) (pair : ℕ × ℕ) (low : 1 ≤ h) (high : h ≤ shape.servers) (j_low : 1 ≤ j)
-      (j_high : j ≤ shape.servers) (differ : j ≢ h) where
-    pub first-shown : shown_vector shape h j
-        (vectors_in shape (shown_read_cell shape h pair cell)).first
-        ≡ get_or (shares (vector_len shape) pair.0 (vectors_in shape cell).first) (j - 1) []
-    unfolding changed
-    first-shown =
+  module _ (h : ℕ) (pair : ℕ × ℕ) where
+    pub length-shown : length (shown_read_cell shape h pair cell) ≡ read_cell_len shape
+    length-shown =
         elim (nat_lt h shape.servers) as (λ b. nat_lt h shape.servers ≡ b →
-        shown_vector shape h j (vectors_in shape
-        (cond b (changed_read shape h pair cell) cell)).first
-        ≡ get_or (shares (vector_len shape) pair.0 (vectors_in shape cell).first) (j - 1) []) [
-          | true ↦ λ e.
-              ap (λ (vs : DrawnVectors). shown_vector shape h j vs.first)
-              (vectors-changed_read h pair)
-              ∙ hidden-vector shape h j pair.0 (vectors_in shape cell).first low
-              (ltb-true h shape.servers e) j_low j_high differ both.first
-          | false ↦ λ e.
-              open-vector shape h j pair.0 (vectors_in shape cell).first
-              (ltb-false h shape.servers e) high j_low j_high differ both.first
+        length (cond b (changed_read shape h pair cell) cell) ≡ read_cell_len shape) [
+          | true ↦ λ e. length-changed_read h pair (ltb-true h shape.servers e)
+          | false ↦ λ e. whole
         ] refl
 
-    pub second-shown : shown_vector shape h j
-        (vectors_in shape (shown_read_cell shape h pair cell)).second
-        ≡ get_or (shares (vector_len shape) pair.1 (vectors_in shape cell).second) (j - 1) []
-    unfolding changed
-    second-shown =
+    pub front-shown : take 8 (shown_read_cell shape h pair cell) ≡ take 8 cell
+    front-shown =
         elim (nat_lt h shape.servers) as (λ b. nat_lt h shape.servers ≡ b →
-        shown_vector shape h j (vectors_in shape
-        (cond b (changed_read shape h pair cell) cell)).second
-        ≡ get_or (shares (vector_len shape) pair.1 (vectors_in shape cell).second) (j - 1) []) [
+        take 8 (cond b (changed_read shape h pair cell) cell) ≡ take 8 cell) [
+          | true ↦ λ e. front-changed_read h pair (ltb-true h shape.servers e)
+          | false ↦ λ e. refl
+        ] refl
+
+    pub shown-twice : 1 ≤ h → shown_read_cell shape h pair (shown_read_cell shape h pair cell) ≡ cell
+    shown-twice low =
+        elim (nat_lt h shape.servers) as (λ b. nat_lt h shape.servers ≡ b →
+        cond b (changed_read shape h pair (cond b (changed_read shape h pair cell) cell))
+        (cond b (changed_read shape h pair cell) cell) ≡ cell) [
+          | true ↦ λ e. changed_read-twice h pair (ltb-true h shape.servers e)
+          | false ↦ λ e. refl
+        ] refl
+
+  -- the piece that a server that isn't the hidden one is shown for either bucket: its own seed, and
+  -- the vector that it gets
+  pub record IsShown (h j bucket : ℕ) (own shown : List (List ℕ)) : Type 0 where
+    pub vector : piece_vector shape (shown_piece shape h j shown)
+        ≡ get_or (completed (vector_len shape) bucket (vectors_in shape own)) (j - 1) []
+    pub seed : j < shape.servers → piece_seed shape (shown_piece shape h j shown)
+        ≡ get_or (seeds_in shape own) (j - 1) []
+
+  pub record AreShown (h j : ℕ) (pair : ℕ × ℕ) (own shown : BothBuckets) : Type 0 where
+    pub first : IsShown h j pair.0 own.first shown.first
+    pub second : IsShown h j pair.1 own.second shown.second
+
+  module _ (h j : ℕ) (pair : ℕ × ℕ) (low : 1 ≤ h) (high : h ≤ shape.servers) (j_low : 1 ≤ j)
+      (j_high : j ≤ shape.servers) (differ : j ≢ h) where
+    changed-shown : h < shape.servers →
+        AreShown h j pair (cell_pieces shape cell) (changed shape h pair (cell_pieces shape cell))
+    unfolding changed
+    changed-shown less =
+        let ps = cell_pieces shape cell in
+        record {
+          first = record {
+            vector = hidden-vector shape h pair.0 ps.first less both.first j low j_low j_high differ;
+            seed = hidden-seed shape h pair.0 ps.first less both.first j low j_low j_high differ;
+          };
+          second = record {
+            vector = hidden-vector shape h pair.1 ps.second less both.second j low j_low j_high differ;
+            seed = hidden-seed shape h pair.1 ps.second less both.second j low j_low j_high differ;
+          };
+        }
+
+    open-shown : shape.servers ≤ h →
+        AreShown h j pair (cell_pieces shape cell) (cell_pieces shape cell)
+    open-shown last =
+        let ps = cell_pieces shape cell in
+        record {
+          first = record {
+            vector = open-vector shape h j pair.0 ps.first last high j_low j_high differ both.first;
+            seed = λ less. shown-own shape h j pair.0 ps.first last high j_low j_high differ
+                both.first (piece_seed shape);
+          };
+          second = record {
+            vector = open-vector shape h j pair.1 ps.second last high j_low j_high differ both.second;
+            seed = λ less. shown-own shape h j pair.1 ps.second last high j_low j_high differ
+                both.second (piece_seed shape);
+          };
+        }
+
+    pub pieces-shown : AreShown h j pair (cell_pieces shape cell)
+        (cell_pieces shape (shown_read_cell shape h pair cell))
+    pieces-shown =
+        elim (nat_lt h shape.servers) as (λ b. nat_lt h shape.servers ≡ b →
+        AreShown h j pair (cell_pieces shape cell)
+        (cell_pieces shape (cond b (changed_read shape h pair cell) cell))) [
           | true ↦ λ e.
-              ap (λ (vs : DrawnVectors). shown_vector shape h j vs.second)
-              (vectors-changed_read h pair)
-              ∙ hidden-vector shape h j pair.1 (vectors_in shape cell).second low
-              (ltb-true h shape.servers e) j_low j_high differ both.second
-          | false ↦ λ e.
-              open-vector shape h j pair.1 (vectors_in shape cell).second
-              (ltb-false h shape.servers e) high j_low j_high differ both.second
+              let less = ltb-true h shape.servers e in
+              subst (AreShown h j pair (cell_pieces shape cell))
+              (sym (pieces-changed_read h pair less)) (changed-shown less)
+          | false ↦ λ e. open-shown (ltb-false h shape.servers e)
         ] refl

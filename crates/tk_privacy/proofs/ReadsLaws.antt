@@ -1,6 +1,6 @@
 -- The reads that a server sees of a run, turn after turn.
 use Rattle.std.proofs.Common.{◌≡◌, refl, ap, ap₂, sym, ◌∙◌, arith}
-use Rattle.std.proofs.Common.{ℕ, zero, suc, ◌+◌, ◌*◌, ◌<◌, List, [], ◌∷◌, ◌++◌, length, map}
+use Rattle.std.proofs.Common.{ℕ, zero, suc, ◌+◌, ◌*◌, ◌<◌, ◌≤◌, List, [], ◌∷◌, ◌++◌, length, map}
 use Rattle.std.proofs.Common.{flat_map}
 use Rattle.std.proofs.Common.{length-append, suc-mul, zero-mul, append-nil, zero-add}
 use Rattle.std.specs.Prelude.{slice_index_or, Result, Ok, Err, IfOk}
@@ -10,14 +10,17 @@ use Rattle.std.proofs.lemmas.List.FromFn.{length-map-range_with_len, get_or-map-
 use Rattle.std.proofs.lemmas.Grind.{flat_map-append}
 use Rattle.tk_shape.specs.Lengths.{turn_count}
 use Rattle.tk_schedule.specs.declared.history.History.{History}
+use Rattle.tk_schedule.specs.Schedule.{epoch_at}
 use Rattle.tk_script.specs.declared.script.Script.{Script}
-use Rattle.tk_words.specs.Words.{WordBook, drawn}
+use Rattle.tk_words.specs.Words.{WordBook, drawn, IsBook, words_of}
 use Rattle.tk_frames.specs.declared.read_frame.ReadFrame.{ReadFrame}
 use Rattle.tk_client.specs.Looking.{FollowerState, new_follower}
 use Rattle.tk_words.specs.Words.{BookWords}
 use Rattle.tk_report.specs.Clients.{AreFollowers, follower_before}
 use Rattle.tk_report.specs.Entries.{entries_before}
-use Rattle.tk_report.specs.Exchange.{read_at}
+use Rattle.tk_client.specs.Framing.{AreAllTold}
+use Rattle.tk_client.proofs.Offers.{frame-told}
+use Rattle.tk_report.specs.Exchange.{read_pair, read_at}
 use Rattle.tk_report.specs.Report.{follows_of, reader_before}
 use Rattle.tk_report.specs.Turns.{placed_before}
 use Rattle.tk_privacy.specs.Hiding.{read_in, blank_read}
@@ -144,3 +147,34 @@ followers-first S w H followers are =
 pub placed-none : (S : Script) (w : BookWords) (H : History) → [] ≡ placed_before S w H 0
 unfolding entries_before
 placed-none S w H = refl
+
+-- ---- vectors that seeds alone tell
+
+each-append : (xs ys : List ReadFrame) → AreAllTold xs → AreAllTold ys → AreAllTold (xs ++ ys)
+each-append [] ys h k = k
+each-append (x ∷ xs) ys h k = (h.0, each-append xs ys h.1 k)
+
+module _ (S : Script) (b : WordBook) (H : History) (j : ℕ) (served : IsBook S.shape b)
+    (low : 1 ≤ j) (high : j ≤ S.shape.servers) where
+  turn-told : (g : ℕ) → g < turn_count S.shape → (a n : ℕ) → a + n ≤ S.shape.clients →
+      AreAllTold (map (λ c. read_at S b H g c j) (range_with_len a n))
+  unfolding read_at
+  turn-told g turn a zero within = tt
+  turn-told g turn a (suc n) within = (
+    frame-told S.shape b g a (epoch_at H g a) (read_pair S (words_of S.shape b) H g a) served turn
+        (omega (arith, within)) j low high,
+    turn-told g turn (a + 1) n (omega (arith, within)),
+  )
+
+  turns-told : (a n : ℕ) → a + n ≤ turn_count S.shape →
+      AreAllTold (flat_map (reads_at S b H j) (range_with_len a n))
+  turns-told a zero within = tt
+  turns-told a (suc n) within =
+      each-append (reads_at S b H j a) (flat_map (reads_at S b H j) (range_with_len (a + 1) n))
+      (turn-told a (omega (arith, within)) 0 S.shape.clients (omega arith))
+      (turns-told (a + 1) n (omega (arith, within)))
+
+  -- in the reads that a server sees they are what the seeds expand to
+  pub reads-told : AreAllTold (all_reads S b H j)
+  unfolding reads_before
+  reads-told = turns-told 0 (turn_count S.shape) (omega arith)

@@ -1,12 +1,12 @@
 -- What a server sees is made of the cells of the normal tape.
-use Rattle.std.proofs.Common.{◌≡◌, ◌≢◌, ℕ, zero, suc, ◌+◌, ◌≤◌, ◌<◌, true, List, [], ◌∷◌, ◌++◌}
-use Rattle.std.proofs.Common.{length, map, drop, flat_map, count_by, get_or, refl, ap, ap₂, sym}
-use Rattle.std.proofs.Common.{◌∙◌, arith, Option, Some, None, ltb-true}
+use Rattle.std.proofs.Common.{◌≡◌, ◌≢◌, ℕ, zero, suc, ◌+◌, ◌-◌, ◌≤◌, ◌<◌, true, List, [], ◌∷◌, ◌++◌}
+use Rattle.std.proofs.Common.{length, map, flat_map, count_by, get_or, refl, ap, ap₂, sym}
+use Rattle.std.proofs.Common.{subst, ◌∙◌, arith, Option, Some, None, ltb-true}
 use Rattle.std.specs.Prelude.{nat_lt}
 use Rattle.std.specs.List.{range_with_len, list_all}
 use Rattle.std.specs.Option.{option_map}
 use Rattle.tk_shape.specs.declared.shape.Shape.{Shape}
-use Rattle.tk_shape.specs.Lengths.{turn_count, tape_len}
+use Rattle.tk_shape.specs.Lengths.{turn_count, vector_len, tape_len}
 use Rattle.tk_schedule.specs.declared.history.History.{History}
 use Rattle.tk_schedule.specs.declared.item.Item.{Item}
 use Rattle.tk_schedule.specs.declared.item.Item.TheVariants.{Client, Publish}
@@ -15,9 +15,11 @@ use Rattle.tk_schedule.proofs.Offers.{turn_within}
 use Rattle.tk_script.specs.declared.script.Script.{Script}
 use Rattle.tk_script.specs.Sent.{Sending, sent, sent_as, writer_of}
 use Rattle.std.proofs.lemmas.Bool.{and_parts}
-use Rattle.tk_words.specs.Words.{DrawnVectors, drawn, words_of, vectors_of, write_cell, read_cell}
+use Rattle.std.proofs.lemmas.List.{length-map}
+use Rattle.tk_words.specs.Words.{drawn, words_of, cell_pieces, piece_seed, piece_vector}
+use Rattle.tk_words.specs.Words.{write_cell, read_cell}
 use Rattle.tk_words.specs.Words.{keyed_cell, cell_write, pair_of, hits_of, pad_of, tag_of}
-use Rattle.tk_words.specs.Words.{fresh_write, fresh_vectors}
+use Rattle.tk_words.specs.Words.{fresh_write, fresh_seeds, fresh_vectors}
 use Rattle.tk_frames.specs.declared.write_frame.WriteFrame.{WriteFrame}
 use Rattle.tk_frames.specs.declared.read_frame.ReadFrame.{ReadFrame}
 use Rattle.tk_frames.specs.declared.entry.Placed.{Placed}
@@ -25,16 +27,18 @@ use Rattle.tk_frames.specs.declared.entry.Entry.TheVariants.{Write, Mark}
 use Rattle.tk_frames.specs.Spelling.{placed_frame, read_frame}
 use Rattle.tk_frames.specs.Order.{is_mark_entry}
 use Rattle.tk_client.specs.Writes.{write_of, dummy}
+use Rattle.tk_bits.proofs.Offers.{vector-at, seed-at}
 use Rattle.tk_client.specs.Asked.{frame_with}
+use Rattle.tk_client.proofs.Offers.{told-alike}
 use Rattle.tk_report.specs.Queues.{waiting_of}
 use Rattle.tk_report.specs.Entries.{write_at, placed_from, placed_after, entries_before}
 use Rattle.tk_report.specs.Exchange.{read_pair, read_at, turn_frames, frames_before, read_seen}
 use Rattle.tk_report.specs.Exchange.{view}
 use Rattle.tk_privacy.specs.Privacy.{shown_write_cell, shown_keyed_cell, read_cell_changed}
-use Rattle.tk_privacy.specs.Privacy.{shown_vector, shown_read, normal, cells_view}
+use Rattle.tk_privacy.specs.Privacy.{shown_read, normal, cells_view}
 use Rattle.tk_privacy.proofs.Tapes.{IsTape}
 use Rattle.tk_privacy.proofs.Masks.{cell_write-masked}
-use Rattle.tk_privacy.proofs.ReadCells.{first-shown, second-shown}
+use Rattle.tk_privacy.proofs.ReadCells.{both, AreShown, pieces-shown}
 use Rattle.tk_privacy.proofs.SameWords.{length-read_cell}
 use Rattle.tk_privacy.proofs.Changes.{normal-IsTape, sent_len}
 
@@ -131,29 +135,44 @@ module _ (S : Script) (H : History) (h j : ℕ) (u : List ℕ) (legal : IsLegal 
       write_shown g c (sent S g c) refl
       ∙ ap (λ cell. dummy g c (cell_write S.shape cell)) (sym (tv.writes g c turn client))
 
-  vectors_kept : (g c : ℕ) → g < turn_count S.shape → c < S.shape.clients →
-      vectors_of S.shape (drop 8 (read_cell_changed S H h u g c))
-      ≡ vectors_of S.shape (drop 8 (read_cell S.shape v g c))
-  vectors_kept g c turn client =
-      ap (λ cell. vectors_of S.shape (drop 8 cell)) (sym (tv.reads g c turn client))
+  pieces_kept : (g c : ℕ) → g < turn_count S.shape → c < S.shape.clients →
+      cell_pieces S.shape (read_cell_changed S H h u g c)
+      ≡ cell_pieces S.shape (read_cell S.shape v g c)
+  pieces_kept g c turn client = ap (cell_pieces S.shape) (sym (tv.reads g c turn client))
 
   read_shown : (g c : ℕ) → g < turn_count S.shape → c < S.shape.clients →
       read_at S (drawn u) H g c j ≡ shown_read S.shape H h v j g c
-  unfolding read_at frame_with shown_read fresh_vectors
+  unfolding read_at frame_with shown_read fresh_seeds fresh_vectors
   read_shown g c turn client =
       let cell = read_cell S.shape u g c in
       let pair = read_pair S (words_of S.shape (drawn u)) H g c in
       let size = length-read_cell S.shape u g c whole turn client in
+      let own = cell_pieces S.shape cell in
+      let counted = both S.shape cell size in
+      let shown = subst (AreShown S.shape cell size h j pair own) (pieces_kept g c turn client)
+      (pieces-shown S.shape cell size h j pair low high j_low j_high differ) in
+      let firsts = map (piece_vector S.shape) own.first in
+      let seconds = map (piece_vector S.shape) own.second in
+      let first_seeds = map (piece_seed S.shape) own.first in
+      let second_seeds = map (piece_seed S.shape) own.second in
+      let bits = vector_len S.shape in
+      let first_each : length firsts ≡ S.shape.servers - 1 =
+      length-map own.first (piece_vector S.shape) ∙ counted.first.count in
+      let second_each : length seconds ≡ S.shape.servers - 1 =
+      length-map own.second (piece_vector S.shape) ∙ counted.second.count in
+      let told = told-alike S.shape true j _ _ (λ less.
+      ap₂ (λ (s t : List ℕ). s ++ t)
+      (seed-at bits pair.0 (j - 1) first_seeds firsts (omega (arith, less, j_low, first_each))
+      ∙ sym (shown.first.seed less))
+      (seed-at bits pair.1 (j - 1) second_seeds seconds (omega (arith, less, j_low, second_each))
+      ∙ sym (shown.second.seed less))) in
       λ i. record {
         client = c;
         turn = g;
         epoch = epoch_at H g c;
-        first = (sym (first-shown S.shape cell size h j pair low high j_low j_high differ)
-            ∙ ap (λ (vs : DrawnVectors). shown_vector S.shape h j vs.first)
-            (vectors_kept g c turn client)) i;
-        second = (sym (second-shown S.shape cell size h j pair low high j_low j_high differ)
-            ∙ ap (λ (vs : DrawnVectors). shown_vector S.shape h j vs.second)
-            (vectors_kept g c turn client)) i;
+        first = (vector-at bits pair.0 (j - 1) first_seeds firsts ∙ sym shown.first.vector) i;
+        second = (vector-at bits pair.1 (j - 1) second_seeds seconds ∙ sym shown.second.vector) i;
+        seeds = told i;
       }
 
   pub view-is : view S (drawn u) H j ≡ cells_view S.shape H h (normal S H h u) j

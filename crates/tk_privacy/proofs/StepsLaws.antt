@@ -1,14 +1,16 @@
 -- What the last server sees of reads changes the read cells.
-use Rattle.std.proofs.Common.{◌≡◌, ◌∙◌, ap, ap₂, sym, arith, ℕ, ◌-◌, ◌<◌, ◌≤◌, cond}
-use Rattle.std.proofs.Common.{List, [], length, drop}
+use Rattle.std.proofs.Common.{◌≡◌, ◌∙◌, ap, ap₂, sym, arith, ℕ, ◌-◌, ◌*◌, ◌<◌, ◌≤◌, cond}
+use Rattle.std.proofs.Common.{List, [], length, map, drop}
 use Rattle.std.proofs.lemmas.Bool.{lt-ltb, le-ltb}
-use Rattle.std.proofs.lemmas.List.{get_or_push}
-use Rattle.tk_shape.specs.Lengths.{turn_count, vector_len, tape_len}
+use Rattle.std.proofs.lemmas.List.{get_or_push, length-map}
+use Rattle.tk_shape.specs.Lengths.{turn_count, vector_len, piece_len, tape_len}
 use Rattle.tk_schedule.specs.declared.history.History.{History}
 use Rattle.tk_script.specs.declared.script.Script.{Script}
 use Rattle.tk_kernel.proofs.Offers.{length-pieces}
-use Rattle.tk_bits.specs.Shares.{last_share}
-use Rattle.tk_words.specs.Words.{drawn, words_of, vectors_of, read_cell, read_part, fresh_vectors}
+use Rattle.tk_bits.specs.Shares.{last_share, shares, share_at}
+use Rattle.tk_bits.proofs.Offers.{vector-at}
+use Rattle.tk_words.specs.Words.{drawn, words_of, cell_pieces, piece_seed, piece_vector}
+use Rattle.tk_words.specs.Words.{read_cell, read_part, fresh_seeds, fresh_vectors}
 use Rattle.tk_frames.specs.declared.read_frame.ReadFrame.{ReadFrame}
 use Rattle.tk_client.specs.Asked.{frame_with}
 use Rattle.tk_report.specs.Exchange.{read_pair, read_at}
@@ -18,36 +20,43 @@ use Rattle.tk_privacy.specs.Steps.{AreLastReads, reads_changed}
 use Rattle.tk_privacy.proofs.Tapes.{same-rows, same-read_part}
 
 module _ (S : Script) (H : History) (h : ℕ) (u : List ℕ) where
-  last-first : (g c : ℕ) → let cell = read_cell S.shape u g c in
+  -- the last of completed vectors
+  last-completed : (bucket : ℕ) (seeds vectors : List (List ℕ)) →
+      length vectors ≡ S.shape.servers - 1 →
+      (share_at (shares (vector_len S.shape) bucket seeds vectors) (S.shape.servers - 1)).vector
+      ≡ last_share (vector_len S.shape) bucket vectors
+  last-completed bucket seeds vectors counted =
+      let size = vector_len S.shape in
+      vector-at size bucket (S.shape.servers - 1) seeds vectors
+      ∙ get_or_push vectors (last_share size bucket vectors) [] (S.shape.servers - 1)
+      (omega (arith, counted))
+
+  last-first : (g c : ℕ) → let pieces = cell_pieces S.shape (read_cell S.shape u g c) in
       (read_at S (drawn u) H g c S.shape.servers).first
       ≡ last_share (vector_len S.shape) (read_pair S (words_of S.shape (drawn u)) H g c).0
-      (vectors_of S.shape (drop 8 cell)).first
-  unfolding read_at frame_with fresh_vectors
+      (map (piece_vector S.shape) pieces.first)
+  unfolding read_at frame_with fresh_seeds fresh_vectors
   last-first g c =
       let bytes = drop 8 (read_cell S.shape u g c) in
-      let vectors = (vectors_of S.shape bytes).first in
-      get_or_push vectors
-      (last_share (vector_len S.shape) (read_pair S (words_of S.shape (drawn u)) H g c).0 vectors)
-      [] (S.shape.servers - 1)
-      (omega (arith, length-pieces (vector_len S.shape) (S.shape.servers - 1) bytes))
+      let pieces = (cell_pieces S.shape (read_cell S.shape u g c)).first in
+      last-completed (read_pair S (words_of S.shape (drawn u)) H g c).0
+      (map (piece_seed S.shape) pieces) (map (piece_vector S.shape) pieces)
+      (length-map pieces (piece_vector S.shape)
+      ∙ length-pieces (piece_len S.shape) (S.shape.servers - 1) bytes)
 
-  last-second : (g c : ℕ) → let cell = read_cell S.shape u g c in
+  last-second : (g c : ℕ) → let pieces = cell_pieces S.shape (read_cell S.shape u g c) in
       (read_at S (drawn u) H g c S.shape.servers).second
       ≡ last_share (vector_len S.shape) (read_pair S (words_of S.shape (drawn u)) H g c).1
-      (vectors_of S.shape (drop 8 cell)).second
-  unfolding read_at frame_with fresh_vectors
+      (map (piece_vector S.shape) pieces.second)
+  unfolding read_at frame_with fresh_seeds fresh_vectors
   last-second g c =
-      let size = vector_len S.shape in
+      let size = piece_len S.shape in
       let bytes = drop 8 (read_cell S.shape u g c) in
-      let vectors = (vectors_of S.shape bytes).second in
-      get_or_push vectors
-      (last_share size (read_pair S (words_of S.shape (drawn u)) H g c).1 vectors)
-      [] (S.shape.servers - 1)
-      (omega (
-        arith,
-        length-pieces size (S.shape.servers - 1)
-            (drop (Rattle.std.specs.Prelude.◌*◌ (S.shape.servers - 1) size) bytes),
-      ))
+      let pieces = (cell_pieces S.shape (read_cell S.shape u g c)).second in
+      last-completed (read_pair S (words_of S.shape (drawn u)) H g c).1
+      (map (piece_seed S.shape) pieces) (map (piece_vector S.shape) pieces)
+      (length-map pieces (piece_vector S.shape)
+      ∙ length-pieces size (S.shape.servers - 1) (drop ((S.shape.servers - 1) * size) bytes))
 
   -- where the hidden server isn't the last
   changed-is : (g c : ℕ) → h < S.shape.servers →

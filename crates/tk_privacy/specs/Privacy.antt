@@ -1,5 +1,5 @@
 -- The change of drawn words under which one script shows what another one shows.
-use Rattle.std.specs.Prelude.{ℕ, ◌-◌, nat_lt, cond, List, [], ◌∷◌, ◌++◌, take, drop, flat_map}
+use Rattle.std.specs.Prelude.{ℕ, ◌-◌, nat_lt, true, cond, List, [], ◌∷◌, ◌++◌, map, take, flat_map}
 use Rattle.std.specs.Prelude.{slice_index_or, slice_set, Option, Some, None}
 use Rattle.std.specs.List.{range_with_len, concat}
 use Rattle.tk_shape.specs.declared.shape.Shape.{Shape}
@@ -9,10 +9,12 @@ use Rattle.tk_schedule.specs.Schedule.{epoch_at}
 use Rattle.tk_script.specs.declared.script.Script.{Script}
 use Rattle.tk_script.specs.Sent.{Sending, sent, sent_as, writer_of}
 use Rattle.tk_bits.specs.Shares.{last_share}
-use Rattle.tk_words.specs.Words.{drawn, cell_words, cell_sealed, cell_write, vectors_of, words_of}
+use Rattle.tk_words.specs.Words.{drawn, cell_words, cell_sealed, cell_write, words_of}
+use Rattle.tk_words.specs.Words.{cell_pieces, piece_seed, piece_vector}
 use Rattle.tk_words.specs.Words.{write_cell, read_cell, keyed_cell}
 use Rattle.tk_frames.specs.declared.read_frame.ReadFrame.{ReadFrame}
 use Rattle.tk_frames.specs.Spelling.{read_frame}
+use Rattle.tk_client.specs.Asked.{seeds_told}
 use Rattle.tk_client.specs.Writes.{dummy}
 use Rattle.tk_report.specs.Exchange.{read_pair, frames_before}
 
@@ -59,18 +61,24 @@ hidden_keyed_cell shape v c log s (Some y) = masked_cell shape y.text (write_cel
 
 -- ---- reads
 
--- drawn vector h of these becomes the share that a last server would get of a bucket
+-- piece h of these with this vector; its seed stays
+abbrev pub with_vector : Shape → ℕ → List ℕ → List (List ℕ) → List (List ℕ)
+with_vector shape h vector pieces =
+    slice_set pieces (h - 1) (piece_seed shape (slice_index_or pieces (h - 1) []) ++ vector)
+
+-- drawn vector h becomes the share that a last server would get of a bucket
 abbrev pub with_hidden : Shape → ℕ → ℕ → List (List ℕ) → List (List ℕ)
-with_hidden shape h bucket vectors =
-    slice_set vectors (h - 1) (last_share (vector_len shape) bucket vectors)
+with_hidden shape h bucket pieces =
+    with_vector shape h (last_share (vector_len shape) bucket (map (piece_vector shape) pieces))
+    pieces
 
 -- a read cell with drawn vector h of each bucket so changed
 unfoldable pub changed_read : Shape → ℕ → ℕ × ℕ → List ℕ → List ℕ
 changed_read shape h pair cell =
-    let vectors = vectors_of shape (drop 8 cell) in
+    let pieces = cell_pieces shape cell in
     take 8 cell
-    ++ (concat (with_hidden shape h pair.0 vectors.first)
-    ++ concat (with_hidden shape h pair.1 vectors.second))
+    ++ (concat (with_hidden shape h pair.0 pieces.first)
+    ++ concat (with_hidden shape h pair.1 pieces.second))
 
 -- the same unless the hidden server is the last
 abbrev pub shown_read_cell : Shape → ℕ → ℕ × ℕ → List ℕ → List ℕ
@@ -110,20 +118,22 @@ mirror A B H h u = unnormal B H h (normal A H h u)
 
 -- ---- what is shown, without a script
 
--- server j's vector of a changed read: its own drawn one, and for the last server the hidden
--- server's
-abbrev pub shown_vector : Shape → ℕ → ℕ → List (List ℕ) → List ℕ
-shown_vector shape h j vectors = slice_index_or vectors (cond (nat_lt j shape.servers) j h - 1) []
+-- server j's piece of a changed read: its own, and for the last server the hidden server's
+abbrev pub shown_piece : Shape → ℕ → ℕ → List (List ℕ) → List ℕ
+shown_piece shape h j pieces = slice_index_or pieces (cond (nat_lt j shape.servers) j h - 1) []
 
 unfoldable pub shown_read : Shape → History → ℕ → List ℕ → ℕ → ℕ → ℕ → ReadFrame
 shown_read shape H h v j g c =
-    let vectors = vectors_of shape (drop 8 (read_cell shape v g c)) in
+    let pieces = cell_pieces shape (read_cell shape v g c) in
+    let one = shown_piece shape h j pieces.first in
+    let other = shown_piece shape h j pieces.second in
     record {
       client = c;
       turn = g;
       epoch = epoch_at H g c;
-      first = shown_vector shape h j vectors.first;
-      second = shown_vector shape h j vectors.second;
+      first = piece_vector shape one;
+      second = piece_vector shape other;
+      seeds = seeds_told shape true j (piece_seed shape one ++ piece_seed shape other);
     }
 
 -- the frames that server j, which is not h, sees: each write is a write cell, and each read a read

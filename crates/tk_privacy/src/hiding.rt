@@ -67,7 +67,8 @@ impl<'a> Hiding<'a> {
     }
 }
 
-/// Appends a read cell whose vectors of the hidden server are replaced by those of a read frame.
+/// Appends a read cell whose vectors of the hidden server are replaced by those of a read frame. Its
+/// seeds stay.
 pub(crate) fn push_hidden(
     shape: &Shape,
     hidden: u32,
@@ -82,9 +83,10 @@ pub(crate) fn push_hidden(
         ++ cell_with shape.now hidden read.now.first read.now.second cell.now) }
 {
     let size = shape.vector_len() as usize;
-    let at = (hidden as usize - 1) * size;
-    let (front, vectors) = cell.split_at(8);
-    let (first, second) = vectors.split_at((shape.servers as usize - 1) * size);
+    let each = shape.piece_len() as usize;
+    let at = (hidden as usize - 1) * each + shape.seed_len() as usize;
+    let (front, pieces) = cell.split_at(8);
+    let (first, second) = pieces.split_at((shape.servers as usize - 1) * each);
     out.extend_from_slice(front)?;
     push_replaced(first, at, size, read.first.as_slice(), out)?;
     push_replaced(second, at, size, read.second.as_slice(), out)

@@ -6,7 +6,7 @@ use std::alloc::Global;
 use std::test::Fail;
 use tk_schedule::History;
 use tk_script::{Form, Script, parse};
-use tk_shape::{Differs, Field};
+use tk_shape::{Differs, Field, Shape};
 use tk_words::{DrawnDraws, Tape};
 
 /// Two clients and three servers, and a text for the second client.
@@ -69,6 +69,45 @@ x 0000000000000000a00bc00d
 fill 15 36
 end
 ",
+];
+
+/// Words for them in format 2, as bytes and how often each stands: two write cells, two read cells, and
+/// a keyed cell. In the second read cell each seed has bytes of its own.
+const SEEDED_WORDS: &[(u8, usize)] = &[
+    (0x15, 36),
+    (0x12, 36),
+    (0x21, 140),
+    (0x00, 8),
+    (0x51, 32),
+    (0xa0, 1),
+    (0x52, 32),
+    (0x0b, 1),
+    (0x53, 32),
+    (0xc0, 1),
+    (0x54, 32),
+    (0x0d, 1),
+    (0x31, 36),
+];
+
+/// The words over which the silent script shows the same to all servers but the first.
+const SEEDED_MIRRORED: &[(u8, usize)] = &[
+    (0x31, 13),
+    (0x33, 1),
+    (0x59, 1),
+    (0x58, 1),
+    (0x31, 20),
+    (0x12, 36),
+    (0x21, 140),
+    (0x00, 8),
+    (0x51, 32),
+    (0x82, 1),
+    (0x52, 32),
+    (0x0b, 1),
+    (0x53, 32),
+    (0xe2, 1),
+    (0x54, 32),
+    (0x0d, 1),
+    (0x15, 36),
 ];
 
 /// Two clients and two servers over two phases, and words for them.
@@ -149,6 +188,38 @@ fn read(alloc: Global, script: &[u8], words: &[u8]) -> Result<(Script, Tape), Fa
     Ok((input.first, tape))
 }
 
+/// The same script of drawn words in format 2.
+fn in_format_2(script: Script) -> Option<Script> {
+    let shape = Shape::of(2, script.shape.numbers()).ok()?;
+    if shape.tape_len() > 2097152 {
+        return None;
+    }
+    Some(Script {
+        shape,
+        keys: None,
+        roles: script.roles,
+        says: script.says,
+    })
+}
+
+/// A script in format 2, and the words that have each of these bytes so often.
+fn seeded(alloc: Global, script: &[u8], words: &[(u8, usize)]) -> Result<(Script, Tape), Fail>
+    ensures { IfOk result (λ both. length both.1 ≡ tape_len both.0.shape) }
+{
+    let (script, _tape) = read(alloc, script, WORDS)?;
+    let script = in_format_2(script).ok_or("format 2")?;
+    let mut bytes = Vec::new(alloc);
+    for (byte, count) in words {
+        for _ in 0..*count {
+            bytes.push(*byte)?;
+        }
+    }
+    let tape = Tape::from_bytes(&script.shape, bytes)
+        .ok()
+        .ok_or("its length")?;
+    Ok((script, tape))
+}
+
 /// What the mirror of two scripts is over the serial history, with the words of the first.
 fn mirrored(
     alloc: Global,
@@ -180,6 +251,36 @@ fn mirrored_words(rt: HostRuntime) -> Result<(), Fail> {
     Ok(())
 }
 
+/// The same of scripts in format 2.
+fn seeded_mirrored(
+    alloc: Global,
+    first: (&[u8], &[(u8, usize)]),
+    second: &[u8],
+    hidden: u32,
+) -> Result<Result<Tape, MirrorError>, Fail> {
+    let (a, tape) = seeded(alloc, first.0, first.1)?;
+    let (b, _tape) = seeded(alloc, second, SEEDED_WORDS)?;
+    let history = History::serial(alloc, &a.shape)?;
+    Ok(mirror(alloc, &a, &b, &history, hidden, tape))
+}
+
+// the hidden server's vectors are replaced, and its seeds stay
+#[test]
+fn mirrored_words_with_seeds(rt: HostRuntime) -> Result<(), Fail> {
+    let alloc = rt.alloc();
+    let (_script, there) = seeded(alloc, SILENT, SEEDED_MIRRORED)?;
+    let found = seeded_mirrored(alloc, (SPEAKING, SEEDED_WORDS), SILENT, 1)?;
+    assert_eq!(rt; found.ok().ok_or("mirrored")?.as_bytes(), there.as_bytes());
+
+    let (_script, back) = seeded(alloc, SPEAKING, SEEDED_WORDS)?;
+    let found = seeded_mirrored(alloc, (SILENT, SEEDED_MIRRORED), SPEAKING, 1)?;
+    assert_eq!(rt;
+        found.ok().ok_or("mirrored back")?.as_bytes(),
+        back.as_bytes()
+    );
+    Ok(())
+}
+
 #[test]
 fn mirrors_refused(rt: HostRuntime) -> Result<(), Fail> {
     let alloc = rt.alloc();
@@ -201,9 +302,32 @@ fn mirrors_refused(rt: HostRuntime) -> Result<(), Fail> {
     Ok(())
 }
 
+#[test]
+fn mirror_of_another_format_refused(rt: HostRuntime) -> Result<(), Fail> {
+    let alloc = rt.alloc();
+    let (a, tape) = read(alloc, SPEAKING, WORDS)?;
+    let (b, _tape) = seeded(alloc, SILENT, SEEDED_WORDS)?;
+    let history = History::serial(alloc, &a.shape)?;
+    let formats = MirrorError::Shapes(Differs {
+        field: Field::Format,
+        a: 1,
+        b: 2,
+    });
+    let found = mirror(alloc, &a, &b, &history, 1, tape);
+    assert_eq!(rt; found.err(), Some(formats));
+    Ok(())
+}
+
 /// The frames that a server sees over the serial history, a line of hexadecimal digits each.
 fn seen(alloc: Global, script: &[u8], words: &[u8], server: u32) -> Result<Vec<u8>, Fail> {
     let (script, tape) = read(alloc, script, words)?;
+    seen_over(alloc, script, tape, server)
+}
+
+/// The same of a script over these words.
+fn seen_over(alloc: Global, script: Script, tape: Tape, server: u32) -> Result<Vec<u8>, Fail>
+    requires { length tape ≡ tape_len script.shape }
+{
     let history = History::serial(alloc, &script.shape)?;
     let draws = DrawnDraws::new(&script.shape, tape);
     if server < 1 || server > script.shape.servers {
@@ -239,6 +363,19 @@ fn views_of_mirrored_words(rt: HostRuntime) -> Result<(), Fail> {
             let silent = seen(alloc, SILENT, words, server)?;
             assert_eq!(rt; speaking.as_slice() == silent.as_slice(), server != hidden);
         }
+    }
+    Ok(())
+}
+
+#[test]
+fn views_of_mirrored_words_with_seeds(rt: HostRuntime) -> Result<(), Fail> {
+    let alloc = rt.alloc();
+    for server in 1..4 {
+        let (script, tape) = seeded(alloc, SPEAKING, SEEDED_WORDS)?;
+        let speaking = seen_over(alloc, script, tape, server)?;
+        let (script, tape) = seeded(alloc, SILENT, SEEDED_MIRRORED)?;
+        let silent = seen_over(alloc, script, tape, server)?;
+        assert_eq!(rt; speaking.as_slice() == silent.as_slice(), server != 1);
     }
     Ok(())
 }

@@ -6,6 +6,7 @@ ghost use Rattle.tk_words.specs.Words.{WordBook, words_of};
 ghost use Rattle.tk_frames.specs.declared.read_frame.ReadFrame.{ReadFrame as FrameOfRead};
 ghost use Rattle.tk_report.specs.Entries.{write_at};
 ghost use Rattle.tk_report.specs.Exchange as told;
+ghost use Rattle.tk_client.specs.Framing.{AreAllTold};
 ghost use Rattle.tk_privacy.specs.Views.{IsViewBefore, frame_in};
 
 use crate::entering::enter_turn;
@@ -66,6 +67,7 @@ fn all_frames<D: Draws>(
 ) -> Result<Vec<Bytes>, Memory>
     requires counted { let shape = plan.now.script.now.shape in
         length reads.now ≡ turn_count shape * shape.clients }
+    requires told { AreAllTold reads.now }
     ensures { let S = plan.now.script.now in
         let words = words_of S.shape (D.book plan.now.draws.now) in
         IfOk result (λ frames. frames.items ≡ told.frames_before S.shape plan.now.history.now
@@ -104,6 +106,7 @@ fn view_turn<D: Draws>(
     requires turn_in { turn < turn_count plan.now.script.now.shape }
     requires counted { let shape = plan.now.script.now.shape in
         length reads.now ≡ turn_count shape * shape.clients }
+    requires told { AreAllTold reads.now }
     requires viewed { IsViewBefore plan.now.script.now (D.book plan.now.draws.now)
         plan.now.history.now reads.now turn viewed.old }
     ensures { OnOk result (IsViewBefore plan.now.script.now (D.book plan.now.draws.now)

@@ -2,6 +2,8 @@ ghost use Rattle.std.specs.Prelude.{◌≡◌, ◌+◌, ◌*◌, ◌<◌, ◌^�
 ghost use Rattle.std.specs.List.{range_with_len};
 ghost use Rattle.tk_shape.specs.Lengths.{turn_count};
 ghost use Rattle.tk_frames.specs.Spelling.{placed_frame, read_frame};
+ghost use Rattle.tk_frames.specs.Ranges.{AreTold};
+ghost use Rattle.tk_client.specs.Framing.{AreAllTold};
 ghost use Rattle.tk_privacy.specs.Views.{frame_in};
 
 use crate::cells::place;
@@ -42,6 +44,7 @@ impl Seen {
     ) -> Result<(), Memory>
         requires turn_in { turn < turn_count shape.now }
         requires counted { length reads.now ≡ turn_count shape.now * shape.now.clients }
+        requires told { AreAllTold reads.now }
         ensures entries { OnOk result (self.new.entries ≡ self.old.entries) }
         ensures frames { OnOk result (self.new.frames.items
             ≡ self.old.frames.items ++ flat_map (frame_in shape.now reads.now turn)
@@ -56,6 +59,7 @@ impl Seen {
 
     /// Sees a read.
     fn read(&mut self, alloc: Global, read: &ReadFrame) -> Result<(), Memory>
+        requires told { AreTold read.now.seeds read.now.first read.now.second }
         ensures entries { OnOk result (self.new.entries ≡ self.old.entries) }
         ensures frames { OnOk result (self.new.frames.items
             ≡ self.old.frames.items ++ read_frame read.now ∷ []) }

@@ -15,10 +15,12 @@ use Rattle.tk_schedule.proofs.Offers.{serial-IsLegal}
 use Rattle.tk_privacy.specs.Privacy.{mirror, normal, cells_view}
 use Rattle.tk_privacy.specs.Laws.{AreMirrored}
 
-pub shape_ranges : IsShape 3 8 4 4 24 64 1 0 2 1 1 1
+pub shape_ranges : IsShape 1 3 8 4 4 24 64 1 0 2 1 1 1
 unfolding computing
 shape_ranges =
     record {
+      format_low = lit≤ tt;
+      format_high = lit≤ tt;
       servers_low = lit≤ tt;
       servers_high = lit≤ tt;
       buckets_power = refl;
@@ -52,6 +54,7 @@ shape_ranges =
 abbrev pub shape : Shape
 shape =
     record {
+      format = 1;
       servers = 3;
       buckets = 8;
       depth = 4;

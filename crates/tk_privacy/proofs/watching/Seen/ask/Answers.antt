@@ -1,11 +1,13 @@
 -- The read frame of the client's turn lies at its place.
-use Rattle.std.proofs.Common.{◌≡◌, ◌∙◌, ◌<◌, ◌++◌, ◌∷◌, [], ap, ap₂, sym, arith, List, ℕ, length}
+use Rattle.std.proofs.Common.{◌≡◌, ◌∙◌, ◌<◌, ◌++◌, ◌∷◌, [], ap, ap₂, sym, subst, arith, List, ℕ, length}
 use Rattle.std.proofs.Common.{get_or, flat_map, append_assoc}
 use Rattle.std.specs.List.{range_with_len}
 use Rattle.std.proofs.lemmas.List.{get_or_default}
+use Rattle.std.proofs.lemmas.List.Elements.{All-from_recursion, All-get_or}
 use Rattle.tk_shape.specs.Lengths.{turn_count}
 use Rattle.tk_frames.specs.declared.read_frame.ReadFrame.{ReadFrame}
 use Rattle.tk_frames.specs.Spelling.{read_frame}
+use Rattle.tk_frames.specs.Ranges.{AreTold}
 use Rattle.tk_words.specs.CellLaws.{place_within}
 use Rattle.tk_privacy.specs.Hiding.{blank_read, read_in}
 use Rattle.tk_privacy.specs.Views.{frame_in}
@@ -20,6 +22,27 @@ bounds-reads-place c =
     c.requires.turn_in c.loop-client-test.true
     in
     omega (arith, within, c.requires.counted, c.place.ensures)
+
+pub read-requires : goal.read-requires
+read-requires c =
+    let shape = c.args.shape.now in
+    let reads = c.args.reads.now in
+    let at = c.place.result in
+    let read = c.index-reads-place.result in
+    let IsTold = λ (r : ReadFrame). AreTold r.seeds r.first r.second in
+    let within : at < length reads =
+    omega (
+      arith,
+      place_within c.args.turn c.loop-client.client (turn_count shape) shape.clients 1
+          c.requires.turn_in c.loop-client-test.true,
+      c.requires.counted,
+      c.place.ensures,
+    )
+    in
+    let told : IsTold (get_or reads at read) =
+    All-get_or IsTold reads at read within (All-from_recursion IsTold reads c.requires.told)
+    in
+    record { told = subst IsTold (sym c.index-reads-place.is) told }
 
 pub loop-client-preserved : goal.loop-client-preserved
 loop-client-preserved c =
