@@ -22,6 +22,12 @@ const SHAPES: Status = Status::Shapes {
     b: 128,
 };
 
+const FORMATS: Status = Status::Shapes {
+    field: Field::Format,
+    a: 1,
+    b: 2,
+};
+
 const WORK: Cause = Cause::Shape {
     field: Field::Work,
     value: 549755813889,
@@ -57,6 +63,7 @@ fn status_lines(rt: HostRuntime) -> Result<(), Fail> {
         (Status::TooLong, "talek: input over 8388608 bytes", 6),
         (Status::History { at: 13 }, "talek: history line 13", 7),
         (SHAPES, "talek: shapes filter 64 128", 8),
+        (FORMATS, "talek: shapes format 1 2", 8),
         (Status::Tape { want: 256, got: 0 }, "talek: tape 256 0", 9),
         (
             Status::Hidden { got: 4, servers: 3 },

@@ -1,4 +1,4 @@
-ghost use Rattle.std.specs.Prelude.{◌≡◌, ◌+◌, Some, IfOk, IfSome, []};
+ghost use Rattle.std.specs.Prelude.{◌≡◌, ◌+◌, ◌≤◌, Some, IfOk, IfSome, []};
 ghost use Rattle.tk_frames.specs.Ranges.{IsWrite};
 ghost use Rattle.tk_order.specs.Seats.{seated, opened};
 
@@ -8,7 +8,8 @@ use std::process::Abort;
 use std::sync::Wait;
 use std::test::Fail;
 use tk_frames::{
-    Entry, FrameError, ReadFrame, WriteFrame, decode_reply, decode_write, encode_read, encode_write,
+    Entry, FrameError, ReadFrame, Seeds, WriteFrame, decode_reply, decode_write, encode_read,
+    encode_write,
 };
 use tk_order::{Blank, Naming, Order, OrderSeat};
 use tk_replica::{PinError, Replica, ReplicaState, ServeError};
@@ -16,11 +17,13 @@ use tk_shape::{Bytes, Shape, Words};
 
 /// An order of two clients, of four phases of one tick, with eight buckets of four slots, and
 /// blocks of 24 bytes. It has the seats of the marks and of client 0.
-fn blank(alloc: Global) -> Result<Blank, Fail>
+fn blank(alloc: Global, format: u32) -> Result<Blank, Fail>
+    requires low { 1 ≤ format }
+    requires high { format ≤ 2 }
     ensures { IfOk result (λ b. b.seats ≡ 2) }
 {
     let numbers = [2, 8, 4, 4, 24, 64, 1, 0, 2, 4, 1, 1];
-    let shape = Shape::new(numbers).ok().ok_or("shape")?;
+    let shape = Shape::of(format, numbers).ok().ok_or("shape")?;
     Ok(Blank::new(alloc, &shape, 2).ok().ok_or("blank")?)
 }
 
@@ -162,7 +165,7 @@ fn three_lengths<B: Naming, R: Wait + Abort>(
 #[test]
 fn replicas_advance_to_lengths_of_their_own(rt: HostRuntime) -> Result<(), Fail> {
     let alloc = rt.alloc();
-    three_lengths::<Brand, _>(&rt, alloc, blank(alloc)?)
+    three_lengths::<Brand, _>(&rt, alloc, blank(alloc, 1)?)
 }
 
 /// After three marks the epochs below 2 are let go, and what is asked then.
@@ -195,7 +198,7 @@ fn released<B: Naming, R: Wait + Abort>(rt: &R, alloc: Global, blank: Blank) -> 
 #[test]
 fn a_held_state_pins_and_serves(rt: HostRuntime) -> Result<(), Fail> {
     let alloc = rt.alloc();
-    released::<Brand, _>(&rt, alloc, blank(alloc)?)
+    released::<Brand, _>(&rt, alloc, blank(alloc, 1)?)
 }
 
 /// Epochs, and why each isn't kept, if it isn't.
@@ -222,6 +225,7 @@ fn read(alloc: Global, epoch: u32) -> Option<Bytes> {
         epoch,
         first: Bytes::from_slice(alloc, &[4]).ok()?,
         second: Bytes::from_slice(alloc, &[4]).ok()?,
+        seeds: Seeds::Plain,
     };
     let mut bytes = Vec::new(alloc);
     encode_read(&frame, &mut bytes).ok()?;
@@ -288,4 +292,76 @@ fn serves_together<R: Abort>(rt: &R, alloc: Global, state: &ReplicaState) -> Res
     let bad = state.serve_all(alloc, frames.as_slice()).err();
     assert!(rt; bad == Some(ServeError::Retired { floor: 2 }));
     Ok(())
+}
+
+/// The kind of a read, and what comes after its asker: a vector with bucket 2 and then one with an
+/// empty bucket alone, as they are, by the seeds that expand to them, and after other seeds.
+const ALIKE: [(u8, &[&[u8]]); 3] = [
+    (2, &[b"\x76\x08"]),
+    (6, &[&[0; 32], &[0x2b; 32]]),
+    (7, &[&[0x51; 64], b"\x76\x08"]),
+];
+
+/// The frames of those reads, of client 1 in turn 3 over epoch 2.
+fn alike(alloc: Global) -> Option<Vec<Bytes>> {
+    let mut frames = Vec::new(alloc);
+    for (kind, parts) in &ALIKE {
+        let mut bytes = Vec::new(alloc);
+        bytes.push(*kind).ok()?;
+        bytes
+            .extend_from_slice(b"\x01\0\0\0\x01\0\0\0\x03\0\0\0\x02")
+            .ok()?;
+        for part in *parts {
+            bytes.extend_from_slice(part).ok()?;
+        }
+        frames.push(Bytes::from_vec(bytes)).ok()?;
+    }
+    Some(frames)
+}
+
+/// Whether a reply has bucket 2 of epoch 2, and then an empty one.
+fn has_bucket(alloc: Global, shape: &Shape, bytes: &[u8]) -> bool {
+    let Ok(reply) = decode_reply(alloc, shape, bytes) else {
+        return false;
+    };
+    (reply.client, reply.turn, reply.epoch) == (1, 3, 2)
+        && reply.first.as_slice() == bucket().as_slice()
+        && reply.second.as_slice() == [0; 160].as_slice()
+}
+
+/// A replica of format 2 after three marks, and reads of each kind with the same vectors.
+fn served_alike<B: Naming, R: Wait + Abort>(rt: &R, alloc: Global, blank: Blank) -> Result<(), Fail>
+    requires table { blank.table ≡ B.table }
+    requires shape { blank.shape ≡ B.shape }
+    requires seats { blank.seats ≡ 2 }
+{
+    let shape = blank.shape();
+    let (order, seats) = Order::<B>::open(rt, alloc, blank).ok().ok_or("open")?;
+    let order = &order;
+    let desk = Desk {
+        order,
+        shape,
+        alloc,
+    };
+    let mut seat = desk.three_marks(rt, seats).ok_or("marks")?;
+    let replica = desk.open(&mut seat).ok_or("replica")?;
+    assert!(rt; desk.advance(rt, &replica, &mut seat, 6) == Some((3, 6)));
+    let mut held = replica.hold(rt);
+    held.agree(order, &mut seat);
+    let frames = alike(alloc).ok_or("reads")?;
+    let together = held.state().serve_all(alloc, frames.as_slice());
+    let together = together.ok().ok_or("together")?;
+    assert!(rt; together.len() == 3);
+    for (frame, reply) in frames.iter().zip(together.iter()) {
+        let alone = held.state().serve(alloc, frame.as_slice());
+        assert!(rt; has_bucket(alloc, &shape, alone.ok().ok_or("alone")?.as_slice()));
+        assert!(rt; has_bucket(alloc, &shape, reply.as_slice()));
+    }
+    Ok(())
+}
+
+#[test]
+fn reads_of_each_kind_are_served_alike(rt: HostRuntime) -> Result<(), Fail> {
+    let alloc = rt.alloc();
+    served_alike::<Brand, _>(&rt, alloc, blank(alloc, 2)?)
 }

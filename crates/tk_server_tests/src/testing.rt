@@ -6,7 +6,7 @@ ghost use Rattle.tk_cluster.specs.Passes.{Stays};
 use std::alloc::Global;
 use std::sync::{Arc, Wait};
 use tk_cluster::{Cluster, EpochSet, Pass, Publisher, Told, WriteError};
-use tk_frames::{ReadFrame, WriteFrame, encode_read, encode_write};
+use tk_frames::{ReadFrame, Seeds, WriteFrame, encode_read, encode_write};
 use tk_order::{Blank, Naming};
 use tk_shape::{Bytes, Memory, Shape, Words};
 
@@ -53,6 +53,7 @@ pub(crate) fn read_by(alloc: Global, epoch: u32, vectors: [u8; 2]) -> Option<Byt
         epoch,
         first: Bytes::from_slice(alloc, &[vectors[0]]).ok()?,
         second: Bytes::from_slice(alloc, &[vectors[1]]).ok()?,
+        seeds: Seeds::Plain,
     };
     let mut bytes = Vec::new(alloc);
     encode_read(&frame, &mut bytes).ok()?;

@@ -14,7 +14,7 @@ fn small_shape() -> Result<Shape, Fail> {
 }
 
 /// Bytes, with zeros after them up to a length.
-fn padded(alloc: Global, front: &[u8], len: usize) -> Result<Vec<u8>, AllocError> {
+pub(crate) fn padded(alloc: Global, front: &[u8], len: usize) -> Result<Vec<u8>, AllocError> {
     let mut bytes = Vec::from_slice(alloc, front)?;
     bytes.resize(len, 0)?;
     Ok(bytes)

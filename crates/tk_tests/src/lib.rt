@@ -39,6 +39,8 @@ mod script_tests;
 #[cfg(test)]
 mod seal_tests;
 #[cfg(test)]
+mod seed_tests;
+#[cfg(test)]
 mod shape_tests;
 #[cfg(test)]
 mod table_tests;

@@ -1,3 +1,5 @@
+ghost use Rattle.std.specs.Prelude.{◌≡◌, IfOk};
+
 use std::alloc::Global;
 use std::test::Fail;
 use tk_schedule::{Item, RawKind, RawLine};
@@ -31,14 +33,18 @@ pub(crate) fn join(parts: &[&[u8]], text: &mut Vec<u8>) -> Result<(), Memory> {
 }
 
 /// The input of a form that parts of a text spell.
-fn parsed_as(alloc: Global, parts: &[&[u8]], form: Form) -> Result<Input, ScriptError> {
+fn parsed_as(alloc: Global, parts: &[&[u8]], form: Form) -> Result<Input, ScriptError>
+    ensures { IfOk result (λ input. input.first.shape.format ≡ 1) }
+{
     let mut text = Vec::new(alloc);
     join(parts, &mut text)?;
     parse(alloc, &text, form)
 }
 
 /// The input that parts of a text spell.
-pub(crate) fn parsed(alloc: Global, parts: &[&[u8]]) -> Result<Input, ScriptError> {
+pub(crate) fn parsed(alloc: Global, parts: &[&[u8]]) -> Result<Input, ScriptError>
+    ensures { IfOk result (λ input. input.first.shape.format ≡ 1) }
+{
     parsed_as(alloc, parts, Form::Run)
 }
 

@@ -27,6 +27,34 @@ fn lengths_of_a_small_shape(rt: HostRuntime) -> Result<(), Fail> {
 }
 
 #[test]
+fn lengths_of_format_2(rt: HostRuntime) -> Result<(), Fail> {
+    let plain = Shape::new(SMALL).ok().ok_or("in range")?;
+    let shape = Shape::of(2, SMALL).ok().ok_or("in range")?;
+    assert_eq!(rt; shape.numbers().as_slice(), SMALL.as_slice());
+    let lengths = [
+        (shape.seed_len(), 32),
+        (shape.piece_len(), 33),
+        (shape.read_cell_len(), 74),
+        (shape.read_len(), 16),
+        (shape.seed_read_len(false), 78),
+        (shape.seed_read_len(true), 80),
+    ];
+    for (got, want) in lengths {
+        assert_eq!(rt; got, want);
+    }
+    assert_eq!(rt; shape.tape_len(), 512);
+    assert_eq!(rt;
+        plain.differs(&shape),
+        Some(Differs {
+            field: Field::Format,
+            a: 1,
+            b: 2,
+        })
+    );
+    Ok(())
+}
+
+#[test]
 fn broken_limits(rt: HostRuntime) {
     let servers = [1, 8, 4, 4, 24, 64, 1, 0, 2, 2, 1, 1];
     let schedule = [2, 8, 4, 4, 24, 64, 1, 0, 64, 256, 4, 1];

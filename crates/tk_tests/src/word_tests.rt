@@ -10,6 +10,7 @@ use tk_words::{Book, DrawnDraws, Draws, KeyedDraws, LogSeeds, Tape, TapeError};
 
 // Two servers, eight buckets, two clients, two turns and one log.
 fn small() -> Result<Shape, Memory>
+    ensures format { IfOk result (λ s. s.format ≡ 1) }
     ensures servers { IfOk result (λ s. s.servers ≡ 2) }
     ensures buckets { IfOk result (λ s. s.buckets ≡ 8) }
     ensures block { IfOk result (λ s. s.block ≡ 24) }
@@ -98,6 +99,7 @@ fn gives_sealed<D: Draws>(draws: &D, given: &Given) -> bool
 
 // Whether client 1 writes and reads so in turn 1 where it has nothing to write or to read.
 fn gives_fresh<D: Draws>(draws: &D, given: &Given) -> bool
+    requires format { (D.shape draws.now).format ≡ 1 }
     requires servers { (D.shape draws.now).servers ≡ 2 }
     requires buckets { (D.shape draws.now).buckets ≡ 8 }
     requires clients { (D.shape draws.now).clients ≡ 2 }
@@ -111,8 +113,9 @@ fn gives_fresh<D: Draws>(draws: &D, given: &Given) -> bool
     if pair != given.write_pair || hits != given.write_hits || block != given.block {
         return false;
     }
+    let mut seeds = [0; 0];
     let mut vectors = [9; 2];
-    let pair = draws.fresh_read(1, 1, &mut vectors);
+    let pair = draws.fresh_read(1, 1, &mut seeds, &mut vectors);
     pair == given.read_pair && vectors == given.vectors
 }
 
