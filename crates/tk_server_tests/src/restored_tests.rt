@@ -138,37 +138,76 @@ fn agree(a: &ReplicaState, b: &ReplicaState, number: u32) -> Result<bool, Fail> 
     Ok(lengths && same(&first, &second) && a.slots().positions() == b.slots().positions())
 }
 
-#[test]
-fn a_restored_state_goes_on_over_three_marks(rt: HostRuntime) -> Result<(), Fail> {
-    let alloc = rt.alloc();
-    let shape = shape()?;
-    let mut never_stopped = marked(alloc, &shape)?;
-    let mut state = restored(alloc, &shape)?;
-    assert!(rt; agree(&never_stopped, &state, 1)?);
-    assert!(rt; state.floor() == 1);
-    assert!(rt; state.pin(0).err() == Some(PinError::Retired { floor: 1 }));
-    assert!(rt;
-        state
-            .window()
-            .filter(alloc)
-            .ok()
-            .ok_or("filter")?
-            .shows(&[0, 1])
-    );
-    for mark in 2..5 {
-        for client in 0..2 {
-            apply(alloc, &mut never_stopped, write(alloc, client, mark - 1)?)?;
-            apply(alloc, &mut state, write(alloc, client, mark - 1)?)?;
-        }
-        apply(alloc, &mut never_stopped, Entry::Mark(mark))?;
-        apply(alloc, &mut state, Entry::Mark(mark))?;
-        for number in 1..mark + 1 {
-            assert!(rt;
-                agree(&never_stopped, &state, number)?,
-                "mark {mark}, epoch {number}"
-            );
+/// Applies the two writes of the turn before a mark, and the mark.
+fn go_on(alloc: Global, state: &mut ReplicaState, mark: u32) -> Result<(), Fail> {
+    for client in 0..2 {
+        apply(alloc, state, write(alloc, client, mark.saturating_sub(1))?)?;
+    }
+    apply(alloc, state, Entry::Mark(mark))
+}
+
+/// Whether two states have the same epochs from 1 to this one.
+fn agree_up_to(a: &ReplicaState, b: &ReplicaState, mark: u32) -> Result<bool, Fail> {
+    for number in 1..mark.saturating_add(1) {
+        if !agree(a, b, number)? {
+            return Ok(false);
         }
     }
-    assert!(rt; state.applied() == 12 && state.slots().positions() == [10, 11].as_slice());
+    Ok(true)
+}
+
+/// Whether a state begins with epoch 1, and its window shows the positions of both writes.
+fn begins_with_epoch_1(alloc: Global, state: &ReplicaState) -> Result<bool, Fail> {
+    let filter = state.window().filter(alloc).ok().ok_or("filter")?;
+    let before = state.pin(0).err();
+    Ok(
+        state.floor() == 1
+            && before == Some(PinError::Retired { floor: 1 })
+            && filter.shows(&[0, 1]),
+    )
+}
+
+/// Whether two states agree after each of three more marks.
+fn agree_after_three_marks(
+    alloc: Global,
+    a: &mut ReplicaState,
+    b: &mut ReplicaState,
+) -> Result<bool, Fail> {
+    for mark in 2..5 {
+        go_on(alloc, a, mark)?;
+        go_on(alloc, b, mark)?;
+        if !agree_up_to(a, b, mark)? {
+            return Ok(false);
+        }
+    }
+    Ok(b.applied() == 12 && b.slots().positions() == [10, 11].as_slice())
+}
+
+/// A state that never stopped, and the same made of its parts.
+fn both(alloc: Global) -> Result<Vec<ReplicaState>, Fail> {
+    let shape = shape()?;
+    let mut states = Vec::new(alloc);
+    states.push(marked(alloc, &shape)?)?;
+    states.push(restored(alloc, &shape)?)?;
+    Ok(states)
+}
+
+/// Whether both agree from the first epoch that they keep on.
+fn both_go_on_alike(alloc: Global, states: &mut [ReplicaState]) -> Result<bool, Fail> {
+    match states {
+        [a, b] => {
+            if !agree(a, b, 1)? || !begins_with_epoch_1(alloc, b)? {
+                return Ok(false);
+            }
+            agree_after_three_marks(alloc, a, b)
+        }
+        _ => Ok(false),
+    }
+}
+
+#[test]
+fn a_restored_state_goes_on_over_three_marks(rt: HostRuntime) -> Result<(), Fail> {
+    let mut states = both(rt.alloc())?;
+    assert!(rt; both_go_on_alike(rt.alloc(), states.as_mut_slice())?);
     Ok(())
 }
