@@ -2,3 +2,6 @@
 
 -- A shape is given by its format and its numbers.
 pub use Rattle.tk_shape.proofs.OneShape.{one_shape}
+-- Numbers that break no limit are in range, and make a shape; a shape's numbers break none.
+pub use Rattle.tk_shape.proofs.InRange.{in_range, shape_of}
+pub use Rattle.tk_shape.proofs.NoneBroken.{none_broken}

@@ -3,6 +3,7 @@ use Rattle.std.specs.Prelude.{ℕ, ◌+◌, ◌*◌, nat_le, not, ◌&&◌, Bool
 use Rattle.std.specs.Int.{is_power_of_two}
 use Rattle.tk_shape.specs.declared.field.Field.{Field}
 use Rattle.tk_shape.specs.declared.field.Field.TheVariants as field
+use Rattle.tk_shape.specs.Ranges.{most_buckets}
 
 -- the format and the numbers of a shape, in range or not
 pub record Numbers : Type 0 where
@@ -67,7 +68,7 @@ limit f n ok = record { field = f; value = n; kept = ok }
 abbrev pub limits : Numbers → List Limit
 limits n =
     limit field.Servers n.servers (is_between 2 8 n.servers)
-    ∷ limit field.Buckets n.buckets (is_power_of_two n.buckets && is_between 8 4096 n.buckets)
+    ∷ limit field.Buckets n.buckets (is_power_of_two n.buckets && is_between 8 (most_buckets n.format) n.buckets)
     ∷ limit field.Depth n.depth (is_between 1 8 n.depth)
     ∷ limit field.Retained n.retained (is_between 1 (n.buckets * n.depth) n.retained)
     ∷ limit field.Block n.block (is_between 24 1024 n.block)

@@ -1,5 +1,6 @@
 ghost use Rattle.std.specs.Prelude.{◌≡◌, ◌≤◌, IfOk, IfErr, OnOk, Some, None, Err, false};
 ghost use Rattle.tk_shape.specs.Ranges.{IsShape};
+ghost use Rattle.tk_shape.specs.Ranges as ranges;
 
 use crate::Field;
 
@@ -10,7 +11,7 @@ pub struct Shape {
     pub format: u32,
     /// Replicated servers, 2 to 8.
     pub servers: u32,
-    /// Buckets of a table: a power of two, 8 to 4,096.
+    /// Buckets of a table: a power of two, 8 to 4,096 in format 1 and 8 to 16,384 in format 2.
     pub buckets: u32,
     /// Slots of a bucket, 1 to 8.
     pub depth: u32,
@@ -83,7 +84,7 @@ impl Shape {
         if servers < 2 || servers > 8 {
             return breaks(Field::Servers, servers);
         }
-        if !buckets.is_power_of_two() || buckets < 8 || buckets > 4096 {
+        if !buckets.is_power_of_two() || buckets < 8 || buckets > most_buckets(format) {
             return breaks(Field::Buckets, buckets);
         }
         if depth < 1 || depth > 8 {
@@ -182,6 +183,14 @@ impl Shape {
             logs,
         ]
     }
+}
+
+/// Format 2 sends most servers no vectors, and has room for longer ones.
+fn most_buckets(format: u32) -> u32
+    ensures value { result ≡ ranges.most_buckets format }
+    ensures most { result ≤ 16384 }
+{
+    if format == 2 { 16384 } else { 4096 }
 }
 
 fn breaks(field: Field, value: u32) -> Result<Shape, ShapeError>
