@@ -4,3 +4,4 @@ pub mod Numbers
 pub mod Lengths
 pub mod Differences
 pub mod Names
+pub mod Lifting

@@ -6,6 +6,7 @@ mod bytes;
 mod differs;
 mod field;
 mod lengths;
+mod lifting;
 mod memory;
 mod shape;
 mod words;
