@@ -1,5 +1,5 @@
 -- Parts that are written one after the other, each made of a piece of bytes.
-use Rattle.std.proofs.Common.{◌≡◌, ℕ, suc, ◌+◌, ◌-◌, ◌*◌, ◌<◌, ◌≤◌, List, ◌++◌, length, map, take, drop, ap, ap₂, sym, ◌∙◌, arith, append_assoc, length-append}
+use Rattle.std.proofs.Common.{◌≡◌, ℕ, suc, ◌+◌, ◌-◌, ◌*◌, ◌<◌, ◌≤◌, List, ◌++◌, length, map, take, drop, ap, ap₂, sym, ◌∙◌, arith, append_assoc, append-nil, length-append}
 use Rattle.std.specs.List.{flat_map}
 use Rattle.std.proofs.Math.Nat.{mul-le-mul_right}
 use Rattle.std.proofs.lemmas.List.{take_at, length-take-le}
@@ -35,6 +35,21 @@ part_written f size s i count old new part rest all low room is made long so_far
     ∙ ap (λ n. before ++ flat_map f (pieces s n rest)) (sym more)
     ∙ so_far
 
+-- one part more is appended; what is made of the pieces that are left is still to come
+pub part_appended : (f : List ℕ → List ℕ) (s i count : ℕ) (old new part rest all : List ℕ) → i < count →
+    new ≡ old ++ part → part ≡ f (take s rest) →
+    old ++ flat_map f (pieces s (count - i) rest) ≡ all →
+    new ++ flat_map f (pieces s (count - (i + 1)) (drop s rest)) ≡ all
+part_appended f s i count old new part rest all low is made so_far =
+    let k = count - (i + 1) in
+    let more : count - i ≡ suc k = omega (arith, low) in
+    let others = flat_map f (pieces s k (drop s rest)) in
+    ap (λ (xs : List ℕ). xs ++ others) is
+    ∙ append_assoc old part others
+    ∙ ap (λ (xs : List ℕ). old ++ (xs ++ others)) made
+    ∙ ap (λ n. old ++ flat_map f (pieces s n rest)) (sym more)
+    ∙ so_far
+
 -- the pieces that are left, after one of them
 pub pieces_left : (s i count n m : ℕ) → i < count → n ≡ (count - i) * s → m + s ≡ n → m ≡ (count - (i + 1)) * s
 pieces_left s i count n m low all less =
@@ -42,6 +57,21 @@ pieces_left s i count n m low all less =
     let split : suc (count - (i + 1)) * s ≡ s + (count - (i + 1)) * s = omega arith in
     let long : n ≡ s + (count - (i + 1)) * s = all ∙ ap (λ k. k * s) more ∙ split in
     omega (arith, less, long)
+
+-- one of the pieces that are left is whole
+pub one_left : (s i count n : ℕ) → i < count → n ≡ (count - i) * s → s ≤ n
+one_left s i count n low all =
+    let more : count - i ≡ suc (count - (i + 1)) = omega (arith, low) in
+    let split : suc (count - (i + 1)) * s ≡ s + (count - (i + 1)) * s = omega arith in
+    let long : n ≡ s + (count - (i + 1)) * s = all ∙ ap (λ k. k * s) more ∙ split in
+    omega (arith, long)
+
+-- when none are left, all is appended
+pub all_appended : (f : List ℕ → List ℕ) (s i count : ℕ) (now rest all : List ℕ) → count ≤ i →
+    now ++ flat_map f (pieces s (count - i) rest) ≡ all → now ≡ all
+all_appended f s i count now rest all over so_far =
+    let none : count - i ≡ 0 = omega (arith, over) in
+    sym (append-nil now) ∙ ap (λ n. now ++ flat_map f (pieces s n rest)) (sym none) ∙ so_far
 
 -- all pieces are those of either half
 pub twice : (f : List ℕ → List ℕ) (s each : ℕ) (bytes : List ℕ) →

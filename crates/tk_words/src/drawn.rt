@@ -146,13 +146,15 @@ impl Draws for DrawnDraws {
     ghost opens_sealed = { λ draws. opens_sealed draws.shape (drawn draws.tape) draws.whole };
 }
 
-fn write_cells_len(shape: &Shape) -> usize
+// The bytes of a tape's write cells.
+pub(crate) fn write_cells_len(shape: &Shape) -> usize
     ensures { result ≡ write_cells_len shape.now }
 {
     shape.turns() as usize * shape.clients as usize * shape.cell_len() as usize
 }
 
-fn read_cells_len(shape: &Shape) -> usize
+// The bytes of its read cells.
+pub(crate) fn read_cells_len(shape: &Shape) -> usize
     ensures { result ≡ read_cells_len shape.now }
 {
     shape.turns() as usize * shape.clients as usize * shape.read_cell_len() as usize

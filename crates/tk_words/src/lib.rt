@@ -7,6 +7,7 @@ mod drawn;
 mod draws;
 mod keyed;
 mod laws;
+mod lifting;
 mod log_seeds;
 mod tape;
 
@@ -15,5 +16,6 @@ pub use drawn::DrawnDraws;
 pub use draws::Draws;
 pub use keyed::KeyedDraws;
 pub use laws::one_text_seals;
+pub use lifting::{LiftError, lift_tape};
 pub use log_seeds::LogSeeds;
 pub use tape::{Tape, TapeError};

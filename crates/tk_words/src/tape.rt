@@ -1,6 +1,7 @@
 ghost use Rattle.std.specs.Prelude.{◌≡◌, ◌↔◌, List, ℕ, length, IsOk, IfOk, IfErr};
 ghost use Rattle.tk_shape.specs.Lengths.{tape_len};
 
+use std::alloc::Global;
 use std::marker::Model;
 use tk_shape::Shape;
 
@@ -43,5 +44,16 @@ impl Tape {
         ensures { result.now ≡ self.now }
     {
         self.bytes.as_slice()
+    }
+
+    /// A tape of these bytes, whatever shape they are for.
+    pub(crate) fn of_bytes(bytes: Vec<u8>) -> Tape
+        ensures { result ≡ bytes.items }
+    {
+        Tape { bytes }
+    }
+
+    pub(crate) fn alloc(&self) -> Global {
+        *self.bytes.allocator()
     }
 }
