@@ -22,6 +22,19 @@ pub then_ok : {X Y : Type 0} (said : Result X Refusal) (x : X) (f : X → Result
     said ≡ Ok x → said >>= f ≡ f x
 then_ok said x f e = ap (λ r. r >>= f) e
 
+-- ---- parts one after the other
+
+-- after a part that is read, what goes on from it is said
+pub then_said : {X Y : Type 0} {said : Result X Refusal} {x : X} {r : Result Y Refusal}
+    (f : X → Result Y Refusal) → said ≡ Ok x → f x ≡ r → said >>= f ≡ r
+then_said f e rest = ap (λ r. r >>= f) e ∙ rest
+
+-- and refused
+pub then_refused : {X Y : Type 0} {said : Result X Refusal} {x : X} (e : ScriptError)
+    (f : X → Result Y Refusal) → said ≡ Ok x → IsRefusal e (f x) → IsRefusal e (said >>= f)
+then_refused {X} {Y} {said} {x} e f read h =
+    same_refused e (f x) (said >>= f) (ap (λ r. r >>= f) read) h
+
 -- ---- answers that are errors
 
 pub tells_err : {X Y : Type 0} (r : Result X ScriptError) (e : ScriptError) (f : X → Y)
@@ -42,3 +55,6 @@ told_refused r e f said line c same this h =
 pub told_same : {X Y : Type 0} (r : Result X ScriptError) (f : X → Y) (said other : Result Y
     Refusal) → other ≡ said → Agrees f r said → Agrees f r other
 told_same r f said other same h = subst (λ s. Agrees f r s) (sym same) h
+
+-- for answers of parts that are read one after the other
+pub ruleset in_turn = (tells_err, then_said, then_refused, stays_refused)

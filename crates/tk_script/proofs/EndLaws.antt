@@ -6,27 +6,14 @@ use Rattle.tk_shape.specs.Lengths.{tape_len}
 use Rattle.tk_script.specs.declared.input.RawTape.{RawTape}
 use Rattle.tk_script.specs.declared.keys.Keys.{Keys}
 use Rattle.tk_script.specs.Grammar.{Line, SpellsPiece, BeginsWithTape, TapeFor, kept}
-use Rattle.tk_script.specs.Reading.{Place, next_line, no_line, read_words, read_next_piece, read_pieces, kept_behind, read_tape, read_end}
-use Rattle.tk_script.proofs.AnswerLaws.{then_ok}
+use Rattle.tk_script.specs.Reading.{Place, alone, next_line, no_line, read_words, read_piece, read_pieces, kept_behind, read_tape, read_end}
+use Rattle.tk_script.proofs.AnswerLaws.{then_said}
 use Rattle.tk_script.proofs.OptionLaws.{ok_same}
 use Rattle.tk_script.proofs.PieceLaws.{end_is_no_piece}
 use Rattle.tk_script.proofs.PlaceLaws.{next_taken}
-use Rattle.tk_script.proofs.RowLaws.{then_from, next_from, end_are, end_whole}
-use Rattle.tk_script.proofs.SectionLaws.{behind_tape_words, tape_parts, tape_words, ends_keyed, ends_drawn, behind_tape, end_keyed, end_drawn}
+use Rattle.tk_script.proofs.RowLaws.{then_from, next_from, Any, alone_is, alone_whole, end_are, end_whole}
 use Rattle.tk_script.proofs.TapeLineLaws.{piece_is, piece_whole}
 use Rattle.tk_script.proofs.WordLaws.{at, Comes, words_own, words_from}
-
-abbrev AnyPieces : List (List ℕ) → Type 0
-AnyPieces pieces = Unit {0}
-
-next_piece_is : (before : List (List ℕ)) (l : Line) (bytes : List ℕ) → AnyPieces before →
-    read_next_piece before l ≡ Ok bytes → SpellsPiece l bytes × AnyPieces (before ++ bytes ∷ [])
-next_piece_is before l bytes so e = (piece_is l bytes e, tt)
-
-next_piece_whole : (before : List (List ℕ)) (l : Line) (bytes : List ℕ)
-    (more : List (List ℕ)) → AnyPieces before → SpellsPiece l bytes →
-    AnyPieces (before ++ bytes ∷ more) → read_next_piece before l ≡ Ok bytes
-next_piece_whole before l bytes more so spelled all = piece_whole l bytes spelled
 
 record TapeRead (want : ℕ) (lines : List Line) (tape : RawTape) (behind : List Line)
     : Type 0 where
@@ -36,14 +23,14 @@ record TapeRead (want : ℕ) (lines : List Line) (tape : RawTape) (behind : List
 
 tape_from : (want : ℕ) (p : Place) (x : RawTape × Place) → read_tape want p ≡ Ok x →
     TapeRead want p.rest x.0 x.1.rest
+unfolding read_tape
 tape_from want p x e =
-    let first = then_from (next_line (read_words (codes "tape")) p) (behind_tape_words want) x
-    (sym (tape_parts want p) ∙ e) in
+    let first = then_from (next_line (read_words (codes "tape")) p) _ x e in
     let here = next_from (read_words (codes "tape")) p first.0 first.1 in
     let second = then_from (read_pieces [] first.0.1.line first.0.1.rest) (kept_behind want) x
     first.2 in
-    let row = end_are read_next_piece SpellsPiece AnyPieces next_piece_is first.0.1.rest
-    first.0.1.line [] second.0.0 second.0.1 tt second.1 in
+    let row = end_are (alone read_piece) SpellsPiece Any (alone_is read_piece SpellsPiece piece_is)
+    first.0.1.rest first.0.1.line [] second.0.0 second.0.1 tt second.1 in
     let bytes = flat_map (λ piece. piece) second.0.0 in
     let same = ok_same (kept want bytes, second.0.1) x second.2 in
     let word = words_from (codes "tape") here.line first.0.0 here.read_is in
@@ -63,18 +50,18 @@ tape_from want p x e =
 tape_whole : (want line : ℕ) (lines : List Line) (bytes : List ℕ) (behind : List Line) →
     BeginsWithTape lines bytes behind →
     Comes (read_tape want (at line lines)) (kept want bytes) behind
+unfolding read_tape
 tape_whole want line lines bytes behind b =
     let tail = b.piece_lines ++ codes "end" ∷ behind in
-    let pieces = end_whole read_next_piece SpellsPiece AnyPieces next_piece_is end_is_no_piece
-    next_piece_whole b.piece_lines b.parts (line + 1) [] behind tt tt b.each in
+    let pieces = end_whole (alone read_piece) SpellsPiece Any (alone_is read_piece SpellsPiece piece_is)
+    end_is_no_piece (alone_whole read_piece SpellsPiece piece_whole) b.piece_lines b.parts (line + 1)
+    [] behind tt tt b.each in
     let first = next_taken (read_words (codes "tape")) (at line lines) (codes "tape")
     (at (line + 1) tail) tt (record { number = refl; lines = b.whole }) (words_own (codes "tape"))
     in (
       pieces.0,
-      tape_words want (at line lines) (at (line + 1) tail) first
-          ∙ then_ok (read_pieces [] (line + 1) tail) (b.parts, at pieces.0 behind)
-          (kept_behind want) pieces.1
-          ∙ ap (λ bs. Ok (kept want bs, at pieces.0 behind)) (sym b.joined),
+      then_said _ first (then_said (kept_behind want) pieces.1
+          (ap (λ bs. Ok (kept want bs, at pieces.0 behind)) (sym b.joined))),
     )
 
 -- ---- the end of an input
@@ -85,14 +72,13 @@ none_here line (l ∷ ls) x e = absurd (cc e)
 
 pub end_from : (shape : Shape) (keys : Option Keys) (p : Place) (tape : Option RawTape) →
     read_end keys (tape_len shape) p ≡ Ok tape → TapeFor shape keys p.rest tape
+unfolding read_end
 end_from shape (Some keys) p tape e =
-    let none = then_from (no_line p.line p.rest) ends_keyed tape
-    (sym (end_keyed (Some keys) (tape_len shape) p refl) ∙ e) in
+    let none = then_from (no_line p.line p.rest) _ tape e in
     (none_here p.line p.rest none.0 none.1, sym (ok_same None tape none.2))
 end_from shape None p tape e =
-    let read = then_from (read_tape (tape_len shape) p) behind_tape tape
-    (sym (end_drawn None (tape_len shape) p refl) ∙ e) in
-    let none = then_from (no_line read.0.1.line read.0.1.rest) (ends_drawn read.0.0) tape read.2 in
+    let read = then_from (read_tape (tape_len shape) p) _ tape e in
+    let none = then_from (no_line read.0.1.line read.0.1.rest) _ tape read.2 in
     let t = tape_from (tape_len shape) p read.0 read.1 in
     let nothing = none_here read.0.1.line read.0.1.rest none.0 none.1 in (
       t.bytes,
@@ -103,13 +89,8 @@ end_from shape None p tape e =
 pub end_whole_of : (shape : Shape) (keys : Option Keys) (line : ℕ) (lines : List Line)
     (tape : Option RawTape) → TapeFor shape keys lines tape →
     read_end keys (tape_len shape) (at line lines) ≡ Ok tape
+unfolding read_end
 end_whole_of shape (Some keys) line lines tape h =
-    end_keyed (Some keys) (tape_len shape) (at line lines) refl
-    ∙ then_ok (no_line line lines) tt ends_keyed (ap (no_line line) h.0)
-    ∙ ap Ok (sym h.1)
+    then_said _ (ap (no_line line) h.0) (ap Ok (sym h.1))
 end_whole_of shape None line lines tape h =
-    let read = tape_whole (tape_len shape) line lines h.0 [] h.1 in
-    end_drawn None (tape_len shape) (at line lines) refl
-    ∙ then_ok (read_tape (tape_len shape) (at line lines))
-    (kept (tape_len shape) h.0, at read.0 []) behind_tape read.1
-    ∙ ap Ok (sym h.2)
+    then_said _ (tape_whole (tape_len shape) line lines h.0 [] h.1).1 (ap Ok (sym h.2))

@@ -5,13 +5,12 @@ use Rattle.tk_schedule.specs.declared.raw.RawLine.{RawLine}
 use Rattle.tk_schedule.specs.declared.raw.RawKind.{RawKind}
 use Rattle.tk_schedule.specs.declared.raw.RawKind.TheVariants.{Order, Reads, End}
 use Rattle.tk_script.specs.Grammar.{Line, raw_line, IsTurn, IsEnd, AreRawFrom, BeginsWithHistory}
-use Rattle.tk_script.specs.Reading.{Place, next_line, to_end, read_words, numbered, numbered_behind, read_next_turn, read_history}
-use Rattle.tk_script.proofs.AnswerLaws.{then_ok}
-use Rattle.tk_script.proofs.FormLaws.{behind_history_words, history_parts, history_words}
+use Rattle.tk_script.specs.Reading.{Place, next_line, alone, to_end, read_words, numbered, numbered_behind, read_turn, read_history}
+use Rattle.tk_script.proofs.AnswerLaws.{then_said}
 use Rattle.tk_script.proofs.ListLaws.{cons_both}
 use Rattle.tk_script.proofs.OptionLaws.{ok_same}
 use Rattle.tk_script.proofs.PlaceLaws.{next_taken}
-use Rattle.tk_script.proofs.RowLaws.{then_from, next_from, next_number_from, end_are, end_whole}
+use Rattle.tk_script.proofs.RowLaws.{then_from, next_from, Any, alone_is, alone_whole, end_are, end_whole}
 use Rattle.tk_script.proofs.WordLaws.{at, Comes, words_own, words_from}
 use Rattle.tk_script.proofs.TurnLaws.{IsTurnLine, turn_is, turn_whole}
 
@@ -68,17 +67,8 @@ numbered-lines n (k ∷ kinds) = ap (λ ls. raw_line k ∷ ls) (numbered-lines (
 
 -- ---- the section
 
-abbrev AnyTurns : List RawKind → Type 0
-AnyTurns kinds = Unit {0}
-
-next_turn_is : (before : List RawKind) (l : Line) (kind : RawKind) → AnyTurns before →
-    read_next_turn before l ≡ Ok kind → IsTurnLine l kind × AnyTurns (before ++ kind ∷ [])
-next_turn_is before l kind so e = (turn_is l kind e, tt)
-
-next_turn_whole : (before : List RawKind) (l : Line) (kind : RawKind) (more : List RawKind) →
-    AnyTurns before → IsTurnLine l kind → AnyTurns (before ++ kind ∷ more) →
-    read_next_turn before l ≡ Ok kind
-next_turn_whole before l kind more so h all = turn_whole l kind h.0 h.1
+turn_line_whole : (l : Line) (kind : RawKind) → IsTurnLine l kind → read_turn l ≡ Ok kind
+turn_line_whole l kind h = turn_whole l kind h.0 h.1
 
 zip_turns : (kinds : List RawKind) → AllByRecursion IsTurn kinds →
     AllZip IsTurnLine (map raw_line kinds) kinds
@@ -97,12 +87,14 @@ turns_zip (l ∷ lines) (k ∷ kinds) each =
 pub history_whole : (line : ℕ) (lines : List Line) (raw : List RawLine) (behind : List Line) →
     BeginsWithHistory line lines raw behind →
     Comes (read_history (at line lines)) raw behind
+unfolding read_history
 history_whole line lines raw behind b =
     let are = raw-numbered (line + 1) raw b.numbered in
     let own = map raw_line are.kinds in
     let tail = own ++ codes "end" ∷ behind in
-    let turns = end_whole read_next_turn IsTurnLine AnyTurns next_turn_is turn_line-goes_on
-    next_turn_whole own are.kinds (line + 1) [] behind tt tt (zip_turns are.kinds are.turns) in
+    let turns = end_whole (alone read_turn) IsTurnLine Any (alone_is read_turn IsTurnLine turn_is)
+    turn_line-goes_on (alone_whole read_turn IsTurnLine turn_line_whole) own are.kinds (line + 1) []
+    behind tt tt (zip_turns are.kinds are.turns) in
     let whole = b.whole ∙ ap (λ (rs : List RawLine). codes "history"
     ∷ (map (λ (l : RawLine). raw_line l.kind) rs ++ behind)) are.is
     ∙ ap (λ ls. codes "history" ∷ (ls ++ behind)) (numbered-lines (line + 1) are.kinds)
@@ -111,26 +103,22 @@ history_whole line lines raw behind b =
     (at (line + 1) tail) tt (record { number = refl; lines = whole })
     (words_own (codes "history")) in (
       turns.0,
-      history_words (at line lines) (at (line + 1) tail) first
-          ∙ then_ok (to_end read_next_turn [] (line + 1) tail) (are.kinds, at turns.0 behind)
-          (numbered_behind (line + 1)) turns.1
-          ∙ ap (λ rs. Ok (rs, at turns.0 behind)) (sym are.is),
+      then_said _ first (then_said (numbered_behind (line + 1)) turns.1
+          (ap (λ rs. Ok (rs, at turns.0 behind)) (sym are.is))),
     )
 
 pub history_from : (p : Place) (x : List RawLine × Place) → read_history p ≡ Ok x →
     BeginsWithHistory p.line p.rest x.0 x.1.rest
+unfolding read_history
 history_from p x e =
-    let first = then_from (next_line (read_words (codes "history")) p) behind_history_words x
-    (sym (history_parts p) ∙ e) in
+    let first = then_from (next_line (read_words (codes "history")) p) _ x e in
     let here = next_from (read_words (codes "history")) p first.0 first.1 in
     let line = first.0.1.line in
-    let number : line ≡ p.line + 1 = next_number_from (read_words (codes "history")) p first.0
-    first.1 in
-    let second = then_from (to_end read_next_turn [] line first.0.1.rest) (numbered_behind line) x
+    let second = then_from (to_end (alone read_turn) [] line first.0.1.rest) (numbered_behind line) x
     first.2 in
     let kinds = second.0.0 in
-    let row = end_are read_next_turn IsTurnLine AnyTurns next_turn_is first.0.1.rest line []
-    kinds second.0.1 tt second.1 in
+    let row = end_are (alone read_turn) IsTurnLine Any (alone_is read_turn IsTurnLine turn_is)
+    first.0.1.rest line [] kinds second.0.1 tt second.1 in
     let turns = turns_zip row.0.own kinds
     (subst (AllZip IsTurnLine row.0.own) (sym row.0.all_is) row.0.each) in
     let same = ok_same (numbered line kinds, second.0.1) x second.2 in
@@ -138,7 +126,7 @@ history_from p x e =
     let tail = codes "end" ∷ second.0.1.rest in
     subst (λ (z : List RawLine × Place). BeginsWithHistory p.line p.rest z.0 z.1.rest) same
     (record {
-      numbered = subst (λ n. AreRawFrom n (numbered line kinds)) number
+      numbered = subst (λ n. AreRawFrom n (numbered line kinds)) here.number
           (numbered-are line kinds turns.1);
       whole = here.whole ∙ ap (λ l. l ∷ first.0.1.rest) word
           ∙ ap (λ ls. codes "history" ∷ ls) (row.0.whole ∙ ap (λ ls. ls ++ tail) turns.0

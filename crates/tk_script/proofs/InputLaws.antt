@@ -1,5 +1,5 @@
 -- An input that is read line by line is the one that the text spells, form by form.
-use Rattle.std.proofs.Common.{◌≡◌, ◌∙◌, ℕ, List, Bool, true, false, IsTrue, Option, Some, None, Result, Ok, Err, refl, ap, sym, subst}
+use Rattle.std.proofs.Common.{◌≡◌, ◌∙◌, ℕ, List, Bool, true, false, IsTrue, Option, Some, None, Result, Ok, Err, refl, ap, ap₂, sym, subst, arith}
 use Rattle.std.specs.Prelude.{is_some, IfOk}
 use Rattle.std.specs.Option.{option_map}
 use Rattle.tk_schedule.specs.declared.raw.RawLine.{RawLine}
@@ -12,21 +12,18 @@ use Rattle.tk_script.specs.declared.input.RawTape.{RawTape}
 use Rattle.tk_script.specs.declared.keys.Keys.{Keys}
 use Rattle.tk_script.specs.declared.script.Script.{Script}
 use Rattle.tk_script.specs.Answer.{IsMemory, IsRefusal, Gives, Agrees}
-use Rattle.tk_script.specs.Grammar.{Line, lines_of, BeginsWithHistory, EndsWithTape, IsRunInput, IsViewInput, IsMirrorInput, Spells}
+use Rattle.tk_script.specs.Grammar.{Line, lines_of, number_of_first, BeginsWithHistory, EndsWithTape, IsRunInput, IsViewInput, IsMirrorInput, Spells}
 use Rattle.tk_script.specs.Laws.{SpellsOne, ReadsWhatIsSpelled, GivesInputs}
 use Rattle.tk_script.specs.Reading.{Place, ScriptLines, InputLines, front, read_script, read_history, read_tape_of, read_run, read_view, read_mirror, read_input, script_lines, input_lines}
+use Rattle.tk_script.proofs.AnswerLaws.{then_said}
 use Rattle.tk_script.proofs.CauseLaws.{IsDue}
 use Rattle.tk_script.proofs.EndLaws.{end_from, end_whole_of}
-use Rattle.tk_script.proofs.FormLaws.{behind_run_script, run_ends, run_parts, run_is, behind_view_script, behind_view_history, view_ends, view_parts, view_is}
-use Rattle.tk_script.proofs.FormLaws.{behind_first, behind_second, behind_mirror_history, mirror_ends, mirror_parts, mirror_is}
 use Rattle.tk_script.proofs.HistoryLaws.{history_from, history_whole}
 use Rattle.tk_script.proofs.OptionLaws.{ok_same}
-use Rattle.tk_script.proofs.RowLaws.{then_from}
+use Rattle.tk_script.proofs.RowLaws.{Steps, then_steps, then_from}
 use Rattle.tk_script.proofs.ScriptLaws.{same_script, same_input}
-use Rattle.tk_script.proofs.ScriptSteps.{script_steps}
 use Rattle.tk_script.proofs.ShapeLaws.{same_named}
 use Rattle.tk_script.proofs.SpelledLaws.{script_read, script_whole}
-use Rattle.tk_script.proofs.StepLaws.{then_steps, number_behind}
 use Rattle.tk_script.proofs.WordLaws.{at}
 
 -- an input of these lines, of which this holds
@@ -51,6 +48,11 @@ tape_whole : (S : Script) (line : ℕ) (lines : List Line) (tape : Option RawTap
     EndsWithTape S lines tape → read_tape_of (script_lines S) (at line lines) ≡ Ok tape
 tape_whole S line lines tape h = end_whole_of S.shape S.keys line lines tape h
 
+-- the number of the first line after what was read from the front
+number_behind : (lines : List Line) (q : Place) → Steps (front lines) q →
+    q.line ≡ number_of_first lines q.rest
+number_behind lines q s = omega (arith, s.number, s.lines)
+
 -- ---- scripts that may be keyed, and not
 
 may_be_keyed : (keyed : Bool) → IsDue true keyed
@@ -63,34 +65,31 @@ due_drawn : (keys : Option Keys) → IsDue false (is_some keys) → keys ≡ Non
 due_drawn None due = refl
 due_drawn (Some keys) due = absurd (cc (due refl))
 
+-- what an input says, by its parts
+lines_are : (input : Input) (second : Option Script) (history : Option (List RawLine)) →
+    input.second ≡ second → input.history ≡ history → (lines_with (option_map script_lines second)
+    history input.tape (script_lines input.first)) ≡ input_lines input
+lines_are input second history s h =
+    ap₂ (λ (o : Option Script) (r : Option (List RawLine)). lines_with (option_map script_lines o) r
+    input.tape (script_lines input.first)) (sym s) (sym h)
+
 -- ---- a script, and its tape
 
 run_whole : (lines : List Line) (input : Input) → IsRunInput lines input →
     read_run lines ≡ Ok (input_lines input)
+unfolding read_run
 run_whole lines input s =
     let S = input.first in
     let script = script_whole true 1 lines S s.rest s.script (may_be_keyed (is_some S.keys)) in
-    run_is lines (script_lines S) (at script.0 s.rest) script.1 input.tape
-    (tape_whole S script.0 s.rest input.tape s.tape)
-    ∙ ap (λ (o : Option Script). Ok (record {
-      first = script_lines S;
-      second = option_map script_lines o;
-      history = None;
-      tape = input.tape;
-    })) (sym s.no_second)
-    ∙ ap (λ (o : Option (List RawLine)). Ok (record {
-      first = script_lines S;
-      second = option_map script_lines input.second;
-      history = o;
-      tape = input.tape;
-    })) (sym s.no_history)
+    then_said _ script.1 (then_said _ (tape_whole S script.0 s.rest input.tape s.tape)
+    (ap Ok (lines_are input None None s.no_second s.no_history)))
 
 run_read : (lines : List Line) (t : InputLines) → read_run lines ≡ Ok t →
     InputOf (IsRunInput lines) t
+unfolding read_run
 run_read lines t e =
-    let first = then_from (read_script true (front lines)) behind_run_script t
-    (sym (run_parts lines) ∙ e) in
-    let tape = then_from (read_tape_of first.0.0 first.0.1) (run_ends first.0.0) t first.2 in
+    let first = then_from (read_script true (front lines)) _ t e in
+    let tape = then_from (read_tape_of first.0.0 first.0.1) _ t first.2 in
     let script = script_read true (front lines) first.0 first.1 in
     let lines_of_input = lines_with None None tape.0 in
     record {
@@ -109,42 +108,30 @@ run_read lines t e =
 
 view_whole : (lines : List Line) (input : Input) → IsViewInput lines input →
     read_view lines ≡ Ok (input_lines input)
+unfolding read_view
 view_whole lines input s =
     let S = input.first in
     let script = script_whole true 1 lines S s.behind_script s.script
     (may_be_keyed (is_some S.keys)) in
     let behind = at script.0 s.behind_script in
-    let number = number_behind lines behind
-    (script_steps true (front lines) (script_lines S, behind) script.1) in
+    let read = script_read true (front lines) (script_lines S, behind) script.1 in
     let history = history_whole script.0 s.behind_script s.raw s.rest
-    (subst (λ n. BeginsWithHistory n s.behind_script s.raw s.rest) (sym number) s.history) in
-    view_is lines (script_lines S) behind script.1 s.raw (at history.0 s.rest) history.1 input.tape
-    (tape_whole S history.0 s.rest input.tape s.tape)
-    ∙ ap (λ (o : Option Script). Ok (record {
-      first = script_lines S;
-      second = option_map script_lines o;
-      history = Some s.raw;
-      tape = input.tape;
-    })) (sym s.no_second)
-    ∙ ap (λ (o : Option (List RawLine)). Ok (record {
-      first = script_lines S;
-      second = option_map script_lines input.second;
-      history = o;
-      tape = input.tape;
-    })) (sym s.has_history)
+    (subst (λ n. BeginsWithHistory n s.behind_script s.raw s.rest)
+    (sym (number_behind lines behind read.steps)) s.history) in
+    then_said _ script.1 (then_said _ history.1
+    (then_said _ (tape_whole S history.0 s.rest input.tape s.tape)
+    (ap Ok (lines_are input None (Some s.raw) s.no_second s.has_history))))
 
 view_read : (lines : List Line) (t : InputLines) → read_view lines ≡ Ok t →
     InputOf (IsViewInput lines) t
+unfolding read_view
 view_read lines t e =
-    let first = then_from (read_script true (front lines)) behind_view_script t
-    (sym (view_parts lines) ∙ e) in
+    let first = then_from (read_script true (front lines)) _ t e in
     let behind = first.0.1 in
-    let history = then_from (read_history behind) (behind_view_history first.0.0) t first.2 in
+    let history = then_from (read_history behind) _ t first.2 in
     let raw = history.0.0 in
-    let tape = then_from (read_tape_of first.0.0 history.0.1) (view_ends first.0.0 raw) t
-    history.2 in
+    let tape = then_from (read_tape_of first.0.0 history.0.1) _ t history.2 in
     let script = script_read true (front lines) first.0 first.1 in
-    let number = number_behind lines behind (script_steps true (front lines) first.0 first.1) in
     let lines_of_input = lines_with None (Some raw) tape.0 in
     record {
       input = record { first = script.script; second = None; history = Some raw; tape = tape.0 };
@@ -153,8 +140,8 @@ view_read lines t e =
         rest = history.0.1.rest;
         raw = raw;
         script = script.begins;
-        history = subst (λ n. BeginsWithHistory n behind.rest raw history.0.1.rest) number
-            (history_from behind history.0 history.1);
+        history = subst (λ n. BeginsWithHistory n behind.rest raw history.0.1.rest)
+            (number_behind lines behind script.steps) (history_from behind history.0 history.1);
         no_second = refl;
         has_history = refl;
         tape = tape_read script.script first.0.0 history.0.1 tape.0 script.is tape.1;
@@ -166,6 +153,7 @@ view_read lines t e =
 
 mirror_whole : (lines : List Line) (input : Input) → IsMirrorInput lines input →
     read_mirror lines ≡ Ok (input_lines input)
+unfolding read_mirror
 mirror_whole lines input s =
     let S = input.first in
     let T = s.other in
@@ -175,47 +163,31 @@ mirror_whole lines input s =
     let second = script_whole false first.0 s.behind_script T s.behind_scripts s.second
     (drawn_due T.keys s.second_drawn) in
     let behind_both = at second.0 s.behind_scripts in
-    let number = number_behind lines behind_both
-    (then_steps (front lines) behind behind_both
-    (script_steps false (front lines) (script_lines S, behind) first.1)
-    (script_steps false behind (script_lines T, behind_both) second.1)) in
+    let steps = then_steps (front lines) behind behind_both
+    (script_read false (front lines) (script_lines S, behind) first.1).steps
+    (script_read false behind (script_lines T, behind_both) second.1).steps in
     let history = history_whole second.0 s.behind_scripts s.raw s.rest
-    (subst (λ n. BeginsWithHistory n s.behind_scripts s.raw s.rest) (sym number) s.history) in
-    mirror_is lines (script_lines S) behind first.1 (script_lines T) behind_both second.1 s.raw
-    (at history.0 s.rest) history.1 input.tape
-    (tape_whole S history.0 s.rest input.tape s.tape)
-    ∙ ap (λ (o : Option Script). Ok (record {
-      first = script_lines S;
-      second = option_map script_lines o;
-      history = Some s.raw;
-      tape = input.tape;
-    })) (sym s.has_second)
-    ∙ ap (λ (o : Option (List RawLine)). Ok (record {
-      first = script_lines S;
-      second = option_map script_lines input.second;
-      history = o;
-      tape = input.tape;
-    })) (sym s.has_history)
+    (subst (λ n. BeginsWithHistory n s.behind_scripts s.raw s.rest)
+    (sym (number_behind lines behind_both steps)) s.history) in
+    then_said _ first.1 (then_said _ second.1 (then_said _ history.1
+    (then_said _ (tape_whole S history.0 s.rest input.tape s.tape)
+    (ap Ok (lines_are input (Some T) (Some s.raw) s.has_second s.has_history)))))
 
 mirror_read : (lines : List Line) (t : InputLines) → read_mirror lines ≡ Ok t →
     InputOf (IsMirrorInput lines) t
+unfolding read_mirror
 mirror_read lines t e =
-    let first = then_from (read_script false (front lines)) behind_first t
-    (sym (mirror_parts lines) ∙ e) in
+    let first = then_from (read_script false (front lines)) _ t e in
     let behind = first.0.1 in
-    let second = then_from (read_script false behind) (behind_second first.0.0) t first.2 in
+    let second = then_from (read_script false behind) _ t first.2 in
     let behind_both = second.0.1 in
-    let history = then_from (read_history behind_both)
-    (behind_mirror_history first.0.0 second.0.0) t second.2 in
+    let history = then_from (read_history behind_both) _ t second.2 in
     let raw = history.0.0 in
-    let tape = then_from (read_tape_of first.0.0 history.0.1)
-    (mirror_ends first.0.0 second.0.0 raw) t history.2 in
+    let tape = then_from (read_tape_of first.0.0 history.0.1) _ t history.2 in
     let one = script_read false (front lines) first.0 first.1 in
     let other = script_read false behind second.0 second.1 in
     let number = number_behind lines behind_both
-    (then_steps (front lines) behind behind_both
-    (script_steps false (front lines) first.0 first.1)
-    (script_steps false behind second.0 second.1)) in
+    (then_steps (front lines) behind behind_both one.steps other.steps) in
     record {
       input = record {
         first = one.script;

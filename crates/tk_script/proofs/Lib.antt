@@ -14,16 +14,13 @@ pub mod ScriptLaws
 pub mod KeyLines
 pub mod WordLaws
 pub mod ShapeGiven
-pub mod FormLaws
 pub mod SpelledLaws
 pub mod EndLaws
-pub mod ScriptSteps
 pub mod InputLaws
 pub mod TapeSoFar
 pub mod TurnParts
 pub mod TurnLaws
 pub mod TurnsSoFar
-pub mod StepLaws
 pub mod HistoryLaws
 pub mod KeyLaws
 pub mod PartLaws
@@ -33,7 +30,6 @@ pub mod TapeLineLaws
 pub mod SaidLaws
 pub mod PlaceLaws
 pub mod AnswerLaws
-pub mod SectionLaws
 pub mod TextOfLaws
 pub mod FeedLaws
 pub mod PiecesLaws

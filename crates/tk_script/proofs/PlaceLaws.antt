@@ -41,7 +41,8 @@ line_here line (l ∷ ls) some = refl
 
 -- ---- a number of lines
 
-module _ {X : Type 0} (read : Line → Verdict X) (count i : ℕ) (before : List X) (p : Place) where
+module _ {X : Type 0} (read : List X → Line → Verdict X) (count i : ℕ) (before : List X)
+    (p : Place) where
   one_more : i < count → count - i ≡ suc (count - (i + 1))
   one_more more = omega (arith, more)
 
@@ -52,20 +53,21 @@ module _ {X : Type 0} (read : Line → Verdict X) (count i : ℕ) (before : List
       next_lines (count - i) read before p ≡ Err (p.line, cause.Early)
   lines_early more e =
       ap (λ k. next_lines k read before p) (one_more more)
-      ∙ ap (λ r. r >>= then_more) (next_early read p e)
+      ∙ ap (λ r. r >>= then_more) (next_early (read before) p e)
 
   pub lines_refused : (l : Line) (q : Place) (c : Cause) → i < count → Follows p l q →
-      read l ≡ Err c → next_lines (count - i) read before p ≡ Err (p.line, c)
+      read before l ≡ Err c → next_lines (count - i) read before p ≡ Err (p.line, c)
   lines_refused l q c more f r =
       ap (λ k. next_lines k read before p) (one_more more)
-      ∙ ap (λ s. s >>= then_more) (next_refused read p l q c f r)
+      ∙ ap (λ s. s >>= then_more) (next_refused (read before) p l q c f r)
 
-  pub lines_more : (l : Line) (q : Place) (x : X) → i < count → Follows p l q → read l ≡ Ok x →
+  pub lines_more : (l : Line) (q : Place) (x : X) → i < count → Follows p l q →
+      read before l ≡ Ok x →
       next_lines (count - i) read before p
       ≡ next_lines (count - (i + 1)) read (before ++ x ∷ []) q
   lines_more l q x more f r =
       ap (λ k. next_lines k read before p) (one_more more)
-      ∙ ap (λ s. s >>= then_more) (next_taken read p l q x f r)
+      ∙ ap (λ s. s >>= then_more) (next_taken (read before) p l q x f r)
 
   pub lines_done : count ≡ i → (all : List X) → all ≡ before →
       next_lines (count - i) read before p ≡ Ok (all, p)

@@ -1,14 +1,15 @@
--- What lines in a row give, and which lines give it.
-use Rattle.std.proofs.Common.{◌≡◌, ◌∙◌, ℕ, zero, suc, ◌+◌, List, [], ◌∷◌, ◌++◌, length, map, codes, Bool, true, false, cond, IsTrue, ◌⊎◌, inl, inr, Result, Ok, Err, refl, ap, sym, subst, append_assoc, append-nil}
+-- What lines in a row give, which lines give it, and how many they are.
+use Rattle.std.proofs.Common.{◌≡◌, ◌∙◌, ℕ, zero, suc, ◌+◌, List, [], ◌∷◌, ◌++◌, length, map, codes, Bool, true, false, cond, IsTrue, ◌⊎◌, inl, inr, Result, Ok, Err, refl, ap, sym, subst, append_assoc, append-nil, arith}
 use Rattle.std.specs.List.{AllZip, list_all}
 use Rattle.std.specs.Str.{bytes_eq}
 use Rattle.std.proofs.lemmas.Bool.{and_parts, and_from}
 use Rattle.std.proofs.lemmas.Slice.Eq.{bytes_eq-Decides}
 use Rattle.tk_script.specs.Grammar.{Line}
-use Rattle.tk_script.specs.Reading.{Verdict, Place, Refusal, ◌>>=◌, taken, line_at, next_line, next_lines, to_end}
+use Rattle.tk_script.specs.Reading.{Verdict, Place, Refusal, ◌>>=◌, taken, line_at, next_line, alone, next_lines, to_end}
 use Rattle.tk_script.proofs.CauseLaws.{differ}
 use Rattle.tk_script.proofs.ListLaws.{cons_both}
 use Rattle.tk_script.proofs.OptionLaws.{ok_same}
+use Rattle.tk_script.proofs.WordLaws.{at}
 
 -- ---- one line, and what follows
 
@@ -17,52 +18,57 @@ pub then_from : {A B : Type 0} (r : Result A Refusal) (f : A → Result B Refusa
 then_from (Ok x) f y e = (x, refl, e)
 then_from (Err c) f y e = absurd (cc e)
 
+-- so many lines are between two places
+pub record Steps (p q : Place) : Type 0 where
+  pub count : ℕ
+  pub number : q.line ≡ p.line + count
+  pub lines : length p.rest ≡ count + length q.rest
+
+pub no_step : (p q : Place) → p ≡ q → Steps p q
+no_step p q same = subst (Steps p) same (record { count = 0; number = omega arith; lines = omega arith })
+
+pub then_steps : (p q r : Place) → Steps p q → Steps q r → Steps p r
+then_steps p q r a b = record {
+  count = a.count + b.count;
+  number = omega (arith, a.number, b.number);
+  lines = omega (arith, a.lines, b.lines);
+}
+
+one_step : (line : ℕ) (l : Line) (ls : List Line) → Steps (at line (l ∷ ls)) (at (line + 1) ls)
+one_step line l ls = record { count = 1; number = omega arith; lines = omega arith }
+
 -- the line here gives this
-pub record GivesLine {X : Type 0} (read : Line → Verdict X) (lines : List Line) (x : X)
-    (behind : List Line) : Type 0 where
+pub record GivesLine {X : Type 0} (read : Line → Verdict X) (p : Place) (x : X) (q : Place)
+    : Type 0 where
   pub line : Line
-  pub whole : lines ≡ line ∷ behind
+  pub whole : p.rest ≡ line ∷ q.rest
   pub read_is : read line ≡ Ok x
-
-taken_from : {X : Type 0} (line : ℕ) (ls : List Line) (v : Verdict X) (x : X × Place) →
-    taken line ls v ≡ Ok x → (v ≡ Ok x.0) × (ls ≡ x.1.rest)
-taken_from {X} line ls (Ok y) x e =
-    let same = ok_same (y, record { line = line + 1; rest = ls }) x e in
-    (ap (λ (z : X × Place). Ok z.0) same, ap (λ (z : X × Place). z.1.rest) same)
-taken_from line ls (Err c) x e = absurd (cc e)
-
-line_from : {X : Type 0} (read : Line → Verdict X) (line : ℕ) (ls : List Line) (x : X × Place) →
-    line_at read line ls ≡ Ok x → GivesLine read ls x.0 x.1.rest
-line_from read line [] x e = absurd (cc e)
-line_from read line (l ∷ ls) x e =
-    let test = taken_from line ls (read l) x e in
-    record { line = l; whole = ap (λ k. l ∷ k) test.1; read_is = test.0 }
-
-pub next_from : {X : Type 0} (read : Line → Verdict X) (p : Place) (x : X × Place) →
-    next_line read p ≡ Ok x → GivesLine read p.rest x.0 x.1.rest
-next_from read p x e = line_from read p.line p.rest x e
+  pub number : q.line ≡ p.line + 1
+  pub steps : Steps p q
 
 pub then_taken : {X Y : Type 0} (v : Verdict X) (line : ℕ) (ls : List Line)
     (f : X × Place → Result Y Refusal) (y : Y) → taken line ls v >>= f ≡ Ok y →
-    (x : X) × (v ≡ Ok x) × (f (x, record { line = line + 1; rest = ls }) ≡ Ok y)
+    (x : X) × (v ≡ Ok x) × (f (x, at (line + 1) ls) ≡ Ok y)
 then_taken (Ok x) line ls f y e = (x, refl, e)
 then_taken (Err c) line ls f y e = absurd (cc e)
 
-taken_then : {X : Type 0} (line : ℕ) (ls : List Line) (v : Verdict X) →
-    taken line ls v >>= (λ z. Ok z) ≡ taken line ls v
-taken_then line ls (Ok x) = refl
-taken_then line ls (Err c) = refl
+given_here : {X : Type 0} (read : Line → Verdict X) (line : ℕ) (l : Line) (ls : List Line)
+    (v : Verdict X) (x : X × Place) → read l ≡ v → taken line ls v ≡ Ok x →
+    GivesLine read (at line (l ∷ ls)) x.0 x.1
+given_here {X} read line l ls (Ok y) x is e =
+    subst (λ (z : X × Place). GivesLine read (at line (l ∷ ls)) z.0 z.1)
+    (ok_same (y, at (line + 1) ls) x e)
+    (record { line = l; whole = refl; read_is = is; number = refl; steps = one_step line l ls })
+given_here read line l ls (Err c) x is e = absurd (cc e)
 
-number_from : {X : Type 0} (read : Line → Verdict X) (line : ℕ) (ls : List Line)
-    (x : X × Place) → line_at read line ls ≡ Ok x → x.1.line ≡ line + 1
-number_from read line [] x e = absurd (cc e)
-number_from {X} read line (l ∷ ls) x e =
-    let test = then_taken (read l) line ls (λ z. Ok z) x (taken_then line ls (read l) ∙ e) in
-    sym (ap (λ (z : X × Place). z.1.line) (ok_same _ x test.2))
+line_from : {X : Type 0} (read : Line → Verdict X) (line : ℕ) (ls : List Line) (x : X × Place) →
+    line_at read line ls ≡ Ok x → GivesLine read (at line ls) x.0 x.1
+line_from read line [] x e = absurd (cc e)
+line_from read line (l ∷ ls) x e = given_here read line l ls (read l) x refl e
 
-pub next_number_from : {X : Type 0} (read : Line → Verdict X) (p : Place) (x : X × Place) →
-    next_line read p ≡ Ok x → x.1.line ≡ p.line + 1
-next_number_from read p x e = number_from read p.line p.rest x e
+pub next_from : {X : Type 0} (read : Line → Verdict X) (p : Place) (x : X × Place) →
+    next_line read p ≡ Ok x → GivesLine read p x.0 x.1
+next_from read p x e = line_from read p.line p.rest x e
 
 -- ---- lines in a row
 
@@ -98,39 +104,46 @@ row_end R lines before all behind same whole = record {
 
 same_end : {X : Type 0} (before all : List X) (p q : Place) →
     ◌≡◌ {A = Result (List X × Place) Refusal} (Ok (before, p)) (Ok (all, q)) →
-    (before ≡ all) × (p.rest ≡ q.rest)
+    (before ≡ all) × (p ≡ q)
 same_end {X} before all p q e =
     let same = ok_same (before, p) (all, q) e in
-    (ap (λ (z : List X × Place). z.0) same, ap (λ (z : List X × Place). z.1.rest) same)
+    (ap (λ (z : List X × Place). z.0) same, ap (λ (z : List X × Place). z.1) same)
+
+rest_same : (p q : Place) → p ≡ q → p.rest ≡ q.rest
+rest_same p q same = ap (λ (z : Place). z.rest) same
 
 -- ---- a number of lines
 
 module _ {X : Type 0} (read : Line → Verdict X) (R : Line → X → Type 0) where
   abbrev then_more : ℕ → List X → X × Place → Result (List X × Place) Refusal
-  then_more count before x = next_lines count read (before ++ x.0 ∷ []) x.1
+  then_more count before x = next_lines count (alone read) (before ++ x.0 ∷ []) x.1
 
   pub lines_are : ((l : Line) (x : X) → read l ≡ Ok x → R l x) → (count line : ℕ)
       (ls : List Line) (before all : List X) (q : Place) →
-      next_lines count read before (record { line = line; rest = ls }) ≡ Ok (all, q) →
-      (row : Row R ls before all q.rest) × (length row.items ≡ count)
+      next_lines count (alone read) before (at line ls) ≡ Ok (all, q) →
+      (row : Row R ls before all q.rest) × (length row.items ≡ count) × Steps (at line ls) q
   lines_are is zero line ls before all q e =
-      let same = same_end before all (record { line = line; rest = ls }) q e in
-      (row_end R ls before all q.rest same.0 same.1, refl)
+      let same = same_end before all (at line ls) q e in (
+        row_end R ls before all q.rest same.0 (rest_same (at line ls) q same.1),
+        refl,
+        no_step (at line ls) q same.1,
+      )
   lines_are is (suc count) line [] before all q e = absurd (cc e)
   lines_are is (suc count) line (l ∷ ls) before all q e =
       let first = then_taken (read l) line ls (then_more count before) (all, q) e in
       let rest = lines_are is count (line + 1) ls (before ++ first.0 ∷ []) all q first.2 in (
         row_push R l ls before all first.0 q.rest (is l first.0 first.1) rest.0,
         ap suc rest.1,
+        then_steps (at line (l ∷ ls)) (at (line + 1) ls) q (one_step line l ls) rest.2,
       )
 
   pub lines_whole : ((l : Line) (x : X) → R l x → read l ≡ Ok x) → (own : List Line)
       (items : List X) (line : ℕ) (before : List X) (behind : List Line) → AllZip R own items →
-      (n : ℕ) × (next_lines (length items) read before
-      (record { line = line; rest = own ++ behind })
-      ≡ Ok (before ++ items, record { line = n; rest = behind }))
+      (n : ℕ) × (next_lines (length items) (alone read) before
+      (at line (own ++ behind))
+      ≡ Ok (before ++ items, at n behind))
   lines_whole whole [] [] line before behind each =
-      (line, ap (λ xs. Ok (xs, record { line = line; rest = behind })) (sym (append-nil before)))
+      (line, ap (λ xs. Ok (xs, at line behind)) (sym (append-nil before)))
   lines_whole whole [] (x ∷ items) line before behind each = absurd each
   lines_whole whole (l ∷ own) [] line before behind each = absurd each
   lines_whole whole (l ∷ own) (x ∷ items) line before behind each =
@@ -139,7 +152,7 @@ module _ {X : Type 0} (read : Line → Verdict X) (R : Line → X → Type 0) wh
         ap (λ v. taken line (own ++ behind) v >>= then_more (length items) before)
             (whole l x each.0)
             ∙ rest.1
-            ∙ ap (λ xs. Ok (xs, record { line = rest.0; rest = behind }))
+            ∙ ap (λ xs. Ok (xs, at rest.0 behind))
             (append_assoc before (x ∷ []) items),
       )
 
@@ -161,36 +174,40 @@ module _ {X : Type 0} (read : List X → Line → Verdict X) (R : Line → X →
   abbrev GoesOn : ℕ → List Line → List X → List X → Place → Type 0
   GoesOn line ls before all q = (x : X) → P (before ++ x ∷ []) →
       to_end read (before ++ x ∷ []) (line + 1) ls ≡ Ok (all, q) →
-      Row R ls (before ++ x ∷ []) all (codes "end" ∷ q.rest) × P all
+      Row R ls (before ++ x ∷ []) all (codes "end" ∷ q.rest) × P all × Steps (at (line + 1) ls) q
 
   end_step : (l : Line) (ls : List Line) (line : ℕ) (before all : List X) (q : Place) → P before →
       GoesOn line ls before all q →
       (IsTrue (bytes_eq l (codes "end"))
       × (◌≡◌ {A = Result (List X × Place) Refusal}
-      (Ok (before, record { line = line + 1; rest = ls })) (Ok (all, q))))
+      (Ok (before, at (line + 1) ls)) (Ok (all, q))))
       ⊎ (taken line ls (read before l) >>= on line ls before ≡ Ok (all, q)) →
-      Row R (l ∷ ls) before all (codes "end" ∷ q.rest) × P all
+      Row R (l ∷ ls) before all (codes "end" ∷ q.rest) × P all × Steps (at line (l ∷ ls)) q
   end_step l ls line before all q so goes (inl h) =
-      let same = same_end before all (record { line = line + 1; rest = ls }) q h.1 in
+      let same = same_end before all (at (line + 1) ls) q h.1 in
       let end = (bytes_eq-Decides l (codes "end")).0 h.0 in (
         row_end R (l ∷ ls) before all (codes "end" ∷ q.rest) same.0
-            (cons_both l (codes "end") ls q.rest end same.1),
+            (cons_both l (codes "end") ls q.rest end (rest_same (at (line + 1) ls) q same.1)),
         subst P same.0 so,
+        subst (Steps (at line (l ∷ ls))) same.1 (one_step line l ls),
       )
   end_step l ls line before all q so goes (inr h) =
       let first = then_taken (read before l) line ls (on line ls before) (all, q) h in
       let here = is before l first.0 so first.1 in
-      let rest = goes first.0 here.1 first.2 in
-      (row_push R l ls before all first.0 (codes "end" ∷ q.rest) here.0 rest.0, rest.1)
+      let rest = goes first.0 here.1 first.2 in (
+        row_push R l ls before all first.0 (codes "end" ∷ q.rest) here.0 rest.0,
+        rest.1,
+        then_steps (at line (l ∷ ls)) (at (line + 1) ls) q (one_step line l ls) rest.2,
+      )
 
   pub end_are : (ls : List Line) (line : ℕ) (before all : List X) (q : Place) → P before →
       to_end read before line ls ≡ Ok (all, q) →
-      Row R ls before all (codes "end" ∷ q.rest) × P all
+      Row R ls before all (codes "end" ∷ q.rest) × P all × Steps (at line ls) q
   end_are [] line before all q so e = absurd (cc e)
   end_are (l ∷ ls) line before all q so e =
       end_step l ls line before all q so
       (λ x next more. end_are ls (line + 1) (before ++ x ∷ []) all q next more)
-      (cond_from (bytes_eq l (codes "end")) (Ok (before, record { line = line + 1; rest = ls }))
+      (cond_from (bytes_eq l (codes "end")) (Ok (before, at (line + 1) ls))
       (taken line ls (read before l) >>= on line ls before) (all, q) e)
 
   module _ (none : (x : X) → R (codes "end") x → ⊥)
@@ -199,10 +216,10 @@ module _ {X : Type 0} (read : List X → Line → Verdict X) (R : Line → X →
     pub end_whole : (own : List Line) (items : List X) (line : ℕ) (before : List X)
         (behind : List Line) → P before → P (before ++ items) → AllZip R own items →
         (n : ℕ) × (to_end read before line (own ++ codes "end" ∷ behind)
-        ≡ Ok (before ++ items, record { line = n; rest = behind }))
+        ≡ Ok (before ++ items, at n behind))
     end_whole [] [] line before behind so all each = (
       line + 1,
-      ap (λ xs. Ok (xs, record { line = line + 1; rest = behind })) (sym (append-nil before)),
+      ap (λ xs. Ok (xs, at (line + 1) behind)) (sym (append-nil before)),
     )
     end_whole [] (x ∷ items) line before behind so all each = absurd each
     end_whole (l ∷ own) [] line before behind so all each = absurd each
@@ -218,9 +235,24 @@ module _ {X : Type 0} (read : List X → Line → Verdict X) (R : Line → X →
         = rw (differ l (codes "end") other) refl in (
           rest.0,
           goes_on ∙ ap (λ v. taken line tail v >>= on line tail before) read_is ∙ rest.1
-              ∙ ap (λ xs. Ok (xs, record { line = rest.0; rest = behind }))
+              ∙ ap (λ xs. Ok (xs, at rest.0 behind))
               (append_assoc before (x ∷ []) items),
         )
+
+-- ---- lines of which each is read alone
+
+abbrev pub Any : {X : Type 0} → List X → Type 0
+Any xs = Unit {0}
+
+module _ {X : Type 0} (read : Line → Verdict X) (R : Line → X → Type 0) where
+  pub alone_is : ((l : Line) (x : X) → read l ≡ Ok x → R l x) → (before : List X) (l : Line) (x : X) →
+      Any before → alone read before l ≡ Ok x → R l x × Any (before ++ x ∷ [])
+  alone_is is before l x so e = (is l x e, tt)
+
+  pub alone_whole : ((l : Line) (x : X) → R l x → read l ≡ Ok x) → (before : List X) (l : Line)
+      (x : X) (more : List X) → Any before → R l x → Any (before ++ x ∷ more) →
+      alone read before l ≡ Ok x
+  alone_whole whole before l x more so h all = whole l x h
 
 -- ---- items of which each has one line
 

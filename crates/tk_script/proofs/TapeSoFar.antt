@@ -3,7 +3,7 @@ use Rattle.std.proofs.Common.{◌≡◌, ◌∙◌, ℕ, ◌+◌, ◌-◌, ◌^�
 use Rattle.tk_script.specs.declared.cause.Cause.{Cause}
 use Rattle.tk_script.specs.declared.input.RawTape.{RawTape}
 use Rattle.tk_script.specs.Grammar.{Line, kept}
-use Rattle.tk_script.specs.Reading.{Place, ◌>>=◌, kept_behind, read_kept, read_next_piece, read_piece, read_pieces}
+use Rattle.tk_script.specs.Reading.{Place, ◌>>=◌, kept_behind, read_kept, alone, read_piece, read_pieces}
 use Rattle.tk_script.proofs.PieceLaws.{joined, kept_more, got_more}
 use Rattle.tk_script.proofs.PlaceLaws.{Follows, end_more}
 
@@ -37,7 +37,7 @@ module _ (want : ℕ) (start here : Place) (bytes : List ℕ) (got : ℕ)
       more ≡ min (got + length piece) (2 ^ 64 - 1) → TapeSoFar want start q new more
   so_far_more l q piece new more follows other read_is keeps counts = record {
     parts = s.parts ++ piece ∷ [];
-    said = s.said ∙ end_more read_next_piece s.parts here l q piece follows other read_is;
+    said = s.said ∙ end_more (alone read_piece) s.parts here l q piece follows other read_is;
     kept_is = kept_more want s.parts piece bytes new s.kept_is keeps;
     counted = got_more s.parts piece got more s.counted counts;
   }

@@ -8,7 +8,7 @@ use Rattle.tk_schedule.specs.declared.raw.RawKind.{RawKind}
 use Rattle.tk_schedule.specs.declared.raw.RawKind.TheVariants.{Order, Reads, End}
 use Rattle.tk_script.specs.declared.cause.Cause.{Cause}
 use Rattle.tk_script.specs.Grammar.{Line, IsTurn}
-use Rattle.tk_script.specs.Reading.{Place, ◌>>=◌, to_end, numbered, numbered_behind, read_next_turn, read_turn, read_turns}
+use Rattle.tk_script.specs.Reading.{Place, ◌>>=◌, to_end, numbered, numbered_behind, alone, read_turn, read_turns}
 use Rattle.tk_script.proofs.PlaceLaws.{Follows, end_more}
 use Rattle.tk_script.proofs.TurnLaws.{turn_is}
 
@@ -55,8 +55,8 @@ more_turns (k ∷ ks) x turns turn = (turns.0, more_turns ks x turns.1 turn)
 
 pub record TurnsSoFar (start here : Place) (raw : List RawLine) : Type 0 where
   pub kinds : List RawKind
-  pub said : to_end read_next_turn [] start.line start.rest
-      ≡ to_end read_next_turn kinds here.line here.rest
+  pub said : to_end (alone read_turn) [] start.line start.rest
+      ≡ to_end (alone read_turn) kinds here.line here.rest
   pub are : raw ≡ turns_from start.line kinds
   pub turns : AllByRecursion IsTurn kinds
   pub number : here.line ≡ start.line + length kinds
@@ -72,7 +72,7 @@ no_turns start raw none = record {
 
 module _ (start here : Place) (raw : List RawLine) (s : TurnsSoFar start here raw) where
   pub turns_refused : (line : ℕ) (c : Cause) →
-      to_end read_next_turn s.kinds here.line here.rest ≡ Err (line, c) →
+      to_end (alone read_turn) s.kinds here.line here.rest ≡ Err (line, c) →
       read_turns start.line start.rest ≡ Err (line, c)
   turns_refused line c e = ap (λ r. r >>= numbered_behind start.line) (s.said ∙ e)
 
@@ -84,7 +84,7 @@ module _ (start here : Place) (raw : List RawLine) (s : TurnsSoFar start here ra
       (one_end start.line here.line s.kinds s.turns)
 
   pub turns_done : (q : Place) (all : List RawLine) →
-      to_end read_next_turn s.kinds here.line here.rest ≡ Ok (s.kinds, q) →
+      to_end (alone read_turn) s.kinds here.line here.rest ≡ Ok (s.kinds, q) →
       all ≡ raw ++ record { line = here.line; kind = End } ∷ [] →
       read_turns start.line start.rest ≡ Ok (all, q)
   turns_done q all e same =
@@ -98,7 +98,7 @@ module _ (start here : Place) (raw : List RawLine) (s : TurnsSoFar start here ra
       new ≡ raw ++ record { line = here.line; kind = kind } ∷ [] → TurnsSoFar start q new
   turns_more l q kind new follows other read_is keeps = record {
     kinds = s.kinds ++ kind ∷ [];
-    said = s.said ∙ end_more read_next_turn s.kinds here l q kind follows other read_is;
+    said = s.said ∙ end_more (alone read_turn) s.kinds here l q kind follows other read_is;
     are = keeps ∙ ap (λ ls. ls ++ lined here.line kind) s.are
         ∙ ap (λ n. turns_from start.line s.kinds ++ lined n kind) s.number
         ∙ sym (with_turn start.line s.kinds kind);

@@ -369,14 +369,18 @@ line_at read line (l ∷ ls) = taken line ls (read l)
 abbrev pub next_line : {X : Type 0} → (Line → Verdict X) → Place → Result (X × Place) Refusal
 next_line read p = line_at read p.line p.rest
 
--- what the next count lines give, after what was read before
-abbrev pub next_lines : {X : Type 0} → ℕ → (Line → Verdict X) → List X → Place →
+-- a line that is read alone, whatever stands before it
+abbrev pub alone : {X : Type 0} → (Line → Verdict X) → List X → Line → Verdict X
+alone read before line = read line
+
+-- what the next count lines give, after what was read before: each may look at all before it
+abbrev pub next_lines : {X : Type 0} → ℕ → (List X → Line → Verdict X) → List X → Place →
     Result (List X × Place) Refusal
 next_lines zero read before p = Ok (before, p)
 next_lines (suc count) read before p =
-    next_line read p >>= λ x. next_lines count read (before ++ x.0 ∷ []) x.1
+    next_line (read before) p >>= λ x. next_lines count read (before ++ x.0 ∷ []) x.1
 
--- what the lines up to an `end` give, after what was read before: each may look at all before it
+-- what the lines up to an `end` give, likewise
 abbrev pub to_end : {X : Type 0} → (List X → Line → Verdict X) → List X → ℕ → List Line →
     Result (List X × Place) Refusal
 to_end read before line [] = Err (line, cause.Early)
@@ -403,8 +407,8 @@ read_head may p = do
 unfoldable pub read_keys : Numbers → Bool → Place → Result (Option Keys × Place) Refusal
 read_keys n false p = Ok (None, p)
 read_keys n true p = do
-  handles ← next_lines n.logs read_handle [] p
-  seeds ← next_lines n.clients read_seed [] handles.1
+  handles ← next_lines n.logs (alone read_handle) [] p
+  seeds ← next_lines n.clients (alone read_seed) [] handles.1
   Ok (Some (record { handles = handles.0; seeds = seeds.0 }), seeds.1)
 
 -- a text may be said no earlier than the last before it
@@ -422,17 +426,13 @@ pub record ScriptLines : Type 0 where
 unfoldable pub read_script : Bool → Place → Result (ScriptLines × Place) Refusal
 read_script may p = do
   head ← read_head may p
-  roles ← next_lines head.0.logs (read_role head.0) [] head.2
+  roles ← next_lines head.0.logs (alone (read_role head.0)) [] head.2
   keys ← read_keys head.0 head.1 roles.1
   says ← to_end (read_next_say head.0) [] keys.1.line keys.1.rest
   Ok (
     record { numbers = head.0; keys = keys.0; roles = roles.0; says = says.0 },
     says.1,
   )
-
--- the lines of a history, of which none looks at those before it
-abbrev pub read_next_turn : List RawKind → Line → Verdict RawKind
-read_next_turn kinds line = read_turn line
 
 -- what lines say, numbered from this number on, and the end after them
 abbrev pub numbered : ℕ → List RawKind → List RawLine
@@ -443,19 +443,15 @@ abbrev pub numbered_behind : ℕ → List RawKind × Place → Result (List RawL
 numbered_behind line x = Ok (numbered line x.0, x.1)
 
 abbrev pub read_turns : ℕ → List Line → Result (List RawLine × Place) Refusal
-read_turns line lines = to_end read_next_turn [] line lines >>= numbered_behind line
+read_turns line lines = to_end (alone read_turn) [] line lines >>= numbered_behind line
 
 unfoldable pub read_history : Place → Result (List RawLine × Place) Refusal
 read_history p = do
   first ← next_line (read_words (codes "history")) p
   read_turns first.1.line first.1.rest
 
--- the pieces of a tape, of which none looks at those before it
-abbrev pub read_next_piece : List (List ℕ) → Line → Verdict (List ℕ)
-read_next_piece pieces line = read_piece line
-
 abbrev pub read_pieces : List (List ℕ) → ℕ → List Line → Result (List (List ℕ) × Place) Refusal
-read_pieces = to_end read_next_piece
+read_pieces = to_end (alone read_piece)
 
 -- what is kept of pieces of which so many bytes are wanted
 abbrev pub kept_behind : ℕ → List (List ℕ) × Place → Result (RawTape × Place) Refusal

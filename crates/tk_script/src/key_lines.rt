@@ -1,17 +1,17 @@
-ghost use Rattle.std.specs.Prelude.{◌≡◌, [], List, Some, Ok, length, ℕ, IfSome};
+ghost use Rattle.std.specs.Prelude.{◌≡◌, List, Some, Ok, length, ℕ, IfSome};
 ghost use Rattle.hex.specs.Hex.{decode_of};
 ghost use Rattle.tk_script.specs.Answer.{Agrees};
-ghost use Rattle.tk_script.specs.Reading.{IsTaken, named, next_lines, read_handle, read_keys};
-ghost use Rattle.tk_script.specs.Reading.{read_seed};
+ghost use Rattle.tk_script.specs.Reading.{IsTaken, named, read_handle, read_keys, read_seed};
 ghost use Rattle.tk_script.specs.Stands.{stands};
 
 use crate::fields::rest_behind;
 use crate::place::Place;
+use crate::rows::{LineKind, counted};
 use crate::{Cause, ClientSeeds, Handles, Keys, ScriptError};
 use hex::FromHex;
 use std::alloc::Global;
 use tk_handle::Handle;
-use tk_shape::Shape;
+use tk_shape::{Memory, Shape};
 
 /// The keys of a keyed script, and the place after them: a drawn script has none.
 pub(crate) fn keys_of<'a>(
@@ -26,53 +26,53 @@ pub(crate) fn keys_of<'a>(
     if !keyed {
         return Ok((None, start));
     }
-    let (handles, rest) = handles_of(alloc, shape.logs, start)?;
-    let (seeds, rest) = seeds_of(alloc, shape.clients, rest)?;
-    Ok((Some(Keys { handles, seeds }), rest))
+    let (handles, rest) = counted(alloc, &HandleLines, shape.logs, start)?;
+    let (seeds, rest) = counted(alloc, &SeedLines, shape.clients, rest)?;
+    let keys = Keys {
+        handles: Handles::from_vec(handles),
+        seeds: ClientSeeds::from_vec(seeds),
+    };
+    Ok((Some(keys), rest))
 }
 
-/// As many handles as there are logs, a line for each, and the place after them.
-fn handles_of(
-    alloc: Global,
-    logs: u32,
-    start: Place<'_>,
-) -> Result<(Handles, Place<'_>), ScriptError>
-    ensures { Agrees (λ x. (x.0, stands x.1)) result
-        (next_lines logs read_handle [] (stands start.entry)) }
-{
-    let mut handles = Vec::new(alloc);
-    let mut here = start;
-    'lines: for _ in 0..logs {
-        let (line, behind) = here.next()?;
-        let Some(handle) = handle_of(line) else {
-            return Err(here.refused(Cause::Form));
-        };
-        handles.push(handle)?;
-        here = behind;
+/// The lines of handles.
+struct HandleLines;
+
+impl LineKind for HandleLines {
+    ghost use Rattle.tk_script.specs.Reading.{alone, read_handle};
+
+    type Item = Handle;
+
+    ghost reads = { λ k. alone read_handle };
+
+    fn read(
+        &self,
+        alloc: Global,
+        before: &[Handle],
+        line: &[u8],
+    ) -> Result<Result<Handle, Cause>, Memory> {
+        Ok(handle_of(line).ok_or(Cause::Form))
     }
-    Ok((Handles::from_vec(handles), here))
 }
 
-/// As many seeds as there are clients, a line for each, and the place after them.
-fn seeds_of(
-    alloc: Global,
-    clients: u32,
-    start: Place<'_>,
-) -> Result<(ClientSeeds, Place<'_>), ScriptError>
-    ensures { Agrees (λ x. (x.0, stands x.1)) result
-        (next_lines clients read_seed [] (stands start.entry)) }
-{
-    let mut seeds = Vec::new(alloc);
-    let mut here = start;
-    'lines: for _ in 0..clients {
-        let (line, behind) = here.next()?;
-        let Some(seed) = seed_of(line) else {
-            return Err(here.refused(Cause::Form));
-        };
-        seeds.push(seed)?;
-        here = behind;
+/// The lines of seeds.
+struct SeedLines;
+
+impl LineKind for SeedLines {
+    ghost use Rattle.tk_script.specs.Reading.{alone, read_seed};
+
+    type Item = [u8; 32];
+
+    ghost reads = { λ k. alone read_seed };
+
+    fn read(
+        &self,
+        alloc: Global,
+        before: &[[u8; 32]],
+        line: &[u8],
+    ) -> Result<Result<[u8; 32], Cause>, Memory> {
+        Ok(seed_of(line).ok_or(Cause::Form))
     }
-    Ok((ClientSeeds::from_vec(seeds), here))
 }
 
 /// The handle that a line spells in 208 digits.

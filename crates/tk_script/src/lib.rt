@@ -27,6 +27,7 @@ mod role;
 mod role_lines;
 mod role_text;
 mod round_trip;
+mod rows;
 mod say;
 mod say_lines;
 mod say_text;

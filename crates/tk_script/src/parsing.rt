@@ -90,12 +90,16 @@ fn tape_behind(
     ensures { Agrees (λ tape. tape) result
         (read_end script.now.keys (tape_len script.now.shape) (stands start.entry)) }
 {
-    if script.keys.is_some() {
-        start.no_line()?;
-        return Ok(None);
+    match &script.keys {
+        Some(_) => {
+            start.no_line()?;
+            Ok(None)
+        }
+        None => {
+            let want = script.shape.tape_len();
+            let (tape, rest) = tape_of(alloc, want as usize, start)?;
+            rest.no_line()?;
+            Ok(Some(tape))
+        }
     }
-    let want = script.shape.tape_len();
-    let (tape, rest) = tape_of(alloc, want as usize, start)?;
-    rest.no_line()?;
-    Ok(Some(tape))
 }

@@ -16,13 +16,12 @@ impl<'a> Place<'a> {
     ghost use Rattle.tk_script.specs.declared.error.ScriptError.TheVariants as error;
     ghost use Rattle.tk_script.specs.Answer.{Agrees};
     ghost use Rattle.tk_script.specs.Grammar.{lines_of};
-    ghost use Rattle.tk_script.specs.Reading.{next_line, no_line, read_words};
+    ghost use Rattle.tk_script.specs.Reading.{front, next_line, no_line, read_words};
     ghost use Rattle.tk_script.specs.Stands.{stands};
 
     /// The front of a text.
     pub(crate) fn front(text: &'a [u8]) -> Place<'a>
-        ensures number { result.line ≡ 1 }
-        ensures whole { result.rest.now ≡ text.now }
+        ensures { stands result ≡ front (lines_of text.now) }
     {
         Place {
             line: 1,

@@ -1,12 +1,14 @@
 ghost use Rattle.std.specs.Prelude.{◌≡◌, [], Some, IfOk};
 ghost use Rattle.std.specs.Option.{option_copied};
 ghost use Rattle.tk_script.specs.Answer.{Agrees};
-ghost use Rattle.tk_script.specs.Reading.{named, next_lines, read_clients, read_role, first_from};
+ghost use Rattle.tk_script.specs.Reading.{alone, named, next_lines, read_clients, read_role};
+ghost use Rattle.tk_script.specs.Reading.{first_from};
 ghost use Rattle.tk_script.specs.SoundScript.{is_ascending};
 ghost use Rattle.tk_script.specs.Stands.{stands};
 
 use crate::fields::numbers_behind;
 use crate::place::Place;
+use crate::rows::{LineKind, counted};
 use crate::{Cause, Role, Roles, ScriptError};
 use std::alloc::Global;
 use tk_shape::{Memory, Shape, Words};
@@ -18,20 +20,33 @@ pub(crate) fn roles_of<'a>(
     start: Place<'a>,
 ) -> Result<(Roles, Place<'a>), ScriptError>
     ensures { Agrees (λ x. (x.0, stands x.1)) result
-        (next_lines shape.now.logs (read_role (named shape.now)) [] (stands start.entry)) }
+        (next_lines shape.now.logs (alone (read_role (named shape.now))) [] (stands start.entry)) }
 {
-    let mut roles = Vec::new(alloc);
-    let mut here = start;
-    'logs: for _ in 0..shape.logs {
-        let (line, behind) = here.next()?;
-        let role = match role_of(alloc, shape, line)? {
-            Ok(role) => role,
-            Err(cause) => return Err(here.refused(cause)),
-        };
-        roles.push(role)?;
-        here = behind;
+    let (roles, rest) = counted(alloc, &RoleLines { shape }, shape.logs, start)?;
+    Ok((Roles::from_vec(roles), rest))
+}
+
+/// The lines of the roles in a shape.
+#[derive(Clone, Copy)]
+struct RoleLines<'a> {
+    shape: &'a Shape,
+}
+
+impl<'a> LineKind for RoleLines<'a> {
+    ghost use Rattle.tk_script.specs.Reading.{alone, named, read_role};
+
+    type Item = Role;
+
+    ghost reads = { λ k. alone (read_role (named k.shape.now)) };
+
+    fn read(
+        &self,
+        alloc: Global,
+        before: &[Role],
+        line: &[u8],
+    ) -> Result<Result<Role, Cause>, Memory> {
+        role_of(alloc, self.shape, line)
     }
-    Ok((Roles::from_vec(roles), here))
 }
 
 /// The role that a line spells: the writer, and followers in ascending order.

@@ -6,8 +6,8 @@ ghost use Rattle.tk_script.specs.Reading.{read_say, to_end, why_not};
 ghost use Rattle.tk_script.specs.Stands.{stands};
 
 use crate::fields::{next_number, rest_behind};
-use crate::lines::is_end;
 use crate::place::Place;
+use crate::rows::{LineKind, up_to_end};
 use crate::{Cause, Say, Says, ScriptError};
 use std::alloc::Global;
 use tk_seal::allowed;
@@ -23,20 +23,30 @@ pub(crate) fn says_of<'a>(
         (to_end (read_next_say (named shape.now)) [] start.entry.line
         (lines_of start.entry.rest.now)) }
 {
-    let mut says = Vec::new(alloc);
-    let mut here = start;
-    'lines: loop {
-        let (line, behind) = here.next()?;
-        if is_end(line) {
-            return Ok((Says::from_vec(says), behind));
-        }
-        let last = last_when(says.as_slice());
-        let say = match say_of(alloc, shape, last, line)? {
-            Ok(say) => say,
-            Err(cause) => return Err(here.refused(cause)),
-        };
-        says.push(say)?;
-        here = behind;
+    let (says, rest) = up_to_end(alloc, &SayLines { shape }, start)?;
+    Ok((Says::from_vec(says), rest))
+}
+
+/// The lines of the texts in a shape, in order.
+#[derive(Clone, Copy)]
+struct SayLines<'a> {
+    shape: &'a Shape,
+}
+
+impl<'a> LineKind for SayLines<'a> {
+    ghost use Rattle.tk_script.specs.Reading.{named, read_next_say};
+
+    type Item = Say;
+
+    ghost reads = { λ k. read_next_say (named k.shape.now) };
+
+    fn read(
+        &self,
+        alloc: Global,
+        before: &[Say],
+        line: &[u8],
+    ) -> Result<Result<Say, Cause>, Memory> {
+        say_of(alloc, self.shape, last_when(before), line)
     }
 }
 

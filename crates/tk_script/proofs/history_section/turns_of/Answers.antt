@@ -1,8 +1,6 @@
 -- Each line is its turn, up to the one that ends them.
-use Rattle.std.proofs.Common.{◌≡◌, [], Err, codes, refl, rules}
-use Rattle.tk_script.specs.declared.cause.Cause.TheVariants as cause
-use Rattle.tk_script.specs.Grammar.{lines_of}
-use Rattle.tk_script.specs.Reading.{read_next_turn, read_turns}
+use Rattle.std.proofs.Common.{◌≡◌, [], codes, refl, rules}
+use Rattle.tk_script.specs.Reading.{alone, read_turn}
 use Rattle.tk_script.specs.Stands.{stands}
 use Rattle.tk_script.proofs.AnswerLaws.{refused_as, told_refused}
 use Rattle.tk_script.proofs.PlaceLaws.{end_early, end_here, end_refused}
@@ -15,15 +13,7 @@ turns-init c =
     record { so_far = no_turns (stands c.args.start) c.new-lines.result.items none }
 
 pub returns-in_err-line : goal.returns-in_err-line
-returns-in_err-line c =
-    let out : c.from_residual.result ≡ Err c.in_err-line.field-0.0 = search rules in
-    let s = c.turns.invariant.so_far in
-    told_refused c.from_residual.result c.in_err-line.field-0.0 (λ x. (x.0, stands x.1))
-    (read_turns c.args.start.line (lines_of c.args.start.rest.now))
-    c.turns.here.line cause.Early out c.in_err-line.ensures.early
-    (turns_refused (stands c.args.start) (stands c.turns.here) c.turns.lines.items s
-    c.turns.here.line cause.Early
-    (end_early read_next_turn s.kinds (stands c.turns.here) c.in_err-line.ensures.none))
+returns-in_err-line c = search (rules, told_refused, turns_refused, end_early)
 
 pub from_vec-requires : goal.from_vec-requires
 from_vec-requires c =
@@ -36,24 +26,14 @@ returns-then-is_end c =
     let s = c.turns.invariant.so_far in
     turns_done (stands c.args.start) (stands c.turns.here) c.turns.lines.items s
     (stands c.in_ok-line.behind) c.from_vec.result
-    (end_here read_next_turn s.kinds (stands c.turns.here) c.in_ok-line.line.now
+    (end_here (alone read_turn) s.kinds (stands c.turns.here) c.in_ok-line.line.now
     (stands c.in_ok-line.behind)
     (record { number = c.in_ok-line.ensures.number; lines = c.in_ok-line.ensures.line }) end
     s.kinds refl)
     (search rules)
 
 pub returns-in_default : goal.returns-in_default
-returns-in_default c =
-    let other : c.in_ok-line.line.now ≡ codes "end" → ⊥ = search rules in
-    let s = c.turns.invariant.so_far in
-    refused_as c.refused.result c.turns.here.line cause.Form
-    (read_turns c.args.start.line (lines_of c.args.start.rest.now)) c.refused.ensures
-    (turns_refused (stands c.args.start) (stands c.turns.here) c.turns.lines.items s
-    c.turns.here.line cause.Form
-    (end_refused read_next_turn s.kinds (stands c.turns.here) c.in_ok-line.line.now
-    (stands c.in_ok-line.behind) cause.Form
-    (record { number = c.in_ok-line.ensures.number; lines = c.in_ok-line.ensures.line }) other
-    (search rules)))
+returns-in_default c = search (rules, refused_as, turns_refused, end_refused)
 
 pub turns-preserved : goal.turns-preserved
 turns-preserved c =

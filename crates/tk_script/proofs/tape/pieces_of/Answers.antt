@@ -1,9 +1,7 @@
 -- Each line is its piece, up to the one that ends them.
-use Rattle.std.proofs.Common.{◌≡◌, ◌++◌, ◌+◌, ◌-◌, ◌^◌, Err, codes, length, take, min, refl, rules}
-use Rattle.tk_script.specs.declared.cause.Cause.TheVariants as cause
-use Rattle.tk_script.specs.Grammar.{lines_of}
+use Rattle.std.proofs.Common.{◌≡◌, ◌++◌, ◌+◌, ◌-◌, ◌^◌, codes, length, take, min, refl, rules}
 use Rattle.tk_script.specs.Pieces.{piece_bytes}
-use Rattle.tk_script.specs.Reading.{read_kept, read_next_piece, read_piece}
+use Rattle.tk_script.specs.Reading.{alone, read_piece}
 use Rattle.tk_script.specs.Stands.{stands}
 use Rattle.tk_script.proofs.AnswerLaws.{refused_as, told_refused}
 use Rattle.tk_script.proofs.PlaceLaws.{end_early, end_here, end_refused, read_ok, read_err}
@@ -11,15 +9,7 @@ use Rattle.tk_script.proofs.TapeSoFar.{so_far_refused, so_far_done, so_far_more}
 use Rattle.tk_script.proofs.tape.pieces_of.Goals as goal
 
 pub returns-in_err-line : goal.returns-in_err-line
-returns-in_err-line c =
-    let out : c.from_residual.result ≡ Err c.in_err-line.field-0.0 = search rules in
-    let s = c.pieces.invariant.so_far in
-    told_refused c.from_residual.result c.in_err-line.field-0.0 (λ x. (x.0, stands x.1))
-    (read_kept c.args.want c.args.start.line (lines_of c.args.start.rest.now))
-    c.pieces.here.line cause.Early out c.in_err-line.ensures.early
-    (so_far_refused c.args.want (stands c.args.start) (stands c.pieces.here) c.pieces.kept.items
-    c.pieces.got s c.pieces.here.line cause.Early
-    (end_early read_next_piece s.parts (stands c.pieces.here) c.in_err-line.ensures.none))
+returns-in_err-line c = search (rules, told_refused, so_far_refused, end_early)
 
 pub returns-then-is_end : goal.returns-then-is_end
 returns-then-is_end c =
@@ -28,25 +18,14 @@ returns-then-is_end c =
     so_far_done c.args.want (stands c.args.start) (stands c.pieces.here) c.pieces.kept.items
     c.pieces.got s (stands c.in_ok-line.behind)
     (record { bytes = c.from_vec-bytes.result; got = c.pieces.got })
-    (end_here read_next_piece s.parts (stands c.pieces.here) c.in_ok-line.line.now
+    (end_here (alone read_piece) s.parts (stands c.pieces.here) c.in_ok-line.line.now
     (stands c.in_ok-line.behind)
     (record { number = c.in_ok-line.ensures.number; lines = c.in_ok-line.ensures.line }) end
     s.parts refl)
     c.from_vec-bytes.ensures refl
 
 pub returns-in-Err : goal.returns-in-Err
-returns-in-Err c =
-    let other : c.in_ok-line.line.now ≡ codes "end" → ⊥ = search rules in
-    let s = c.pieces.invariant.so_far in
-    refused_as c.refused.result c.pieces.here.line c.in-Err.cause
-    (read_kept c.args.want c.args.start.line (lines_of c.args.start.rest.now)) c.refused.ensures
-    (so_far_refused c.args.want (stands c.args.start) (stands c.pieces.here) c.pieces.kept.items
-    c.pieces.got s c.pieces.here.line c.in-Err.cause
-    (end_refused read_next_piece s.parts (stands c.pieces.here) c.in_ok-line.line.now
-    (stands c.in_ok-line.behind) c.in-Err.cause
-    (record { number = c.in_ok-line.ensures.number; lines = c.in_ok-line.ensures.line }) other
-    (read_err piece_bytes c.in_ok-piece.field-0 c.in-Err.cause (read_piece c.in_ok-line.line.now)
-    c.in-Err.is c.in_ok-piece.ensures)))
+returns-in-Err c = search (rules, refused_as, so_far_refused, end_refused, read_err)
 
 pub pieces-preserved : goal.pieces-preserved
 pieces-preserved c =
