@@ -3,6 +3,7 @@ use Rattle.std.proofs.Common.{◌≡◌, ℕ, zero, suc, ◌+◌, ◌<◌, ◌�
 use Rattle.std.proofs.lemmas.List.{length-replicate}
 use Rattle.std.proofs.lemmas.List.Elements.{All-head, All-tail, All-from_get_or}
 use Rattle.std.proofs.lemmas.List.Sums.{sum_by-cons, sum_by-append}
+use Rattle.std.proofs.Math.Bool.{or-true}
 use Rattle.tk_place.specs.Chain.{IsBlocked}
 use Rattle.tk_place.specs.Place.{Others, Reached, slots_of, lowest_empty, has_bucket, named_in, not_before, first_level, levels_from, reached, search_end, fit}
 use Rattle.tk_place.specs.Pairs.{pairs_in, pairs_from, pairs_with}
@@ -11,7 +12,7 @@ use Rattle.tk_place.specs.Table.{slot_at, IsBelow, IsTable}
 use Rattle.tk_place.proofs.Crowds.{room, is_within, AreBelow, not_placeable}
 use Rattle.tk_place.proofs.Ends.{has_room, named_by, names, distinct_first, distinct_next, entry_of_full}
 use Rattle.tk_place.proofs.Levels.{AreNamedIn, levels_closed, not_before-covers, in_front}
-use Rattle.tk_place.proofs.Reaching.{or-true, has-append, eqb-self, few_distinct}
+use Rattle.tk_place.proofs.Reaching.{has-append, eqb-self, few_distinct}
 
 -- ---- what was reached
 

@@ -1,11 +1,12 @@
 -- A placement shows that the pairs fit.
-use Rattle.std.proofs.Common.{◌≡◌, ℕ, zero, suc, ◌+◌, ◌<◌, ◌≤◌, List, [], ◌∷◌, length, Bool, true, false, cond, ◌&&◌, ◌||◌, ◌==◌, nat_le, replicate, get_or, set, refl, ap, sym, ◌⊎◌, leb-true, ◌∙◌, arith, count_by, length-set, inl, inr, eqb-true, true≢false, eq-eqb, le-leb, get_or-set_same, get_or-set_other, subst}
+use Rattle.std.proofs.Common.{◌≡◌, ℕ, zero, suc, ◌+◌, ◌<◌, ◌≤◌, List, [], ◌∷◌, length, true, false, cond, ◌==◌, nat_le, replicate, get_or, set, refl, ap, sym, ◌⊎◌, leb-true, ◌∙◌, arith, count_by, length-set, inl, inr, eqb-true, true≢false, eq-eqb, le-leb, get_or-set_same, get_or-set_other, subst}
 use Rattle.std.specs.List.{list_all}
 use Rattle.std.proofs.lemmas.List.{length-replicate, get_or-replicate}
 use Rattle.std.proofs.lemmas.List.Sums.{sum_by-cons}
+use Rattle.std.proofs.lemmas.Bool.{and_parts, or_cases}
+use Rattle.std.proofs.Math.Bool.{or-true}
 use Rattle.tk_place.specs.Place.{one_more, is_placeable, fit}
 use Rattle.tk_place.specs.Pairs.{AreOwn, IsPlacement, HasPlacement, FitsByPlacements}
-use Rattle.tk_place.proofs.Reaching.{or-true}
 
 -- how many entries a bucket is given
 abbrev pub given : ℕ → List ℕ → ℕ
@@ -56,19 +57,11 @@ fit_by_placement buckets depth pairs places placement =
 
 -- ---- and where they fit they have one
 
-both : (a b : Bool) → (a && b) ≡ true → (a ≡ true) × (b ≡ true)
-both true b h = (refl, h)
-both false b h = absurd (true≢false (sym h))
-
-one_of : (a b : Bool) → (a || b) ≡ true → (a ≡ true) ⊎ (b ≡ true)
-one_of true b h = inl refl
-one_of false b h = inr h
-
 small_of : (depth : ℕ) (counts : List ℕ) (b : ℕ) → list_all (λ n. nat_le n depth) counts ≡ true → b < length counts → get_or counts b 0 ≤ depth
 small_of depth [] b h l = absurd (omega arith)
-small_of depth (n ∷ counts) zero h l = leb-true n depth (both (nat_le n depth) (list_all (λ n. nat_le n depth) counts) h).0
+small_of depth (n ∷ counts) zero h l = leb-true n depth (and_parts (nat_le n depth) (list_all (λ n. nat_le n depth) counts) h).0
 small_of depth (n ∷ counts) (suc b) h l =
-    small_of depth counts b (both (nat_le n depth) (list_all (λ n. nat_le n depth) counts) h).1 (omega arith)
+    small_of depth counts b (and_parts (nat_le n depth) (list_all (λ n. nat_le n depth) counts) h).1 (omega arith)
 
 -- over what the buckets have already
 record IsPlacedOver (depth : ℕ) (counts : List ℕ) (pairs : List (ℕ × ℕ)) : Type 0 where
@@ -91,7 +84,7 @@ placed_by : (depth : ℕ) (counts : List ℕ) (pairs : List (ℕ × ℕ)) → is
 unfolding is_placeable
 placed_by depth counts [] h = record { places = []; own = tt; within = λ b l. omega (arith, small_of depth counts b h l) }
 placed_by depth counts (p ∷ pairs) h =
-    elim (one_of (is_placeable depth (one_more counts p.0) pairs) (is_placeable depth (one_more counts p.1) pairs) h) [
+    elim (or_cases (is_placeable depth (one_more counts p.0) pairs) (is_placeable depth (one_more counts p.1) pairs) h) [
       | inl e ↦ placed_first depth counts p pairs p.0 (inl refl) (placed_by depth (one_more counts p.0) pairs e)
       | inr e ↦ placed_first depth counts p pairs p.1 (inr refl) (placed_by depth (one_more counts p.1) pairs e)
     ]

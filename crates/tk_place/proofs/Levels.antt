@@ -1,10 +1,12 @@
 -- The search without an end has reached every bucket that an entry of a reached bucket names.
-use Rattle.std.proofs.Common.{◌≡◌, ℕ, zero, suc, ◌+◌, ◌<◌, ◌≤◌, List, [], ◌∷◌, ◌++◌, length, Bool, true, false, cond, ◌||◌, refl, ap, sym, ◌∙◌, arith, append_assoc, append-nil, length-append, ◌⊎◌, eqb-true, true≢false, inl, inr, subst}
+use Rattle.std.proofs.Common.{◌≡◌, ℕ, zero, suc, ◌+◌, ◌<◌, ◌≤◌, List, [], ◌∷◌, ◌++◌, length, true, false, cond, ◌||◌, refl, ap, sym, ◌∙◌, arith, append_assoc, append-nil, length-append, ◌⊎◌, eqb-true, true≢false, inl, inr, subst}
 use Rattle.std.specs.Prelude.{◌==◌}
 use Rattle.std.proofs.lemmas.Grind.{flat_map-append}
+use Rattle.std.proofs.lemmas.Bool.{or_cases}
+use Rattle.std.proofs.Math.Bool.{or-true}
 use Rattle.tk_place.specs.Place.{Others, Reached, has_bucket, not_before, next_level, levels_from}
 use Rattle.tk_place.proofs.Ends.{named_by, names, no_levels}
-use Rattle.tk_place.proofs.Reaching.{or-true, has-append}
+use Rattle.tk_place.proofs.Reaching.{has-append}
 
 -- what is left out stood before
 pub not_before-covers : (before ps : List Reached) (b : ℕ) → has_bucket ps b ≡ true → (has_bucket before b || has_bucket (not_before before ps) b) ≡ true
@@ -33,10 +35,6 @@ next_level-covers : (T : Others) (before level : List Reached) → AreNamedIn T 
 next_level-covers T before level b h =
     has-append before (next_level T before level) b ∙ not_before-covers before (names T level) b h
 
-either : (a b : Bool) → (a || b) ≡ true → (a ≡ true) ⊎ (b ≡ true)
-either true b e = inl refl
-either false b e = inr e
-
 pub in_front : (xs ys : List Reached) (b : ℕ) → has_bucket xs b ≡ true → has_bucket (xs ++ ys) b ≡ true
 in_front xs ys b h = has-append xs ys b ∙ rw h refl
 
@@ -45,7 +43,7 @@ more_named : (T : Others) (done level : List Reached) → AreNamedIn T done (don
     AreNamedIn T (done ++ level) ((done ++ level) ++ next_level T (done ++ level) level)
 more_named T done level h b n =
     let split : (has_bucket (names T done) b ≡ true) ⊎ (has_bucket (names T level) b ≡ true) =
-    either (has_bucket (names T done) b) (has_bucket (names T level) b)
+    or_cases (has_bucket (names T done) b) (has_bucket (names T level) b)
     (sym (has-append (names T done) (names T level) b) ∙ ap (λ ps. has_bucket ps b) (sym (names-append T done level)) ∙ n) in
     elim split [
       | inl d ↦ in_front (done ++ level) (next_level T (done ++ level) level) b (h b d)

@@ -1,10 +1,12 @@
 -- Each bucket reached has a path to it.
-use Rattle.std.proofs.Common.{◌≡◌, ℕ, zero, suc, ◌+◌, List, [], ◌∷◌, ◌++◌, length, Bool, true, false, cond, ◌||◌, ◌==◌, get_or, refl, ap, sym, ◌∙◌, arith, append_assoc, ◌⊎◌, inl, inr, eqb-true, true≢false, subst, Option, Some, None, find}
+use Rattle.std.proofs.Common.{◌≡◌, ℕ, zero, suc, ◌+◌, List, [], ◌∷◌, ◌++◌, length, Bool, true, false, cond, ◌||◌, ◌==◌, get_or, refl, ap, sym, ◌∙◌, arith, append_assoc, inl, inr, eqb-true, true≢false, subst, Option, Some, None, find}
+use Rattle.std.proofs.lemmas.Bool.{or_cases, false_from_ne_true}
+use Rattle.std.proofs.Math.Bool.{or-true}
 use Rattle.tk_place.specs.Chain.{is_on, IsPath, AreMoves}
 use Rattle.tk_place.specs.Place.{Others, Spot, Reached, slots_of, has_bucket, named_in, first_level, next_level, levels_from, reached, search_end}
 use Rattle.tk_place.specs.Table.{slot_at}
 use Rattle.tk_place.proofs.Ends.{has_room, named_by, names}
-use Rattle.tk_place.proofs.Reaching.{or-true, has-append, has-push, AllOf, AllOf-append, kept_by, eqb-self}
+use Rattle.tk_place.proofs.Reaching.{has-append, has-push, AllOf, AllOf-append, kept_by, eqb-self}
 
 pub AllOf-weaker : (P Q : Reached → Type 0) → ((p : Reached) → P p → Q p) → (ps : List Reached) → AllOf P ps → AllOf Q ps
 AllOf-weaker P Q w [] h = tt
@@ -36,15 +38,6 @@ record AreKept (T : Others) (new : ℕ × ℕ) (before places : List Reached) : 
 clash : (a : Bool) → a ≡ true → a ≡ false → ⊥
 clash a t f = true≢false (sym t ∙ f)
 
-one_of : (a b : Bool) → (a || b) ≡ true → (a ≡ true) ⊎ (b ≡ true)
-one_of true b h = inl refl
-one_of false b h = inr h
-
--- a test that can't hold does not
-fails : (a : Bool) → (a ≡ true → ⊥) → a ≡ false
-fails true h = absurd (h refl)
-fails false h = refl
-
 module _ (T : Others) (new : ℕ × ℕ) where
   had_more : (places : List Reached) (p : Reached) (b : ℕ) → has_bucket places b ≡ true → has_bucket (places ++ p ∷ []) b ≡ true
   had_more places p b h = has-push places p b ∙ ap (λ s. (b == p.bucket) || s) h ∙ or-true (b == p.bucket)
@@ -54,12 +47,12 @@ module _ (T : Others) (new : ℕ × ℕ) where
   placed_more before places p kept named unseen =
       let from = named.from in
       let on_path : (b : ℕ) → is_on ((from.bucket, named.slot) ∷ from.through) b ≡ true → has_bucket before b ≡ true =
-      λ b h. elim (one_of (b == from.bucket) (is_on from.through b) h) [
+      λ b h. elim (or_cases (b == from.bucket) (is_on from.through b) h) [
         | inl e ↦ ap (has_bucket before) (eqb-true b from.bucket e) ∙ named.had
         | inr e ↦ named.placed.within b e
       ] in
       let apart : is_on ((from.bucket, named.slot) ∷ from.through) p.bucket ≡ false =
-      fails (is_on ((from.bucket, named.slot) ∷ from.through) p.bucket) (λ h. clash (has_bucket places p.bucket) (kept.among p.bucket (on_path p.bucket h)) unseen) in
+      false_from_ne_true (is_on ((from.bucket, named.slot) ∷ from.through) p.bucket) (λ h. clash (has_bucket places p.bucket) (kept.among p.bucket (on_path p.bucket h)) unseen) in
       let along : IsPath T new p.bucket ((from.bucket, named.slot) ∷ from.through) = (named.named, apart, named.placed.path) in
       record {
         placed = AllOf-append (IsPlaced T new (places ++ p ∷ [])) places (p ∷ [])

@@ -1,27 +1,16 @@
 -- Places in a queue, each bucket once.
 use Rattle.std.proofs.Common.{◌≡◌, ℕ, zero, suc, ◌+◌, ◌<◌, ◌≤◌, ◌≢◌, List, [], ◌∷◌, ◌++◌, length, Bool, true, false, cond, ◌||◌, ◌==◌, refl, ap, ap₂, sym, ◌∙◌, arith, append_assoc, append-nil, true≢false, eqb-true, subst}
 use Rattle.std.proofs.lemmas.Bool.Decides.{nat_tests}
+use Rattle.std.proofs.Math.Bool.{or-false, or_comm}
 use Rattle.tk_place.specs.Place.{Reached, has_bucket, not_before}
 use Rattle.tk_place.specs.Queue.{AreDistinct}
 use Rattle.tk_place.specs.Views.{place_at}
 
 -- ---- tests
 
-pub or-true : (b : Bool) → (b || true) ≡ true
-or-true true = refl
-or-true false = refl
-
-pub or-false : (b : Bool) → (b || false) ≡ b
-or-false true = refl
-or-false false = refl
-
 pub or_assoc : (a b c : Bool) → (a || (b || c)) ≡ ((a || b) || c)
 or_assoc true b c = refl
 or_assoc false b c = refl
-
-pub or_comm : (a b : Bool) → (a || b) ≡ (b || a)
-or_comm true b = sym (or-true b)
-or_comm false b = sym (or-false b)
 
 pub eqb-self : (b : ℕ) → (b == b) ≡ true
 eqb-self b = grind (arith, nat_tests)

@@ -5,6 +5,7 @@ use Rattle.std.specs.Str.{IsUtf8, is_utf8, IsValidUpTo}
 use Rattle.std.proofs.lemmas.Str.{IsUtf8-from_is_utf8, is_utf8-from_IsUtf8}
 use Rattle.std.proofs.lemmas.List.{take_all, take-take, length-take-le}
 use Rattle.std.proofs.lemmas.List.Sums.{prefix_len-le-length}
+use Rattle.std.proofs.lemmas.Bool.{and_parts, and_from}
 use Rattle.tk_seal.specs.Texts.{is_printable, is_allowed, IsAllowedUpTo, allowed_front}
 
 -- ---- bytes that pass a test
@@ -27,25 +28,18 @@ within_prefix p (suc n) (x ∷ xs) h e =
       | false ↦ λ t. absurd (cc t)
     ] e
 
-both : (a b : Bool) → a ≡ true → b ≡ true → (a && b) ≡ true
-both a b p q = rw (p, q) refl
-
-parts : (a b : Bool) → (a && b) ≡ true → (a ≡ true) × (b ≡ true)
-parts true b e = (refl, e)
-parts false b e = absurd (cc e)
-
 -- ---- what is allowed
 
 -- a front is allowed where it is UTF-8 and its bytes are printable
 pub allowed-take : (text : List ℕ) (n : ℕ) → n ≤ prefix_len is_printable text → IsUtf8 (take n text) → is_allowed (take n text) ≡ true
 allowed-take text n h u =
-    both (is_utf8 (take n text)) (list_all is_printable (take n text)) (is_utf8-from_IsUtf8 (take n text) u) (list_all-take is_printable n text h)
+    and_from (is_utf8 (take n text)) (list_all is_printable (take n text)) (is_utf8-from_IsUtf8 (take n text) u) (list_all-take is_printable n text h)
 
 allowed_utf8 : (xs : List ℕ) → is_allowed xs ≡ true → IsUtf8 xs
-allowed_utf8 xs e = IsUtf8-from_is_utf8 xs (parts (is_utf8 xs) (list_all is_printable xs) e).0
+allowed_utf8 xs e = IsUtf8-from_is_utf8 xs (and_parts (is_utf8 xs) (list_all is_printable xs) e).0
 
 allowed_printable : (text : List ℕ) (n : ℕ) → n ≤ length text → is_allowed (take n text) ≡ true → n ≤ prefix_len is_printable text
-allowed_printable text n h e = within_prefix is_printable n text h (parts (is_utf8 (take n text)) (list_all is_printable (take n text)) e).1
+allowed_printable text n h e = within_prefix is_printable n text h (and_parts (is_utf8 (take n text)) (list_all is_printable (take n text)) e).1
 
 -- all of a text, where nothing stops it
 pub allowed_whole : (text : List ℕ) (n : ℕ) → n ≡ prefix_len is_printable text → n ≡ length text → IsUtf8 (take n text) → is_allowed text ≡ true

@@ -4,6 +4,7 @@ use Rattle.std.specs.Prelude.{nat_le, not, IfSome, IfNone}
 use Rattle.std.specs.Str.{bytes_eq}
 use Rattle.std.proofs.lemmas.Slice.Eq.{bytes_eq-Decides}
 use Rattle.std.proofs.Math.Seq.{take-append_seam, drop-append_seam}
+use Rattle.std.proofs.lemmas.Bool.{and_from}
 use Rattle.tk_kernel.specs.Xor.{xor_bytes}
 use Rattle.tk_seal.specs.Texts.{is_allowed}
 use Rattle.tk_seal.specs.Seal.{plain, plain_text, sealed_with, opened_with, IsPlainForm}
@@ -20,9 +21,6 @@ plain_text-sealed pad tag text fits small =
     ap plain_text (xor_bytes-front pad (xor_bytes pad form) (tag (xor_bytes pad form)) (length-xor_bytes pad form long) ∙ xor_bytes_twice pad form long)
     ∙ plain_text-plain (length pad) text small
 
-both : (a b : Bool) → a ≡ true → b ≡ true → (a && b) ≡ true
-both a b p q = rw (p, q) refl
-
 -- the text that seals to the block opens it: so there is one at most
 pub opened_with-sealed : (pad : List ℕ) (tag : List ℕ → List ℕ) (text block : List ℕ) → is_allowed text ≡ true → length text + 2 ≤ length pad →
     length text < 2 ^ 16 → sealed_with pad tag text ≡ block → opened_with pad tag block ≡ Some text
@@ -30,8 +28,8 @@ opened_with-sealed pad tag text block allowed fits small seals =
     ap (opened_with pad tag) (sym seals)
     ∙ ap (λ m. cond (is_allowed m && nat_le (length m + 2) (length pad) && bytes_eq (sealed_with pad tag m) (sealed_with pad tag text)) (Some m) None) (plain_text-sealed pad tag text fits small)
     ∙ ap (λ b. cond b (Some text) None)
-    (both (is_allowed text && nat_le (length text + 2) (length pad)) (bytes_eq (sealed_with pad tag text) (sealed_with pad tag text))
-    (both (is_allowed text) (nat_le (length text + 2) (length pad)) allowed (search (arith, fits)))
+    (and_from (is_allowed text && nat_le (length text + 2) (length pad)) (bytes_eq (sealed_with pad tag text) (sealed_with pad tag text))
+    (and_from (is_allowed text) (nat_le (length text + 2) (length pad)) allowed (search (arith, fits)))
     ((bytes_eq-Decides (sealed_with pad tag text) (sealed_with pad tag text)).1 refl))
 
 -- what opens is allowed, fits, and seals to the block
