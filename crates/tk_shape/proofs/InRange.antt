@@ -1,13 +1,14 @@
 -- Numbers that break no limit are those of a shape.
 use Rattle.std.proofs.Common.{◌≡◌, ℕ, ◌≤◌, List, ◌∷◌, [], Bool, true, false, IsTrue, Option, Some, None, cond, refl, arith}
-use Rattle.std.specs.Prelude.{nat_le, not, find, ◌&&◌, ◌*◌}
+use Rattle.std.specs.Prelude.{not, find, ◌&&◌, ◌*◌}
 use Rattle.std.specs.List.{AllByRecursion}
 use Rattle.std.specs.Int.{is_power_of_two}
-use Rattle.std.proofs.lemmas.Bool.{and_parts}
+use Rattle.std.proofs.lemmas.Bool.{and_parts, leb-true}
 use Rattle.std.proofs.lemmas.Bool.Decides.{nat_tests}
 use Rattle.tk_shape.specs.declared.shape.Shape.{Shape}
-use Rattle.tk_shape.specs.Limits.{Numbers, Limit, is_between, broken, numbers_in, limits, schedule_in, table_in, work_in}
+use Rattle.tk_shape.specs.Limits.{Numbers, Limit, is_between, broken, limits, schedule_in, table_in, work_in}
 use Rattle.tk_shape.specs.Ranges.{IsShape, most_buckets}
+use Rattle.tk_shape.proofs.Between.{between-parts}
 
 kept_first : (kept : Bool) (l : Limit) (later : Option Limit) →
     cond (not kept) (Some l) later ≡ None → IsTrue kept × (later ≡ None)
@@ -21,20 +22,12 @@ all_kept (l ∷ ls) none =
     let first = kept_first l.kept l (find (λ (k : Limit). not k.kept) ls) none in
     (first.0, all_kept ls first.1)
 
-at_most : (n m : ℕ) → IsTrue (nat_le n m) → n ≤ m
-at_most n m h = grind (arith, nat_tests)
-
-within : (low high n : ℕ) → IsTrue (is_between low high n) → (low ≤ n) × (n ≤ high)
-within low high n h =
-    let both = and_parts (nat_le low n) (nat_le n high) h in
-    (at_most low n both.0, at_most n high both.1)
-
 -- a power of two in a range
 power : (low high n : ℕ) → IsTrue (is_power_of_two n && is_between low high n) →
     IsTrue (is_power_of_two n) × (low ≤ n) × (n ≤ high)
 power low high n h =
     let both = and_parts (is_power_of_two n) (is_between low high n) h in
-    let range = within low high n both.1 in
+    let range = between-parts low high n both.1 in
     (both.0, range.0, range.1)
 
 few_buckets : (format n : ℕ) → n ≤ most_buckets format → n ≤ 16384
@@ -57,18 +50,18 @@ in_range n known none =
     let ticks_on = phases_on.1 in
     let logs_on = ticks_on.1 in
     let products = logs_on.1 in
-    let format = within 1 2 n.format known in
-    let servers = within 2 8 n.servers servers_on.0 in
+    let format = between-parts 1 2 n.format known in
+    let servers = between-parts 2 8 n.servers servers_on.0 in
     let buckets = power 8 (most_buckets n.format) n.buckets buckets_on.0 in
-    let depth = within 1 8 n.depth depth_on.0 in
-    let retained = within 1 (n.buckets * n.depth) n.retained retained_on.0 in
-    let block = within 24 1024 n.block block_on.0 in
+    let depth = between-parts 1 8 n.depth depth_on.0 in
+    let retained = between-parts 1 (n.buckets * n.depth) n.retained retained_on.0 in
+    let block = between-parts 24 1024 n.block block_on.0 in
     let filter = power 64 65536 n.filter_bits filter_on.0 in
-    let hits = within 1 4 n.hits hits_on.0 in
-    let clients = within 1 64 n.clients clients_on.0 in
-    let phases = within 1 256 n.phases phases_on.0 in
-    let ticks = within 1 64 n.ticks ticks_on.0 in
-    let logs = within 1 256 n.logs logs_on.0 in
+    let hits = between-parts 1 4 n.hits hits_on.0 in
+    let clients = between-parts 1 64 n.clients clients_on.0 in
+    let phases = between-parts 1 256 n.phases phases_on.0 in
+    let ticks = between-parts 1 64 n.ticks ticks_on.0 in
+    let logs = between-parts 1 256 n.logs logs_on.0 in
     record {
       format_low = format.0;
       format_high = format.1;
@@ -89,7 +82,7 @@ in_range n known none =
       filter_high = filter.2;
       hits_low = hits.0;
       hits_high = hits.1;
-      ahead_high = at_most n.ahead 8 ahead_on.0;
+      ahead_high = leb-true n.ahead 8 ahead_on.0;
       clients_low = clients.0;
       clients_high = clients.1;
       phases_low = phases.0;
@@ -98,9 +91,9 @@ in_range n known none =
       ticks_high = ticks.1;
       logs_low = logs.0;
       logs_high = logs.1;
-      schedule = at_most (schedule_in n) 65000 products.0;
-      table = at_most (table_in n) 4194304 products.1.0;
-      work = at_most (work_in n) 34359738368 products.1.1.0;
+      schedule = leb-true (schedule_in n) 65000 products.0;
+      table = leb-true (table_in n) 4194304 products.1.0;
+      work = leb-true (work_in n) 34359738368 products.1.1.0;
     }
 
 -- the shape of numbers
