@@ -31,11 +31,6 @@ one_by_one f (s ∷ ss) [] e h = absurd (omega arith)
 one_by_one f (s ∷ ss) (v ∷ vs) e h =
     ap₂ (λ x xs. x ∷ xs) (h 0 s v (omega arith)) (one_by_one f ss vs (omega arith) (λ k d g less. h (suc k) d g (omega arith)))
 
--- a list without elements
-pub nothing_left : {X : Type 0} (xs : List X) → length xs ≡ 0 → xs ≡ []
-nothing_left [] h = refl
-nothing_left (x ∷ xs) h = absurd (omega arith)
-
 -- rows are as long as the vectors whose bytes they have
 pub rows_reach : (n : ℕ) (rows : List (Vec ℕ Global)) (vectors : List (List ℕ)) → map (λ row. row.items) rows ≡ vectors →
     All (λ v. 8 * length v ≡ n) vectors → All (λ row. 8 * row.len ≡ n) rows

@@ -1,5 +1,5 @@
 -- A sum made run by run.
-use Rattle.std.proofs.Common.{◌≡◌, ℕ, zero, suc, ◌+◌, ◌-◌, ◌*◌, ◌/◌, ◌%◌, ◌<◌, ◌≤◌, List, [], ◌∷◌, ◌++◌, length, take, drop, replicate, ap, ap₂, sym, ◌∙◌, arith, length-append, take-add}
+use Rattle.std.proofs.Common.{◌≡◌, ℕ, zero, suc, ◌+◌, ◌-◌, ◌*◌, ◌/◌, ◌%◌, ◌<◌, ◌≤◌, List, [], ◌∷◌, ◌++◌, length, take, drop, replicate, ap, ap₂, sym, ◌∙◌, arith, take-add}
 use Rattle.std.specs.List.{concat}
 use Rattle.std.proofs.Math.Nat.{mul-mod_left, div-eq_of_eq-mul_left, le-div_iff_mul-le}
 use Rattle.std.proofs.lemmas.List.{length-drop, length-take-le, take-append-drop, drop-drop, drop_all, take-take}
@@ -7,16 +7,12 @@ use Rattle.std.proofs.lemmas.List.Folds.{concat-append}
 use Rattle.tk_kernel.specs.Xor.{xor_bytes, xor_all}
 use Rattle.tk_kernel.specs.Pieces.{all_pieces, AllSized}
 use Rattle.tk_kernel.specs.Chosen.{chosen_from, chosen_sum}
-use Rattle.tk_kernel.proofs.Offers.{xor_bytes_assoc, xor_bytes-zeros, zeros-xor_bytes, xor_all-append}
+use Rattle.tk_kernel.proofs.Offers.{xor_bytes_assoc, xor_bytes-zeros, zeros-xor_bytes, xor_all-append, length-concat}
 use Rattle.tk_kernel.proofs.Offers.{length-xor_bytes, length-xor_all, length-zeros, AllSized-all_pieces}
 use Rattle.tk_kernel.proofs.Offers.{all_pieces-concat, concat-pieces, length-pieces, drop-pieces, take-pieces}
 use Rattle.tk_kernel.proofs.Offers.{AllSized-chosen_from, chosen_from-append}
 use Rattle.tk_answer.specs.Runs.{IsRun}
 use Rattle.tk_answer.specs.Summing.{IsSumming}
-
-length-concat : (width : ℕ) (vs : List (List ℕ)) → AllSized width vs → length (concat vs) ≡ length vs * width
-length-concat width [] h = omega arith
-length-concat width (v ∷ vs) h = length-append v (concat vs) ∙ omega (arith, h.0, length-concat width vs h.1)
 
 AllSized-take : (width n : ℕ) (vs : List (List ℕ)) → AllSized width vs → AllSized width (take n vs)
 AllSized-take width zero vs h = tt

@@ -1,4 +1,4 @@
 -- What the proofs of other crates may cite.
 pub use Rattle.tk_bits.proofs.Vectors.{length-unit_vector}
-pub use Rattle.tk_bits.proofs.Wanted.{length-last_share, AllSized-append}
-pub use Rattle.tk_bits.proofs.Seeded.{answers_join, vectors-shares, vector-at, seed-at, seed-last}
+pub use Rattle.tk_bits.proofs.Wanted.{length-last_share}
+pub use Rattle.tk_bits.proofs.Seeded.{answers_join, vectors-shares, vector-at, seed-at}

@@ -1,5 +1,5 @@
 -- Shares: drawn vectors with their seeds, and the vector that completes them.
-use Rattle.std.proofs.Common.{◌≡◌, ℕ, zero, suc, ◌<◌, ◌≤◌, Some, List, [], ◌∷◌, ◌++◌, length, map, get_or, refl, ap, sym, ◌∙◌, arith}
+use Rattle.std.proofs.Common.{◌≡◌, ℕ, zero, suc, ◌<◌, Some, List, [], ◌∷◌, ◌++◌, length, map, get_or, refl, ap, sym, ◌∙◌, arith}
 use Rattle.std.specs.List.{slice_get}
 use Rattle.tk_kernel.specs.Xor.{xor_all}
 use Rattle.tk_kernel.specs.Chosen.{chosen_sum}
@@ -75,20 +75,7 @@ seed-before [] (v ∷ vs) last (suc j) low = seed-before [] vs last j (omega (ar
 seed-before (s ∷ seeds) (v ∷ vs) last zero low = refl
 seed-before (s ∷ seeds) (v ∷ vs) last (suc j) low = seed-before seeds vs last j (omega (arith, low))
 
-seed-behind : (seeds drawn : List (List ℕ)) (last : List ℕ) (j : ℕ) → length drawn ≤ j →
-    (share_at (seeded seeds drawn ++ share [] last ∷ []) j).seed ≡ []
-seed-behind seeds [] last zero low = refl
-seed-behind seeds [] last (suc j) low = refl
-seed-behind [] (v ∷ vs) last zero low = absurd (omega (arith, low))
-seed-behind [] (v ∷ vs) last (suc j) low = seed-behind [] vs last j (omega (arith, low))
-seed-behind (s ∷ seeds) (v ∷ vs) last zero low = absurd (omega (arith, low))
-seed-behind (s ∷ seeds) (v ∷ vs) last (suc j) low = seed-behind seeds vs last j (omega (arith, low))
-
 -- the seed that a server is given, and the last one's, which is none
 pub seed-at : (size i j : ℕ) (seeds drawn : List (List ℕ)) → j < length drawn →
     (share_at (shares size i seeds drawn) j).seed ≡ get_or seeds j []
 seed-at size i j seeds drawn low = seed-before seeds drawn (last_share size i drawn) j low
-
-pub seed-last : (size i j : ℕ) (seeds drawn : List (List ℕ)) → length drawn ≤ j →
-    (share_at (shares size i seeds drawn) j).seed ≡ []
-seed-last size i j seeds drawn low = seed-behind seeds drawn (last_share size i drawn) j low

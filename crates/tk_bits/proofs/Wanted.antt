@@ -1,10 +1,10 @@
 -- Completed vectors of a bucket, and the block that their answers give.
-use Rattle.std.proofs.Common.{◌≡◌, ◌≢◌, ℕ, zero, suc, ◌+◌, ◌*◌, ◌<◌, cond, Some, List, [], ◌∷◌, ◌++◌, length, replicate, map, refl, ap, sym, ◌∙◌, arith}
+use Rattle.std.proofs.Common.{◌≡◌, ◌≢◌, ℕ, zero, suc, ◌+◌, ◌*◌, ◌<◌, cond, Some, List, [], ◌∷◌, length, replicate, map, refl, ap, sym, ◌∙◌, arith}
 use Rattle.std.specs.List.{slice_get}
 use Rattle.tk_kernel.specs.Xor.{xor_bytes, xor_all}
 use Rattle.tk_kernel.specs.Pieces.{AllSized}
 use Rattle.tk_kernel.specs.Chosen.{has_bit, chosen_from, chosen_sum}
-use Rattle.tk_kernel.proofs.Offers.{xor_bytes_comm, xor_bytes_twice, xor_bytes-zeros, length-xor_bytes, length-xor_all, xor_all-append}
+use Rattle.tk_kernel.proofs.Offers.{xor_bytes_comm, xor_bytes_twice, xor_bytes-zeros, length-xor_bytes, length-xor_all, xor_all-append, AllSized-append}
 use Rattle.tk_bits.specs.Shares.{unit_vector, last_share, completed}
 use Rattle.tk_bits.proofs.Vectors.{length-unit_vector, has_bit-unit_same, has_bit-unit_other}
 use Rattle.tk_bits.proofs.Sums.{sums_add}
@@ -12,10 +12,6 @@ use Rattle.tk_bits.proofs.Sums.{sums_add}
 pub length-last_share : (size i : ℕ) (drawn : List (List ℕ)) → AllSized size drawn → length (last_share size i drawn) ≡ size
 length-last_share size i drawn h =
     length-xor_bytes (unit_vector size i) (xor_all size drawn) (length-unit_vector size i ∙ sym (length-xor_all size drawn h)) ∙ length-unit_vector size i
-
-pub AllSized-append : (size : ℕ) (us vs : List (List ℕ)) → AllSized size us → AllSized size vs → AllSized size (us ++ vs)
-AllSized-append size [] vs h k = k
-AllSized-append size (u ∷ us) vs h k = (h.0, AllSized-append size us vs h.1 k)
 
 pub completed_join : (size i : ℕ) (drawn : List (List ℕ)) → AllSized size drawn → xor_all size (completed size i drawn) ≡ unit_vector size i
 completed_join size i drawn h =

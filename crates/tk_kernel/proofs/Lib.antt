@@ -6,4 +6,5 @@ pub mod Passes
 pub mod Fours
 pub mod Passed
 pub mod Whole
+pub mod Sized
 pub mod Offers

@@ -8,3 +8,4 @@ pub use Rattle.tk_kernel.proofs.Cuts.{length-pieces, get_or-pieces, AllSized-pie
 pub use Rattle.tk_kernel.proofs.Cuts.{all_pieces-append, all_pieces_short}
 pub use Rattle.tk_kernel.proofs.Cuts.{concat-all_pieces, all_pieces-concat}
 pub use Rattle.tk_kernel.proofs.Chosen.{AllSized-chosen_from, chosen_from-append}
+pub use Rattle.tk_kernel.proofs.Sized.{AllSized-set, AllSized-append, AllSized-map, length-concat}

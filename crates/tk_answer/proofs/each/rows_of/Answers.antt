@@ -1,8 +1,7 @@
 -- One more of the vectors, and at the end all of them.
 use Rattle.std.proofs.Common.{◌≡◌, ◌∷◌, [], ◌++◌, ℕ, List, Vec, Global, length, map, sym, ap, ap₂, ◌∙◌, append_assoc, append-nil, arith}
-use Rattle.std.proofs.lemmas.List.{map-append}
+use Rattle.std.proofs.lemmas.List.{map-append, nil_from_length}
 use Rattle.std.specs.Vec.Iter.{into_iter_items}
-use Rattle.tk_answer.proofs.ManySums.{nothing_left}
 use Rattle.tk_answer.proofs.each.rows_of.Goals as goal
 
 pub loop-vector-preserved : goal.loop-vector-preserved
@@ -23,6 +22,6 @@ pub returns : goal.returns
 returns c =
     let at = c.loop-vector in
     let none = c.in-None.ensures.steps in
-    let empty : into_iter_items at.vector-iterator ≡ [] = nothing_left _ (sym at.invariant.2 ∙ none.0) in
+    let empty : into_iter_items at.vector-iterator ≡ [] = nil_from_length _ (sym at.invariant.2 ∙ none.0) in
     let all = sym (append-nil at.yielded) ∙ rw empty at at.invariant.0 ∙ c.into_iter-vector-iterator.ensures.into_iter_gives.0 in
     at.invariant.1 ∙ all
