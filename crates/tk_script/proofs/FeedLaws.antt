@@ -13,7 +13,7 @@ use Rattle.tk_seal.specs.Texts.{is_allowed, is_printable}
 use Rattle.tk_script.specs.declared.keys.Keys.{Keys}
 use Rattle.tk_script.specs.declared.role.Role.{Role}
 use Rattle.tk_script.specs.declared.say.Say.{Say}
-use Rattle.tk_script.specs.Grammar.{Line, lines_of, fields, shape_line, kind_line, role_line, say_line}
+use Rattle.tk_script.specs.Grammar.{Line, lines_of, fields, format_line, shape_line, kind_line, role_line, say_line}
 use Rattle.tk_script.specs.SoundScript.{is_role, is_say}
 use Rattle.tk_script.specs.Printing.{text_of, bytes_line}
 use Rattle.tk_script.proofs.LineLaws.{lines_of-feed, lines_of-other}
@@ -112,6 +112,13 @@ text_lacks text allowed =
     printables_lack text (and_parts (is_utf8 text) (list_all is_printable text) allowed).1
 
 -- ---- lines of a script
+
+pub format_line_lacks : (shape : Shape) → LacksFeed (format_line shape)
+format_line_lacks shape =
+    fields_lack (codes "talek" ∷ decimal shape.format ∷ []) (
+      feed_by_test (codes "talek") refl,
+      (decimal_lacks shape.format (omega (arith, shape.in_range.format_high)), tt),
+    )
 
 pub shape_line_lacks : (shape : Shape) → LacksFeed (shape_line shape)
 shape_line_lacks shape =

@@ -278,19 +278,6 @@ pub agrees_found : (form : Form) (bytes : List ℕ) (r : Result Input ScriptErro
 agrees_found form bytes (Ok input) h = read_is_spelled form bytes input h
 agrees_found form bytes (Err e) h = tt
 
-spelled-format : (form : Form) (bytes : List ℕ) (input : Input) → Spells form bytes input →
-    input.first.shape.format ≡ 1
-spelled-format Run bytes input s = s.script.format
-spelled-format View bytes input s = s.script.format
-spelled-format Mirror bytes input s = s.script.format
-
-pub agrees_format : (form : Form) (bytes : List ℕ) (r : Result Input ScriptError) →
-    Agrees input_lines r (read_input form (lines_of bytes)) →
-    IfOk r (λ input. input.first.shape.format ≡ 1)
-agrees_format form bytes (Ok input) h =
-    spelled-format form bytes input (read_is_spelled form bytes input h)
-agrees_format form bytes (Err e) h = tt
-
 only_memory : (e : ScriptError) (form : Form) (bytes : List ℕ) (t : InputLines) →
     IsRefusal e (read_input form (lines_of bytes)) →
     read_input form (lines_of bytes) ≡ Ok t → IsMemory e

@@ -13,7 +13,7 @@ pub mod PieceLaws
 pub mod ScriptLaws
 pub mod KeyLines
 pub mod WordLaws
-pub mod ShapeGiven
+pub mod FormatLaws
 pub mod SpelledLaws
 pub mod EndLaws
 pub mod InputLaws

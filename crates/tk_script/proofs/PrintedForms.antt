@@ -89,7 +89,7 @@ drawn_tape shape (Some keys) bytes are = (lines_of-empty, refl)
 -- ---- inputs
 
 pub prints_views : PrintsViews
-prints_views S turns bytes format has are is =
+prints_views S turns bytes has are is =
     let tape = tape_behind S.keys bytes in
     let behind = printed_turns turns ++ tape in
     let number = number_after (lines_of (printed S ++ behind)) (lines_of_script S)
@@ -98,7 +98,7 @@ prints_views S turns bytes format has are is =
       behind_script = lines_of behind;
       rest = lines_of tape;
       raw = numbered (length (lines_of_script S) + 2) turns;
-      script = prints_scripts S format has behind;
+      script = prints_scripts S has behind;
       history = turns_numbered (number_of_first (lines_of (printed S ++ behind)) (lines_of behind))
           (length (lines_of_script S)) turns tape are number;
       no_second = refl;
@@ -115,7 +115,7 @@ tape_of_none shape keys bytes drawn are =
     (kept_behind_script shape None bytes)) (sym drawn) (drawn_tape shape None bytes are)
 
 pub prints_mirrors : PrintsMirrors
-prints_mirrors S T turns bytes S_format T_format S_drawn T_drawn are is =
+prints_mirrors S T turns bytes S_drawn T_drawn are is =
     let S_has : HasKeys S.keys = subst HasKeys (sym S_drawn) tt in
     let T_has : HasKeys T.keys = subst HasKeys (sym T_drawn) tt in
     let behind = printed_turns turns ++ printed_tape bytes in
@@ -132,8 +132,8 @@ prints_mirrors S T turns bytes S_format T_format S_drawn T_drawn are is =
       behind_scripts = lines_of behind;
       rest = lines_of (printed_tape bytes);
       raw = numbered (length (lines_of_script S) + length (lines_of_script T) + 2) turns;
-      script = prints_scripts S S_format S_has (printed T ++ behind);
-      second = prints_scripts T T_format T_has behind;
+      script = prints_scripts S S_has (printed T ++ behind);
+      second = prints_scripts T T_has behind;
       history = turns_numbered (number_of_first lines (lines_of behind))
           (length (lines_of_script S) + length (lines_of_script T)) turns (printed_tape bytes) are
           number;

@@ -8,7 +8,7 @@ use Rattle.tk_handle.specs.declared.handle.Handle.{Handle}
 use Rattle.tk_handle.specs.Handle.{handle_bytes}
 use Rattle.tk_script.specs.declared.script.Script.{Script}
 use Rattle.tk_script.specs.declared.keys.Keys.{Keys}
-use Rattle.tk_script.specs.Grammar.{Line, lines_of, shape_line, kind_line, role_line, say_line, SpellsBytes, SpellsKeys, SpellsPiece, BeginsWithScript, BeginsWithTape, kept_of}
+use Rattle.tk_script.specs.Grammar.{Line, lines_of, format_line, shape_line, kind_line, role_line, say_line, SpellsBytes, SpellsKeys, SpellsPiece, BeginsWithScript, BeginsWithTape, kept_of}
 use Rattle.tk_script.proofs.KeyLines.{IsHandleLine, IsSeedLine}
 use Rattle.tk_script.specs.SoundScript.{is_role, is_say}
 use Rattle.tk_script.specs.Printing.{bytes_line, handle_line, seed_line, lines_of_keys, lines_of_script, lines_of_pieces, lines_of_tape, piece_line, pieces, printed, printed_tape, HasHandle, HasSeed, HasKeys}
@@ -16,7 +16,7 @@ use Rattle.tk_script.specs.PrintLaws.{ReadsPrinted, ReadsPrintedTape, PrintsScri
 use Rattle.tk_script.proofs.LineLaws.{lines_of-empty}
 use Rattle.tk_script.proofs.KeyLaws.{keys_spelled}
 use Rattle.tk_script.proofs.ScriptLaws.{tape_of_keyed, tape_of_drawn}
-use Rattle.tk_script.proofs.FeedLaws.{LacksFeed, all-append, feed_by_test, bytes_line_lacks, shape_line_lacks, kind_line_lacks, role_line_lacks, say_line_lacks, passing_lack, all_lack, lines_of-text_of}
+use Rattle.tk_script.proofs.FeedLaws.{LacksFeed, all-append, feed_by_test, bytes_line_lacks, format_line_lacks, shape_line_lacks, kind_line_lacks, role_line_lacks, say_line_lacks, passing_lack, all_lack, lines_of-text_of}
 use Rattle.tk_script.proofs.PiecesLaws.{IsPiece, are_pieces, pieces-joined}
 
 -- each line spells its item
@@ -70,17 +70,16 @@ script_lacks S has =
     let three = all-append LacksFeed (logs ++ keys) texts two third in
     let all = all-append LacksFeed (logs ++ keys ++ texts) end three
     (feed_by_test (codes "end") refl, tt) in
-    (feed_by_test (codes "talek 1") refl, (shape_line_lacks S.shape, (kind_line_lacks S.keys, all)))
+    (format_line_lacks S.shape, (shape_line_lacks S.shape, (kind_line_lacks S.keys, all)))
 
 pub prints_scripts : PrintsScripts
 unfolding printed
-prints_scripts S format has rest = record {
+prints_scripts S has rest = record {
   key_lines = lines_of_keys S.keys;
-  format = format;
   keys = keys_printed S.keys has;
   whole =
       lines_of-text_of (lines_of_script S) rest (script_lacks S has)
-      ∙ ap (λ t. codes "talek 1" ∷ shape_line S.shape ∷ kind_line S.keys ∷ t)
+      ∙ ap (λ t. format_line S.shape ∷ shape_line S.shape ∷ kind_line S.keys ∷ t)
       (append_assoc (map role_line S.roles ++ lines_of_keys S.keys ++ map say_line S.says)
       (codes "end" ∷ []) (lines_of rest));
 }
@@ -128,20 +127,20 @@ tape_alone bytes reads =
     (reads []))
 
 pub prints_keyed : PrintsKeyed
-prints_keyed S keys format keyed has = record {
+prints_keyed S keys keyed has = record {
   rest = [];
-  script = script_alone S (prints_scripts S format has);
+  script = script_alone S (prints_scripts S has);
   no_second = refl;
   no_history = refl;
   tape = tape_of_keyed S.shape S.keys [] (ap is_some keyed) refl;
 }
 
 pub prints_drawn : PrintsDrawn
-prints_drawn S bytes format drawn are =
+prints_drawn S bytes drawn are =
     let has : HasKeys S.keys = subst HasKeys (sym drawn) tt in
     record {
       rest = lines_of (printed_tape bytes);
-      script = prints_scripts S format has (printed_tape bytes);
+      script = prints_scripts S has (printed_tape bytes);
       no_second = refl;
       no_history = refl;
       tape = tape_of_drawn S.shape S.keys (lines_of (printed_tape bytes)) (kept_of S.shape bytes)

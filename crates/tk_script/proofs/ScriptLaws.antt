@@ -11,7 +11,7 @@ use Rattle.tk_script.specs.declared.script.Script.{Script}
 use Rattle.tk_script.specs.declared.keys.Keys.{Keys}
 use Rattle.tk_script.specs.declared.input.RawTape.{RawTape}
 use Rattle.tk_script.specs.declared.input.Input.{Input}
-use Rattle.tk_script.specs.Grammar.{Line, shape_line, kind_line, role_line, say_line, SpellsKeys, BeginsWithScript, TapeFor}
+use Rattle.tk_script.specs.Grammar.{Line, format_line, shape_line, kind_line, role_line, say_line, SpellsKeys, BeginsWithScript, TapeFor}
 use Rattle.tk_script.proofs.KeyLines.{kind_words, MayBeOfKind}
 use Rattle.tk_script.specs.SoundScript.{IsScript, tape_fits}
 
@@ -52,30 +52,29 @@ kind_is (Some keys) = refl
 -- the lines of a script, one after the other
 pub lines_are : (lines : List Line) (S : Script) (rest : List Line)
     (s : BeginsWithScript lines S rest) →
-    lines ≡ codes "talek 1" ∷ shape_line S.shape ∷ kind_words (is_some S.keys)
+    lines ≡ format_line S.shape ∷ shape_line S.shape ∷ kind_words (is_some S.keys)
     ∷ behind_head S s.key_lines rest
 lines_are lines S rest s =
     s.whole
-    ∙ ap (λ k. codes "talek 1" ∷ shape_line S.shape ∷ k
+    ∙ ap (λ k. format_line S.shape ∷ shape_line S.shape ∷ k
     ∷ (map role_line S.roles ++ s.key_lines ++ map say_line S.says ++ codes "end" ∷ rest))
     (kind_is S.keys)
-    ∙ ap (λ t. codes "talek 1" ∷ shape_line S.shape ∷ kind_words (is_some S.keys) ∷ t)
+    ∙ ap (λ t. format_line S.shape ∷ shape_line S.shape ∷ kind_words (is_some S.keys) ∷ t)
     (from_end (map role_line S.roles) s.key_lines (map say_line S.says) (codes "end" ∷ rest))
 
 -- lines that are a script's are read so
 pub script_begins : (lines : List Line) (S : Script) (key_lines rest : List Line) →
-    S.shape.format ≡ 1 → SpellsKeys key_lines S.keys →
-    lines ≡ codes "talek 1" ∷ shape_line S.shape ∷ kind_words (is_some S.keys)
+    SpellsKeys key_lines S.keys →
+    lines ≡ format_line S.shape ∷ shape_line S.shape ∷ kind_words (is_some S.keys)
     ∷ behind_head S key_lines rest →
     BeginsWithScript lines S rest
-script_begins lines S key_lines rest format spelled whole = record {
+script_begins lines S key_lines rest spelled whole = record {
   key_lines = key_lines;
-  format = format;
   keys = spelled;
   whole = whole
-      ∙ ap (λ t. codes "talek 1" ∷ shape_line S.shape ∷ kind_words (is_some S.keys) ∷ t)
+      ∙ ap (λ t. format_line S.shape ∷ shape_line S.shape ∷ kind_words (is_some S.keys) ∷ t)
       (sym (from_end (map role_line S.roles) key_lines (map say_line S.says) (codes "end" ∷ rest)))
-      ∙ ap (λ k. codes "talek 1" ∷ shape_line S.shape ∷ k
+      ∙ ap (λ k. format_line S.shape ∷ shape_line S.shape ∷ k
       ∷ (map role_line S.roles ++ key_lines ++ map say_line S.says ++ codes "end" ∷ rest))
       (sym (kind_is S.keys));
 }

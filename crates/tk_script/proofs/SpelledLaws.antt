@@ -9,12 +9,13 @@ use Rattle.tk_script.specs.declared.keys.Keys.{Keys}
 use Rattle.tk_script.specs.declared.role.Role.{Role}
 use Rattle.tk_script.specs.declared.say.Say.{Say}
 use Rattle.tk_script.specs.declared.script.Script.{Script}
-use Rattle.tk_script.specs.Grammar.{Line, shape_line, role_line, say_line, SpellsKeys, BeginsWithScript}
-use Rattle.tk_script.specs.Reading.{Place, Refusal, ◌>>=◌, alone, named, next_line, next_lines, to_end, read_words, read_shape, read_kind, read_role, read_handle, read_seed, read_next_say}
+use Rattle.tk_script.specs.Grammar.{Line, format_line, shape_line, role_line, say_line, SpellsKeys, BeginsWithScript}
+use Rattle.tk_script.specs.Reading.{Place, Refusal, ◌>>=◌, alone, named, next_line, next_lines, to_end, read_format, read_shape, read_kind, read_role, read_handle, read_seed, read_next_say}
 use Rattle.tk_script.specs.Reading.{ScriptLines, read_head, read_keys, read_script, script_lines}
 use Rattle.tk_script.specs.SoundScript.{IsScript, is_role, is_say, has_keys, are_in_order}
 use Rattle.tk_script.proofs.AnswerLaws.{then_said}
 use Rattle.tk_script.proofs.CauseLaws.{IsDue, read_kind-is, read_kind-whole}
+use Rattle.tk_script.proofs.FormatLaws.{line_of, format_is, format_whole}
 use Rattle.tk_script.proofs.KeyLaws.{handle_is, handle_whole, seed_is, seed_whole, keys_spelled, the_keys}
 use Rattle.tk_script.proofs.KeyLines.{kind_words, MayBeOfKind, IsHandleLine, IsSeedLine}
 use Rattle.tk_script.proofs.OptionLaws.{ok_same}
@@ -23,34 +24,32 @@ use Rattle.tk_script.proofs.RoleLaws.{IsRoleLine, role_is, role_whole}
 use Rattle.tk_script.proofs.RowLaws.{Steps, no_step, then_steps, then_from, next_from, lines_are, lines_whole, end_are, end_whole, zip-lines, lines-zip}
 use Rattle.tk_script.proofs.SayLaws.{IsSayLine, say_line-goes_on, say_is, say_whole}
 use Rattle.tk_script.proofs.ScriptLaws.{behind_head, lines_are as script_lines_are, script_begins, may_be, tape_fits_kind}
-use Rattle.tk_script.proofs.ShapeGiven.{shape_read}
-use Rattle.tk_script.proofs.ShapeLaws.{shape_is, shape_format, shape_whole, same_named}
-use Rattle.tk_script.proofs.WordLaws.{at, Comes, words_own, words_from}
+use Rattle.tk_script.proofs.ShapeLaws.{shape_is, shape_whole, same_named}
+use Rattle.tk_script.proofs.WordLaws.{at, Comes}
 
 -- ---- the three lines at the front
 
 head_whole : (m : Bool) (line : ℕ) (lines behind : List Line) (shape : Shape) (keyed : Bool) →
-    shape.format ≡ 1 → MayBeOfKind shape keyed → IsDue m keyed →
-    lines ≡ codes "talek 1" ∷ shape_line shape ∷ kind_words keyed ∷ behind →
+    MayBeOfKind shape keyed → IsDue m keyed →
+    lines ≡ format_line shape ∷ shape_line shape ∷ kind_words keyed ∷ behind →
     read_head m (at line lines) ≡ Ok (named shape, keyed, at (line + 1 + 1 + 1) behind)
 unfolding read_head
-head_whole m line lines behind shape keyed format may due whole =
+head_whole m line lines behind shape keyed may due whole =
     let second = at (line + 1) (shape_line shape ∷ kind_words keyed ∷ behind) in
     let third = at (line + 1 + 1) (kind_words keyed ∷ behind) in
-    then_said _ (next_taken (read_words (codes "talek 1")) (at line lines) (codes "talek 1") second
-    tt (record { number = refl; lines = whole }) (words_own (codes "talek 1")))
-    (then_said _ (next_taken read_shape second (shape_line shape) third (named shape)
-    (record { number = refl; lines = refl }) (shape_whole shape (shape_line shape) format refl))
+    then_said _ (next_taken read_format (at line lines) (format_line shape) second shape.format
+    (record { number = refl; lines = whole }) (format_whole shape))
+    (then_said _ (next_taken (read_shape shape.format) second (shape_line shape) third (named shape)
+    (record { number = refl; lines = refl }) (shape_whole shape (shape_line shape) refl))
     (then_said _ (next_taken (read_kind m (named shape)) third (kind_words keyed)
     (at (line + 1 + 1 + 1) behind) keyed (record { number = refl; lines = refl })
     (read_kind-whole m shape keyed may due)) refl))
 
--- the lines that were read at the front, whose numbers are a shape's
+-- the lines that were read at the front, whose format and numbers are a shape's
 record Head (m : Bool) (p : Place) (x : Numbers × Bool × Place) : Type 0 where
   pub shape : Shape
   pub is : x.0 ≡ named shape
-  pub format : shape.format ≡ 1
-  pub whole : p.rest ≡ codes "talek 1" ∷ shape_line shape ∷ kind_words x.1 ∷ x.2.rest
+  pub whole : p.rest ≡ format_line shape ∷ shape_line shape ∷ kind_words x.1 ∷ x.2.rest
   pub may : MayBeOfKind shape x.1
   pub due : IsDue m x.1
   pub steps : Steps p x.2
@@ -62,26 +61,23 @@ three a x b y c z ls ms ns os p q r s t u = cc (p, q, r, s, t, u)
 head_from : (m : Bool) (p : Place) (x : Numbers × Bool × Place) → read_head m p ≡ Ok x → Head m p x
 unfolding read_head
 head_from m p x e =
-    let first = then_from (next_line (read_words (codes "talek 1")) p) _ x e in
-    let second = then_from (next_line read_shape first.0.1) _ x first.2 in
+    let first = then_from (next_line read_format p) _ x e in
+    let second = then_from (next_line (read_shape first.0.0) first.0.1) _ x first.2 in
     let n = second.0.0 in
     let third = then_from (next_line (read_kind m n) second.0.1) _ x second.2 in
-    let one = next_from (read_words (codes "talek 1")) p first.0 first.1 in
-    let two = next_from read_shape first.0.1 second.0 second.1 in
+    let one = next_from read_format p first.0 first.1 in
+    let two = next_from (read_shape first.0.0) first.0.1 second.0 second.1 in
     let last = next_from (read_kind m n) second.0.1 third.0 third.1 in
-    let given = shape_read two.line n two.read_is in
-    let shape = given.0 in
-    let said = two.read_is ∙ ap Ok given.1 in
-    let kind = read_kind-is m shape last.line third.0.0
-    (ap (λ k. read_kind m k last.line) (sym given.1) ∙ last.read_is) in
+    let format = format_is one.line first.0.0 one.read_is in
+    let here = shape_is first.0.0 two.line n format.known two.read_is in
+    let kind = read_kind-is m here.shape last.line third.0.0
+    (ap (λ k. read_kind m k last.line) (sym here.is) ∙ last.read_is) in
     subst (Head m p) (ok_same (n, third.0.0, third.0.1) x third.2) (record {
-      shape = shape;
-      is = given.1;
-      format = shape_format shape two.line said;
-      whole = three one.line (codes "talek 1") two.line (shape_line shape) last.line
+      shape = here.shape;
+      is = here.is;
+      whole = three one.line (format_line here.shape) two.line (shape_line here.shape) last.line
           (kind_words third.0.0) p.rest first.0.1.rest second.0.1.rest third.0.1.rest one.whole
-          two.whole last.whole (words_from (codes "talek 1") one.line first.0.0 one.read_is)
-          (shape_is shape two.line said) kind.word;
+          two.whole last.whole (format.whole ∙ ap line_of (sym here.of_format)) here.whole kind.word;
       may = kind.may;
       due = kind.due;
       steps = then_steps p second.0.1 third.0.1
@@ -227,8 +223,8 @@ script_read m p x e =
     let roles_whole = rows.0.whole ∙ ap (λ ls. ls ++ second.0.1.rest) role_lines.0
     ∙ ap (λ ls. map role_line roles ++ ls) (k.whole ∙ ap (λ ls. k.own ++ ls) says_whole) in
     let whole = head.whole
-    ∙ ap (λ ls. codes "talek 1" ∷ shape_line shape ∷ kind_words keyed ∷ ls) roles_whole
-    ∙ ap (λ b. codes "talek 1" ∷ shape_line shape ∷ kind_words b ∷ behind_head S k.own behind.rest)
+    ∙ ap (λ ls. format_line shape ∷ shape_line shape ∷ kind_words keyed ∷ ls) roles_whole
+    ∙ ap (λ b. format_line shape ∷ shape_line shape ∷ kind_words b ∷ behind_head S k.own behind.rest)
     (sym k.kind) in
     let steps = then_steps p third.0.1 behind
     (then_steps p second.0.1 third.0.1 (then_steps p q second.0.1 head.steps rows.2) k.steps)
@@ -237,7 +233,7 @@ script_read m p x e =
     (ok_same (script_lines S, behind) x fourth.2) (record {
       script = S;
       is = refl;
-      begins = script_begins p.rest S k.own behind.rest head.format k.spelled whole;
+      begins = script_begins p.rest S k.own behind.rest k.spelled whole;
       due = subst (IsDue m) (sym k.kind) head.due;
       steps = steps;
     })
@@ -265,7 +261,7 @@ script_whole m line lines S behind s due =
     let tail = map say_line S.says ++ codes "end" ∷ behind in
     let third = line + 1 + 1 + 1 in
     let head = head_whole m line lines (behind_head S s.key_lines behind) S.shape (is_some S.keys)
-    s.format (may_be S.shape S.keys S.sound.tape_fits) due (script_lines_are lines S behind s) in
+    (may_be S.shape S.keys S.sound.tape_fits) due (script_lines_are lines S behind s) in
     let roles = lines_whole (read_role (named S.shape)) (IsRoleLine S.shape) (role_whole S.shape)
     (map role_line S.roles) S.roles third [] (s.key_lines ++ tail)
     (zip-lines role_line (is_role S.shape) S.roles S.sound.roles_sound) in

@@ -7,7 +7,7 @@ use Rattle.tk_script.specs.declared.script.Script.{Script}
 use Rattle.tk_script.specs.declared.role.Role.{Role}
 use Rattle.tk_script.specs.declared.say.Say.{Say}
 use Rattle.tk_script.specs.declared.keys.Keys.{Keys}
-use Rattle.tk_script.specs.Grammar.{Line, fields, shape_line, kind_line, role_line, say_line}
+use Rattle.tk_script.specs.Grammar.{Line, fields, format_line, shape_line, kind_line, role_line, say_line}
 use Rattle.tk_script.specs.Printing.{text_of, number_fields, handle_line, seed_line, lines_of_keys, lines_of_pieces, printed, printed_tape}
 
 pub text_of-append : (xs ys : List Line) → text_of (xs ++ ys) ≡ text_of xs ++ text_of ys
@@ -109,13 +109,13 @@ keys_text keys k handles seeds old is handles_is seeds_is before_is new_is =
 -- the parts of a script
 pub script_text : (S : Script) (roles : List Role) (says : List Say) (old : List ℕ)
     {a b d e f g new : List ℕ} → roles ≡ S.roles → says ≡ S.says →
-    a ≡ old ++ text_of (codes "talek 1" ∷ []) → b ≡ a ++ text_of (shape_line S.shape ∷ []) →
+    a ≡ old ++ text_of (format_line S.shape ∷ []) → b ≡ a ++ text_of (shape_line S.shape ∷ []) →
     d ≡ b ++ text_of (kind_line S.keys ∷ []) → e ≡ d ++ text_of (map role_line roles) →
     f ≡ e ++ text_of (lines_of_keys S.keys) → g ≡ f ++ text_of (map say_line says) →
     new ≡ g ++ text_of (codes "end" ∷ []) → new ≡ old ++ printed S
 unfolding printed
 script_text S roles says old {d = d} {f = f} roles_is says_is a_is b_is d_is e_is f_is g_is new_is =
-    let first = codes "talek 1" in
+    let first = format_line S.shape in
     let shape = shape_line S.shape in
     let kind = kind_line S.keys in
     let logs = map role_line S.roles in

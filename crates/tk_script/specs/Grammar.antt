@@ -41,6 +41,10 @@ fields = join_with_byte 0x20
 
 -- ---- the script section
 
+-- the line that names the format
+abbrev pub format_line : Shape → Line
+format_line shape = fields (codes "talek" ∷ decimal shape.format ∷ [])
+
 abbrev pub shape_line : Shape → Line
 shape_line shape = fields (codes "shape" ∷ map decimal (numbers_of shape))
 
@@ -84,12 +88,11 @@ SpellsKeys lines (Some keys) =
     × AllByRecursion IsHandle keys.handles
     × AllByRecursion IsSeed keys.seeds
 
--- the lines begin with a script of format 1, and go on with the rest
+-- the lines begin with a script, of the format that the first of them names, and go on with the rest
 pub record BeginsWithScript (lines : List Line) (S : Script) (rest : List Line) : Type 0 where
   pub key_lines : List Line
-  pub format : S.shape.format ≡ 1
   pub keys : SpellsKeys key_lines S.keys
-  pub whole : lines ≡ codes "talek 1" ∷ shape_line S.shape ∷ kind_line S.keys
+  pub whole : lines ≡ format_line S.shape ∷ shape_line S.shape ∷ kind_line S.keys
       ∷ (map role_line S.roles ++ key_lines ++ map say_line S.says ++ codes "end" ∷ rest)
 
 -- ---- the tape section

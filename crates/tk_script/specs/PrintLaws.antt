@@ -25,21 +25,19 @@ ReadsPrintedTape bytes =
     (rest : List ℕ) → BeginsWithTape (lines_of (printed_tape bytes ++ rest)) bytes (lines_of rest)
 
 abbrev pub PrintsScripts : Type 0
-PrintsScripts = (S : Script) → S.shape.format ≡ 1 → HasKeys S.keys → ReadsPrinted S
+PrintsScripts = (S : Script) → HasKeys S.keys → ReadsPrinted S
 
 abbrev pub PrintsTapes : Type 0
 PrintsTapes = (bytes : List ℕ) → IsBytes bytes → ReadsPrintedTape bytes
 
 -- a printed script of keys is all of an input
 abbrev pub PrintsKeyed : Type 0
-PrintsKeyed = (S : Script) (keys : Keys) → S.shape.format ≡ 1 → S.keys ≡ Some keys →
-    HasKeys S.keys →
+PrintsKeyed = (S : Script) (keys : Keys) → S.keys ≡ Some keys → HasKeys S.keys →
     Spells Run (printed S) (record { first = S; second = None; history = None; tape = None })
 
 -- a printed script of drawn words and a printed tape are an input
 abbrev pub PrintsDrawn : Type 0
-PrintsDrawn = (S : Script) (bytes : List ℕ) → S.shape.format ≡ 1 → S.keys ≡ None →
-    IsBytes bytes →
+PrintsDrawn = (S : Script) (bytes : List ℕ) → S.keys ≡ None → IsBytes bytes →
     Spells Run (printed S ++ printed_tape bytes) (record {
       first = S;
       second = None;
@@ -54,8 +52,8 @@ kept_behind_script shape (Some keys) bytes = None
 
 -- a printed script, printed turns, and the script's printed tape are an input of the form View
 abbrev pub PrintsViews : Type 0
-PrintsViews = (S : Script) (turns : List RawKind) (bytes : List ℕ) → S.shape.format ≡ 1 →
-    HasKeys S.keys → AllByRecursion IsTurn turns → IsBytes bytes →
+PrintsViews = (S : Script) (turns : List RawKind) (bytes : List ℕ) → HasKeys S.keys →
+    AllByRecursion IsTurn turns → IsBytes bytes →
     Spells View (printed S ++ (printed_turns turns ++ tape_behind S.keys bytes)) (record {
       first = S;
       second = None;
@@ -66,8 +64,8 @@ PrintsViews = (S : Script) (turns : List RawKind) (bytes : List ℕ) → S.shape
 -- two printed scripts of drawn words, printed turns and a printed tape are an input of the form
 -- Mirror
 abbrev pub PrintsMirrors : Type 0
-PrintsMirrors = (S T : Script) (turns : List RawKind) (bytes : List ℕ) → S.shape.format ≡ 1 →
-    T.shape.format ≡ 1 → S.keys ≡ None → T.keys ≡ None → AllByRecursion IsTurn turns → IsBytes bytes →
+PrintsMirrors = (S T : Script) (turns : List RawKind) (bytes : List ℕ) → S.keys ≡ None →
+    T.keys ≡ None → AllByRecursion IsTurn turns → IsBytes bytes →
     Spells Mirror (printed S ++ (printed T ++ (printed_turns turns ++ printed_tape bytes)))
     (record {
       first = S;

@@ -9,7 +9,7 @@ use Rattle.tk_handle.specs.Handle.{handle_bytes}
 use Rattle.tk_script.specs.declared.script.Script.{Script}
 use Rattle.tk_script.specs.declared.keys.Keys.{Keys}
 use Rattle.tk_schedule.specs.declared.raw.RawKind.{RawKind}
-use Rattle.tk_script.specs.Grammar.{Line, fields, shape_line, kind_line, role_line, say_line}
+use Rattle.tk_script.specs.Grammar.{Line, fields, format_line, shape_line, kind_line, role_line, say_line}
 use Rattle.tk_script.specs.Grammar.{raw_line, IsHandle, IsSeed}
 
 -- lines, each ended by a line feed
@@ -40,7 +40,7 @@ lines_of_keys (Some keys) = map handle_line keys.handles ++ map seed_line keys.s
 
 abbrev pub lines_of_script : Script → List Line
 lines_of_script S =
-    codes "talek 1" ∷ shape_line S.shape ∷ kind_line S.keys
+    format_line S.shape ∷ shape_line S.shape ∷ kind_line S.keys
     ∷ (map role_line S.roles ++ lines_of_keys S.keys ++ map say_line S.says ++ codes "end" ∷ [])
 
 unfoldable pub printed : Script → List ℕ

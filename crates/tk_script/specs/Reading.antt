@@ -87,6 +87,14 @@ word_then word (w ∷ ts) = cond (bytes_eq w word) (numbers_spelled ts) None
 abbrev pub numbers_after : List ℕ → Line → Option (List ℕ)
 numbers_after word line = word_then word (parts_of line)
 
+-- ---- the line of the format
+
+-- the format that a line names
+abbrev pub read_format : Line → Verdict ℕ
+read_format line =
+    cond (bytes_eq line (codes "talek 1")) (Ok 1)
+    (cond (bytes_eq line (codes "talek 2")) (Ok 2) (Err cause.Form))
+
 -- ---- the shape line
 
 -- a shape's format and numbers by their names
@@ -98,14 +106,15 @@ abbrev pub unbroken : Numbers → Option Limit → Verdict Numbers
 unbroken n None = Ok n
 unbroken n (Some l) = Err (cause.Shape l.field l.value)
 
--- twelve numbers, in format 1
-abbrev pub read_numbers : Option (List ℕ) → Verdict Numbers
-read_numbers None = Err cause.Form
-read_numbers (Some ns) =
-    cond (length ns == 12) (unbroken (numbers_in 1 ns) (broken (numbers_in 1 ns))) (Err cause.Form)
+-- twelve numbers, which keep the limits of a format
+abbrev pub read_numbers : ℕ → Option (List ℕ) → Verdict Numbers
+read_numbers format None = Err cause.Form
+read_numbers format (Some ns) =
+    cond (length ns == 12) (unbroken (numbers_in format ns) (broken (numbers_in format ns)))
+    (Err cause.Form)
 
-abbrev pub read_shape : Line → Verdict Numbers
-read_shape line = read_numbers (numbers_after (codes "shape") line)
+abbrev pub read_shape : ℕ → Line → Verdict Numbers
+read_shape format line = read_numbers format (numbers_after (codes "shape") line)
 
 -- ---- the line of the kind
 
@@ -395,11 +404,11 @@ to_end {X} read before line (l ∷ ls) =
 abbrev pub read_words : List ℕ → Line → Verdict (Unit {0})
 read_words words line = cond (bytes_eq line words) (Ok tt) (Err cause.Form)
 
--- the three lines at the front of a script: its numbers, and whether it is keyed
+-- the three lines at the front of a script: its format and numbers, and whether it is keyed
 unfoldable pub read_head : Bool → Place → Result (Numbers × Bool × Place) Refusal
 read_head may p = do
-  first ← next_line (read_words (codes "talek 1")) p
-  shape ← next_line read_shape first.1
+  format ← next_line read_format p
+  shape ← next_line (read_shape format.0) format.1
   kind ← next_line (read_kind may shape.0) shape.1
   Ok (shape.0, kind.0, kind.1)
 

@@ -8,6 +8,7 @@ mod cause_text;
 mod error;
 mod fields;
 mod form;
+mod format_line;
 mod history_section;
 mod input;
 mod key_lines;

@@ -14,10 +14,9 @@ use crate::{Form, Input, RawTape, Script, ScriptError};
 use std::alloc::Global;
 
 /// The input of a form that a text spells, or the first of its lines that is refused: that may also
-/// be one after its last. Its scripts are of format 1.
+/// be one after its last.
 pub fn parse(alloc: Global, text: &[u8], form: Form) -> Result<Input, ScriptError>
     ensures found { IfOk result (λ input. Spells form text.now input) }
-    ensures format { IfOk result (λ input. input.first.shape.format ≡ 1) }
     ensures read { Agrees input_lines result (read_input form (lines_of text.now)) }
     ensures only { (input : Input) → Spells form text.now input → Gives result (λ x. x ≡ input) }
 {

@@ -4,18 +4,17 @@ ghost use Rattle.tk_script.specs.Printing.{text_of, printed, HasKeys};
 ghost use Rattle.tk_script.specs.PrintLaws.{ReadsPrinted};
 
 use crate::key_text::push_keys;
-use crate::line_text::{push_fields, push_line};
+use crate::line_text::{push_fields, push_line, push_numbers_line};
 use crate::role_text::push_roles;
 use crate::say_text::push_says;
 use crate::{Keys, Script};
 use std::alloc::Global;
 use tk_shape::{Memory, Shape};
 
-/// Appends a script of format 1 in its one printed form, or nothing if memory runs out. `parse` answers
-/// with the same script: for a script of keys see `parse_printed`, and for one of drawn words,
-/// which wants a tape after it, `parse_printed_with`.
+/// Appends a script in its one printed form, or nothing if memory runs out. `parse` answers with
+/// the same script: for a script of keys see `parse_printed`, and for one of drawn words, which
+/// wants a tape after it, `parse_printed_with`.
 pub fn print(script: &Script, out: &mut Vec<u8>) -> Result<(), Memory>
-    requires { script.now.shape.format ≡ 1 }
     ensures ok { OnOk result (out.new.items ≡ out.old.items ++ printed script.now) }
     ensures err { OnErr result (out.new.items ≡ out.old.items) }
     ensures has { OnOk result (HasKeys script.now.keys) }
@@ -33,7 +32,7 @@ fn push_script(alloc: Global, script: &Script, out: &mut Vec<u8>) -> Result<(), 
     ensures ok { OnOk result (out.new.items ≡ out.old.items ++ printed script.now) }
     ensures has { OnOk result (HasKeys script.now.keys) }
 {
-    push_line(b"talek 1", out)?;
+    push_numbers_line(alloc, b"talek", &[script.shape.format as u64], out)?;
     push_shape(alloc, &script.shape, out)?;
     push_kind(&script.keys, out)?;
     push_roles(alloc, script.roles.as_slice(), out)?;

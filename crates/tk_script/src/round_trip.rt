@@ -1,4 +1,4 @@
-ghost use Rattle.std.specs.Prelude.{◌≡◌, Some, None, IfOk};
+ghost use Rattle.std.specs.Prelude.{◌≡◌, Some, None};
 ghost use Rattle.tk_script.specs.Answer.{Gives};
 ghost use Rattle.tk_script.specs.Grammar.{kept_of};
 ghost use Rattle.tk_script.specs.declared.keys.Keys.{Keys};
@@ -9,8 +9,6 @@ use std::alloc::Global;
 
 /// What `parse` answers of a printed script of keys: the same script.
 pub fn parse_printed(alloc: Global, script: &Script) -> Result<Input, ScriptError>
-    requires { script.now.shape.format ≡ 1 }
-    ensures format { IfOk result (λ input. input.first.shape.format ≡ 1) }
     ensures same { (keys : Keys) → script.now.keys ≡ Some keys →
         Gives result (λ input. input ≡
         record { first = script.now; second = None; history = None; tape = None }) }
@@ -23,8 +21,6 @@ pub fn parse_printed(alloc: Global, script: &Script) -> Result<Input, ScriptErro
 /// What `parse` answers of a printed script of drawn words with a printed tape after it: the same
 /// script, and what is kept of the same tape.
 pub fn parse_printed_with(alloc: Global, script: &Script, tape: &[u8]) -> Result<Input, ScriptError>
-    requires { script.now.shape.format ≡ 1 }
-    ensures format { IfOk result (λ input. input.first.shape.format ≡ 1) }
     ensures same { script.now.keys ≡ None →
         Gives result (λ input. input ≡
         record {

@@ -2,6 +2,7 @@ ghost use Rattle.tk_script.specs.Answer.{Agrees};
 ghost use Rattle.tk_script.specs.Reading.{named, read_head, read_script, script_lines};
 ghost use Rattle.tk_script.specs.Stands.{stands};
 
+use crate::format_line::format_of;
 use crate::key_lines::keys_of;
 use crate::kind_line::kind_of;
 use crate::place::Place;
@@ -34,7 +35,7 @@ pub(crate) fn script_of(
     Ok((script, rest))
 }
 
-/// The shape of the three lines at the front of a script, whether it is keyed, and the place after
+/// The shape that the three lines at the front of a script say, whether it is keyed, and the place after
 /// them.
 fn head_of(
     alloc: Global,
@@ -44,8 +45,8 @@ fn head_of(
     ensures { Agrees (λ x. (named x.0, x.1, stands x.2)) result
         (read_head may_be_keyed (stands start.entry)) }
 {
-    let rest = start.behind(b"talek 1")?;
-    let (shape, rest) = shape_of(alloc, rest)?;
+    let (format, rest) = format_of(start)?;
+    let (shape, rest) = shape_of(alloc, format, rest)?;
     let (keyed, rest) = kind_of(&shape, may_be_keyed, rest)?;
     Ok((shape, keyed, rest))
 }

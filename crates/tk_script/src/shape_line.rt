@@ -1,4 +1,4 @@
-ghost use Rattle.std.specs.Prelude.{◌≡◌, ◌≢◌, Some, length, IfOk, IfSome, IfNone};
+ghost use Rattle.std.specs.Prelude.{◌≡◌, ◌≢◌, ◌≤◌, Some, length, IfOk, IfSome, IfNone};
 ghost use Rattle.tk_script.specs.Answer.{Agrees};
 ghost use Rattle.tk_script.specs.Reading.{IsRead, named, next_line, read_numbers, read_shape};
 ghost use Rattle.tk_script.specs.Stands.{stands};
@@ -9,36 +9,46 @@ use crate::{Cause, ScriptError};
 use std::alloc::Global;
 use tk_shape::{Memory, Shape};
 
-/// The shape of the line that stands here, and the place after it.
-pub(crate) fn shape_of(alloc: Global, here: Place<'_>) -> Result<(Shape, Place<'_>), ScriptError>
+/// The shape of a format that the line here says, and the place after it.
+pub(crate) fn shape_of(
+    alloc: Global,
+    format: u32,
+    here: Place<'_>,
+) -> Result<(Shape, Place<'_>), ScriptError>
+    requires low { 1 ≤ format }
+    requires high { format ≤ 2 }
     ensures { Agrees (λ x. (named x.0, stands x.1)) result
-        (next_line read_shape (stands here.entry)) }
+        (next_line (read_shape format) (stands here.entry)) }
 {
     let (line, behind) = here.next()?;
-    match shape_in(alloc, line)? {
+    match shape_in(alloc, format, line)? {
         Ok(shape) => Ok((shape, behind)),
         Err(cause) => Err(here.refused(cause)),
     }
 }
 
-/// The shape that a line spells.
-fn shape_in(alloc: Global, line: &[u8]) -> Result<Result<Shape, Cause>, Memory>
-    ensures { IfOk result (λ r. IsRead named r (read_shape line.now)) }
+/// The shape of a format that a line spells.
+fn shape_in(alloc: Global, format: u32, line: &[u8]) -> Result<Result<Shape, Cause>, Memory>
+    requires low { 1 ≤ format }
+    requires high { format ≤ 2 }
+    ensures { IfOk result (λ r. IsRead named r (read_shape format line.now)) }
 {
     let Some(numbers) = numbers_behind(alloc, b"shape", line)? else {
         return Ok(Err(Cause::Form));
     };
-    Ok(shape_from(numbers.as_slice()))
+    Ok(shape_from(format, numbers.as_slice()))
 }
 
-/// The shape of twelve numbers.
-fn shape_from(numbers: &[u32]) -> Result<Shape, Cause>
-    ensures { IsRead named result (read_numbers (Some numbers.now)) }
+/// The shape of a format and twelve numbers.
+fn shape_from(format: u32, numbers: &[u32]) -> Result<Shape, Cause>
+    requires low { 1 ≤ format }
+    requires high { format ≤ 2 }
+    ensures { IsRead named result (read_numbers format (Some numbers.now)) }
 {
     let Some(twelve) = twelve_of(numbers) else {
         return Err(Cause::Form);
     };
-    match Shape::new(twelve) {
+    match Shape::of(format, twelve) {
         Ok(shape) => Ok(shape),
         Err(broken) => Err(Cause::Shape {
             field: broken.field,

@@ -6,7 +6,7 @@ use Rattle.std.specs.Str.{is_utf8, chars}
 use Rattle.std.specs.Char.{encode_utf8}
 use Rattle.std.proofs.Common.{refl}
 use Rattle.hex.proofs.OnLiterals.{hex_on_literals}
-use Rattle.tk_shape.specs.declared.field.Field.TheVariants.{Servers, Tape}
+use Rattle.tk_shape.specs.declared.field.Field.TheVariants.{Servers, Buckets, Tape}
 use Rattle.tk_script.specs.declared.cause.Cause.{Cause}
 use Rattle.tk_script.specs.declared.cause.Cause.TheVariants.{Early, Form, Shape, Number, Order, Room, Text, After}
 use Rattle.tk_script.specs.declared.form.Form.{Form as InputForm}
@@ -73,6 +73,30 @@ word = refl
 long_number : said_drawn (codes "log 4294967296\n") ≡ refused 4 Form
 unfolding computing
 long_number = refl
+
+-- ---- the format
+
+format_2 : said (codes "talek 2\nshape 2 8 4 4 24 64 1 0 2 2 1 1\ndrawn\nlog 0 1\nend\ntape\nfill 11 512\nend\n")
+    ≡ accepted
+unfolding computing
+format_2 = refl
+
+format_3 : said (codes "talek 3\nshape 2 8 4 4 24 64 1 0 2 2 1 1\ndrawn\n") ≡ refused 1 Form
+unfolding computing
+format_3 = refl
+
+-- format 1 has fewer buckets
+many_buckets : said (codes "talek 1\nshape 2 16384 1 4 24 64 1 0 2 2 1 1\nkeyed\n")
+    ≡ refused 2 (Shape Buckets 16384)
+unfolding computing
+many_buckets = refl
+
+many_of_format_2 : said (codes "talek 2\nshape 2 16384 1 4 24 64 1 0 2 2 1 1\nkeyed\n")
+    ≡ refused 4 Early
+unfolding computing
+many_of_format_2 = refl
+
+-- ---- the lines after it
 
 few_servers : said (codes "talek 1\nshape 1 8 4 4 24 64 1 0 2 2 1 1\ndrawn\nlog 0 1\n")
     ≡ refused 2 (Shape Servers 1)

@@ -9,11 +9,10 @@ use Rattle.tk_script.proofs.round_trip.parse_printed.Goals as goal
 
 pub returns : goal.returns
 returns c = record {
-  format = c.parse.ensures.format;
   same = λ keys keyed.
       let S = c.args.script.now in
       let input : Input = record { first = S; second = None; history = None; tape = None } in
       let text : c.as_slice.result.now ≡ printed S = search rules in
-      let spells = prints_keyed S keys c.requires keyed c.in_ok-print.ensures.has in
+      let spells = prints_keyed S keys keyed c.in_ok-print.ensures.has in
       c.parse.ensures.only input (subst (λ t. Spells Run t input) (sym text) spells);
 }

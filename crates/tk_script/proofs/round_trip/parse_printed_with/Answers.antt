@@ -9,7 +9,6 @@ use Rattle.tk_script.proofs.round_trip.parse_printed_with.Goals as goal
 
 pub returns : goal.returns
 returns c = record {
-  format = c.parse.ensures.format;
   same = λ drawn.
       let S = c.args.script.now in
       let bytes = c.args.tape.now in
@@ -20,6 +19,6 @@ returns c = record {
         tape = Some (kept_of S.shape bytes);
       } in
       let text : c.as_slice.result.now ≡ printed S ++ printed_tape bytes = search rules in
-      let spells = prints_drawn S bytes c.requires drawn (λ i. omega (arith, c.type_inv.tape i)) in
+      let spells = prints_drawn S bytes drawn (λ i. omega (arith, c.type_inv.tape i)) in
       c.parse.ensures.only input (subst (λ t. Spells Run t input) (sym text) spells);
 }

@@ -4,9 +4,9 @@ use Rattle.tk_script.specs.Reading.{read_head}
 use Rattle.tk_script.proofs.AnswerLaws.{in_turn}
 use Rattle.tk_script.proofs.section.head_of.Goals as goal
 
-pub returns-in_err-rest : goal.returns-in_err-rest
+pub returns-in_err-format : goal.returns-in_err-format
 unfolding read_head
-returns-in_err-rest c = search (rules, in_turn)
+returns-in_err-format c = search (rules, in_turn)
 
 pub returns-in_err-shape : goal.returns-in_err-shape
 unfolding read_head

@@ -11,7 +11,7 @@ use Rattle.tk_script.proofs.shape_line.shape_in.Goals as goal
 
 pub returns-in_default : goal.returns-in_default
 returns-in_default c =
-    ap read_numbers (numbers_after-none (codes "shape") c.args.line.now
+    ap (read_numbers c.args.format) (numbers_after-none (codes "shape") c.args.line.now
     (λ ns words e. never c.in_ok-numbers.field-0 (λ v. v.items ≡ ns) c.in_default.is
     (c.in_ok-numbers.ensures.only ns words e)))
 
@@ -28,5 +28,5 @@ returns c =
     (lacks_by_test (codes "shape") refl) words found
     ∙ ap Some (sym c.as_slice.ensures.value)
     in
-    subst (λ o. IsRead named c.shape_from.result (read_numbers o)) (sym numbers)
+    subst (λ o. IsRead named c.shape_from.result (read_numbers c.args.format o)) (sym numbers)
     c.shape_from.ensures
