@@ -1,5 +1,41 @@
-//! The program: the top call over the words, the standard streams and no taps.
+//! The program: the top call over the words, the standard streams and no taps; and, where they are compiled, the tests of
+//! the top call, with those of runs that it stands on.
 #![tactic(auto)]
+
+#[cfg(test)]
+mod crowd_tests;
+#[cfg(test)]
+mod cut_tests;
+#[cfg(test)]
+mod each_fault_tests;
+#[cfg(test)]
+mod fault_tests;
+#[cfg(test)]
+mod gate_tests;
+#[cfg(test)]
+mod group_tests;
+#[cfg(test)]
+mod refusal_tests;
+#[cfg(test)]
+mod report_tests;
+#[cfg(test)]
+mod schedule_tests;
+#[cfg(test)]
+mod serial_tests;
+#[cfg(test)]
+mod status_tests;
+#[cfg(test)]
+mod tap_tests;
+#[cfg(test)]
+mod testing;
+#[cfg(test)]
+mod thread_tests;
+#[cfg(test)]
+mod traces;
+#[cfg(test)]
+mod view_tests;
+#[cfg(test)]
+mod word_tests;
 
 use std::env;
 use std::io::{ErrorKind, Write};

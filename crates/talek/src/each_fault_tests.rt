@@ -1,4 +1,5 @@
-use crate::testing::{ONE_TEXT, Object, REPORT, Traces, tried};
+use crate::testing::{ONE_TEXT, REPORT};
+use crate::traces::{Object, Traces, traces_of};
 use std::test::Fail;
 use tk_cli::Status;
 
@@ -53,12 +54,12 @@ fn is_front(traces: &Traces, whole: &Traces) -> bool {
 #[test]
 fn faults_of_serial_runs(rt: HostRuntime) -> Result<(), Fail> {
     let words = ["serial"].as_slice();
-    let whole = tried(&rt, words, ONE_TEXT, Object::Source, 0)?;
+    let whole = traces_of(&rt, words, ONE_TEXT, Object::Source, 0)?;
     assert_eq!(rt; lengths_of(&whole), (0, 119, 3288));
     assert_eq!(rt; whole.written.as_slice(), REPORT);
     for (object, calls, status) in FAULTS {
         for call in 1..=calls {
-            let traces = tried(&rt, words, ONE_TEXT, object, call)?;
+            let traces = traces_of(&rt, words, ONE_TEXT, object, call)?;
             assert_eq!(rt; traces.status, status, "at {object:?} {call}");
             assert_eq!(rt;
                 lengths_of(&traces),
@@ -68,7 +69,7 @@ fn faults_of_serial_runs(rt: HostRuntime) -> Result<(), Fail> {
             assert!(rt; is_front(&traces, &whole), "at {object:?} {call}");
         }
         assert_eq!(rt;
-            tried(&rt, words, ONE_TEXT, object, calls.saturating_add(1))?,
+            traces_of(&rt, words, ONE_TEXT, object, calls.saturating_add(1))?,
             whole
         );
     }
@@ -80,7 +81,7 @@ fn faults_of_runs_with_threads(rt: HostRuntime) -> Result<(), Fail> {
     let words = ["run", "2"].as_slice();
     for (object, calls, status) in FAULTS_OF_THREADS {
         for call in 1..=calls {
-            let traces = tried(&rt, words, ONE_TEXT, object, call)?;
+            let traces = traces_of(&rt, words, ONE_TEXT, object, call)?;
             assert_eq!(rt; traces.status, status, "at {object:?} {call}");
             assert_eq!(rt;
                 lengths_of(&traces),

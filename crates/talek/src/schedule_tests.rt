@@ -1,6 +1,4 @@
-ghost use Rattle.std.specs.Prelude.{◌≡◌};
-
-use crate::testing::{ONE_TEXT, words_of};
+use crate::testing::{ONE_TEXT, retold, words_of};
 use std::alloc::Global;
 use std::process::Abort;
 use std::sync::Wait;
@@ -10,10 +8,9 @@ use std::test::Fail;
 use std::thread::{Threads, yield_now};
 use tk_cli::{Status, talek};
 use tk_io::{Gate, MemSink, MemSource, NoTaps};
-use tk_report::{parse_history, report};
-use tk_script::{Form, Input, Script, parse};
+use tk_script::{Form, Input, parse};
 use tk_shape::Memory;
-use tk_words::{Book, Draws};
+use tk_words::Book;
 
 /// A drawn script of five clients and two logs over three servers, in two phases of two ticks, with
 /// readers that read ahead, and its tape.
@@ -129,7 +126,7 @@ fn ran<R: AllocGlobal + Threads + Wait + Sync>(
 }
 
 /// The report of an input's run with the history that a report tells.
-fn retold(alloc: Global, input: &[u8], text: &[u8]) -> Result<Vec<u8>, Fail> {
+fn retold_of(alloc: Global, input: &[u8], text: &[u8]) -> Result<Vec<u8>, Fail> {
     let Ok(
         Input {
             first: script,
@@ -141,22 +138,10 @@ fn retold(alloc: Global, input: &[u8], text: &[u8]) -> Result<Vec<u8>, Fail> {
         return Err(Fail::from("a script"));
     };
     match script.book(alloc, tape) {
-        Ok(Book::Drawn(draws)) => told(alloc, &script, &draws, text),
-        Ok(Book::Keyed(draws)) => told(alloc, &script, &draws, text),
+        Ok(Book::Drawn(draws)) => retold(alloc, &script, &draws, text),
+        Ok(Book::Keyed(draws)) => retold(alloc, &script, &draws, text),
         Err(_) => Err(Fail::from("a book")),
     }
-}
-
-/// The same over a book's words.
-fn told<D: Draws>(alloc: Global, script: &Script, draws: &D, text: &[u8]) -> Result<Vec<u8>, Fail>
-    requires { D.shape draws.now ≡ script.now.shape }
-{
-    let Ok(history) = parse_history(alloc, &script.shape, text) else {
-        return Err(Fail::from("a history"));
-    };
-    let mut told = Vec::new(alloc);
-    report(alloc, script, draws, &history, &mut told)?;
-    Ok(told)
 }
 
 /// How many runs each group has.
@@ -176,7 +161,7 @@ fn run_by_seeds<R: AllocGlobal + Threads + Wait + Sync + Abort>(
         let (status, written) = ran(rt, words, input, &gate)?;
         assert_eq!(rt; status, Status::Done, "with seed {seed}");
         assert_eq!(rt; gate.came.load(SeqCst), came, "with seed {seed}");
-        let told = retold(alloc, input, written.as_slice())?;
+        let told = retold_of(alloc, input, written.as_slice())?;
         assert_eq!(rt; written, told, "with seed {seed}");
     }
     Ok(())

@@ -1,4 +1,4 @@
-use crate::testing::{ONE_TEXT, REPORT, joined, run_tapped, source_of, taps_of};
+use crate::testing::{ONE_TEXT, REPORT, joined, run_tapped, source_of, taps_failing};
 use std::test::Fail;
 use tk_cli::Status;
 use tk_io::{MemSink, MemSource};
@@ -54,7 +54,7 @@ fn faults_and_calls_after_them(rt: HostRuntime) -> Result<(), Fail> {
     for (from, into, call, status, left, held, (first, second)) in FAULTS {
         let mut source = MemSource::new(ONE_TEXT.to_vec(alloc)?, from.0, vec![in alloc; from.1]?);
         let mut sink = MemSink::new(alloc, into.0, vec![in alloc; into.1]?);
-        let mut taps = taps_of(alloc, vec![in alloc; call]?)?;
+        let mut taps = taps_failing(alloc, call)?;
         let words = &["serial"];
         let ended = run_tapped(&rt, words, &mut source, &mut sink, &mut taps)?;
         assert_eq!(rt; ended, status);

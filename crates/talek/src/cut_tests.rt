@@ -1,4 +1,5 @@
-use crate::testing::{ONE_TEXT, Object, REPORT, Traces, tried};
+use crate::testing::{ONE_TEXT, REPORT};
+use crate::traces::{Object, Traces, traces_of};
 use std::alloc::{AllocError, Global};
 use std::test::Fail;
 use tk_cli::Status;
@@ -66,7 +67,7 @@ fn texts_cut_off(rt: HostRuntime) -> Result<(), Fail> {
     let alloc = rt.alloc();
     for lines in 0..18 {
         let input = cut(alloc, lines, "")?;
-        let traces = tried(&rt, &["serial"], input.as_slice(), Object::Source, 0)?;
+        let traces = traces_of(&rt, &["serial"], input.as_slice(), Object::Source, 0)?;
         let status = Status::Script {
             line: lines as u64 + 1,
             cause: Cause::Early,
@@ -76,7 +77,7 @@ fn texts_cut_off(rt: HostRuntime) -> Result<(), Fail> {
     }
     for (lines, end, status) in ENDS {
         let input = cut(alloc, lines, end)?;
-        let traces = tried(&rt, &["serial"], input.as_slice(), Object::Source, 0)?;
+        let traces = traces_of(&rt, &["serial"], input.as_slice(), Object::Source, 0)?;
         assert_eq!(rt; traces.status, status, "behind {end}");
         assert!(rt; is_told(&traces), "behind {end}");
     }

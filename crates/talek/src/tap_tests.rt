@@ -213,7 +213,7 @@ fn what_taps_get(rt: HostRuntime) -> Result<(), Fail> {
     ] {
         let mut source = source_of(alloc, input)?;
         let mut sink = MemSink::new(alloc, 4096, Vec::new(alloc));
-        let mut taps = taps_of(alloc, Vec::new(alloc))?;
+        let mut taps = taps_of(alloc)?;
         let ended = run_tapped(&rt, &["serial"], &mut source, &mut sink, &mut taps)?;
         assert_eq!(rt; ended, Status::Done);
         assert_eq!(rt; sink.bytes(), report);
@@ -225,7 +225,7 @@ fn what_taps_get(rt: HostRuntime) -> Result<(), Fail> {
 
     let mut source = source_of(alloc, EIGHT)?;
     let mut sink = MemSink::new(alloc, 4096, Vec::new(alloc));
-    let mut taps = taps_of(alloc, Vec::new(alloc))?;
+    let mut taps = taps_of(alloc)?;
     let ended = run_tapped(&rt, &["serial"], &mut source, &mut sink, &mut taps)?;
     assert_eq!(rt; ended, Status::Done);
     assert_eq!(rt; sink.bytes(), LARGER_REPORT);
