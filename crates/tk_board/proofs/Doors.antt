@@ -8,7 +8,7 @@ use Rattle.atomic_table.proofs.Lists.{at_set, at_snoc}
 use Rattle.atomic_table.specs.Seated.{TableId}
 use Rattle.crossbeam_utils.specs.Register.{Admits, TurnsAt, Forks, Merges}
 use Rattle.tk_board.specs.Boards.{Known, Before, AllBefore, Leads, Saw, Tied, none_seen}
-use Rattle.tk_board.proofs.Prefixes.{prefix_self, prefix_trans}
+use Rattle.tk_lists.proofs.Offers.{prefix_self, prefix_trans}
 
 pub ok_some : {A E : Type 0} (P Q : A → Type 0) (r : Result (Option A) E) → ((a : A) → P a → Q a)
     → IfOk r (λ o. IfSome o P) → IfOk r (λ o. IfSome o Q)

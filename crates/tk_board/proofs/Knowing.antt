@@ -1,15 +1,15 @@
 -- What is known after a call.
 use Rattle.std.proofs.Common.{◌≡◌, ◌⊎◌, ℕ, ◌≤◌, Bool, Option, List, [], ◌∷◌, ◌++◌, length}
-use Rattle.std.proofs.Common.{sym, ap, ◌∙◌, subst, refl, arith, ⊎_elim}
+use Rattle.std.proofs.Common.{sym, ap, subst, refl, arith, ⊎_elim}
 use Rattle.std.proofs.lemmas.List.Elements.{All-push}
 use mathlib.Core.List.{IsPrefix}
 use Rattle.atomic_table.specs.Seated.{TableId}
 use Rattle.atomic_table.specs.declared.shared.Seat.{Seat}
 use Rattle.tk_board.specs.declared.rule.View.{View}
 use Rattle.tk_board.specs.Rules.{Sat, drafting}
-use Rattle.tk_board.specs.Boards.{Known, AllFit, AllBegin, GoesOn, Learns}
+use Rattle.tk_board.specs.Boards.{Known, AllFit, AllBegin, GoesOn}
 use Rattle.tk_board.specs.Boards.{Book, book, IsLedger}
-use Rattle.tk_board.proofs.Prefixes.{prefix_self, prefix_trans, prefix_whole}
+use Rattle.tk_lists.proofs.Offers.{prefix_self, prefix_whole}
 
 -- no longer list was told, so the one that was seen stays
 pub kept_list : {M : Type 0} (old new other : List M) → IsPrefix old new
@@ -26,17 +26,6 @@ module _ {M : Type 0} where
         board = ap (λ k. k.board) same;
         list = subst (λ (k : Known M). IsPrefix k.list b.list) same (prefix_self b.list);
       }
-
-  pub goes_on_trans : (a b c : Known M) → GoesOn a b → GoesOn b c → GoesOn a c
-  goes_on_trans a b c one two =
-      record {
-        board = two.board ∙ one.board;
-        list = prefix_trans a.list b.list c.list one.list two.list;
-      }
-
-  -- what is learned goes on
-  pub learns_on : (a told b : Known M) → Learns a told b → GoesOn a b
-  learns_on a told b h = record { board = h.board; list = h.list.mine }
 
   -- one reader more whose list begins this one
   pub begin_snoc : (ks : List (Known M)) (k : Known M) (xs : List M) → AllBegin ks xs

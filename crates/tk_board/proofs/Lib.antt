@@ -1,5 +1,4 @@
 pub mod Offers
-pub mod Prefixes
 pub mod Moves
 pub mod Doors
 pub mod Fitting

@@ -18,8 +18,7 @@ use Rattle.atomic_table.proofs.Lists.{at_set}
 use Rattle.tk_board.specs.declared.rule.View.{View}
 use Rattle.tk_board.specs.Rules.{noted, claimed, drafting, whole, informed, Fits, Joins, Kept, Sat}
 use Rattle.tk_board.specs.Rules.{At, Proposed, Extended, Checked, Met}
-use Rattle.tk_board.proofs.Prefixes.{prefix_self, prefix_trans, prefix_shorter, prefix_whole}
-use Rattle.tk_board.proofs.Prefixes.{prefix_length}
+use Rattle.tk_lists.proofs.Offers.{prefix_self, prefix_trans, prefix_shorter, prefix_whole, prefix_length}
 
 off : {A : Type 0} → false ≡ true → A
 off e = absurd (Rattle.std.proofs.Common.true≢false (sym e))

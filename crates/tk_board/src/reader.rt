@@ -63,7 +63,7 @@ fn taken_in<T: Share>(tally: &Tally<T>, place: &mut Place<T>, claim: Place<T>, n
 impl<T: Share> Reader<T> {
     /// The last value of the list that it knows now, which goes on from the list that it knew. It
     /// waits for nobody.
-    #[tactic(auto, using(crate::proofs::Prefixes::prefix_self))]
+    #[tactic(auto, using(tk_lists::proofs::Offers::prefix_self))]
     pub fn look(&mut self) -> Result<T, Memory>
         ensures known { GoesOn self.old self.new }
         ensures last { IfOk result (λ x. IsLast self.new.list (T.meaning x)) }

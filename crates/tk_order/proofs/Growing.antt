@@ -13,7 +13,7 @@ use Rattle.tk_frames.specs.declared.entry.Entry.{Entry}
 use Rattle.tk_shape.specs.declared.shape.Shape.{Shape}
 use Rattle.tk_order.specs.Legality.{MayFollow, IsLegal, placed}
 use Rattle.tk_order.specs.Seats.{Seated, own, own_in, claims_of, IsWhole, SeesMore, Puts, Ordered}
-use Rattle.tk_order.proofs.Prefixes.{prefix_self, prefix_trans, prefix_whole}
+use Rattle.tk_lists.proofs.Offers.{prefix_self, prefix_trans, prefix_whole}
 
 pub sees_self : (a : Seated) → SeesMore a a
 sees_self a = record { number = refl; seen = prefix_self a.seen; own = refl }

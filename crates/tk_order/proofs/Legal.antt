@@ -15,8 +15,8 @@ use Rattle.tk_frames.specs.declared.entry.Entry.TheVariants.{Write, Mark}
 use Rattle.tk_frames.specs.Ranges.{IsEntry}
 use Rattle.tk_frames.proofs.Offers.{order-none, order-push}
 use Rattle.tk_order.specs.Legality.{number_of, seat_of, of, IsDue, IsLegal, MayFollow}
-use Rattle.tk_order.proofs.Prefixes.{prefix_length, prefix_whole}
 use Rattle.tk_order.proofs.Turns.{next_due}
+use Rattle.tk_lists.proofs.Offers.{prefix_whole, prefix_length}
 
 pub of-append : (n : ℕ) (xs ys : List Placed) → of n (xs ++ ys) ≡ of n xs ++ of n ys
 of-append n xs ys = filter-append (λ p. seat_of p == n) xs ys

@@ -1,5 +1,4 @@
 pub mod Offers
-pub mod Prefixes
 pub mod Turns
 pub mod Legal
 pub mod Moves

@@ -16,8 +16,8 @@ use Rattle.tk_order.specs.declared.rule.View.{View}
 use Rattle.tk_order.specs.Legality.{seat_of, of, MayFollow}
 use Rattle.tk_order.specs.Rules as rules
 use Rattle.tk_order.specs.Rules.{view, blank_view, note_of, informed, gathered, Owned, Holds, Fits, Kept, Looked, Met, added, Appends, Appended, DrawsIf, Drew}
-use Rattle.tk_order.proofs.Prefixes.{prefix_self, prefix_trans, prefix_shorter, prefix_whole}
 use Rattle.tk_order.proofs.Legal.{of_added, of_else, of_prefix, of_between, legal_first, legal_after}
+use Rattle.tk_lists.proofs.Offers.{prefix_self, prefix_trans, prefix_shorter, prefix_whole}
 
 -- a fact of each view, after one view changed
 pub views_set : (P : ℕ → View → Type 0) (views : List View) (id : ℕ) (w : View) → ((j : ℕ) (u : View) → j ≢ id → get_elem? views j ≡ some u → P j u) → P id w

@@ -1,8 +1,7 @@
 -- What the proofs of other crates may cite.
 
 -- Beginnings of one list.
-pub use Rattle.tk_order.proofs.Prefixes.{prefix_self, prefix_trans, prefix_shorter, prefix_whole}
-pub use Rattle.tk_order.proofs.Prefixes.{prefix_length, prefix_get}
+pub use Rattle.tk_lists.proofs.Offers.{prefix_self, prefix_trans, prefix_length, prefix_get}
 -- The entries under a number, after more entries.
 pub use Rattle.tk_order.proofs.Legal.{of-append, of_added, of_else, of_prefix, of_between}
 -- Which lists may be an order, and how many marks and writes they have.
