@@ -4,8 +4,7 @@ use Rattle.std.specs.Prelude.{nat_le, nat_lt, not, ◌==◌}
 use Rattle.std.specs.List.{list_all}
 use Rattle.std.specs.Str.{bytes_eq}
 use Rattle.std.proofs.lemmas.Slice.Eq.{bytes_eq-Decides}
-use Rattle.std.proofs.lemmas.Bool.Decides.{nat_tests}
-use Rattle.std.proofs.lemmas.Bool.{and_parts, and_from}
+use Rattle.std.proofs.lemmas.Bool.{and_parts, and_from, leb-true, leb-false, le-leb, lt-leb, ltb-true, lt-ltb}
 use Rattle.tk_shape.specs.declared.shape.Shape.{Shape}
 use Rattle.tk_shape.specs.Limits.{Numbers}
 use Rattle.tk_shape.specs.declared.field.Field.TheVariants as field
@@ -60,17 +59,11 @@ read_kind-keyed may n line is =
     ap (read_kind may n) ((bytes_eq-Decides line (codes "keyed")).0 both.1)
     ∙ ap (λ m. read_kind m n (codes "keyed")) both.0
 
-short_size : (n : ℕ) → n ≤ 2097152 → nat_le n 2097152 ≡ true
-short_size n h = grind (arith, nat_tests)
-
-long_size : (n : ℕ) → 2097152 < n → nat_le n 2097152 ≡ false
-long_size n h = grind (arith, nat_tests)
-
 drawn_short : (n : ℕ) → n ≤ 2097152 → drawn_if n ≡ Ok false
-drawn_short n h = rw (short_size n h) refl
+drawn_short n h = rw (le-leb n 2097152 h) refl
 
 drawn_long : (n : ℕ) → 2097152 < n → drawn_if n ≡ Err (cause.Shape field.Tape n)
-drawn_long n h = rw (long_size n h) refl
+drawn_long n h = rw (lt-leb n 2097152 h) refl
 
 drawn_line : (m : Bool) (z : Shape) (line : List ℕ) → line ≡ codes "drawn" →
     read_kind m (named z) line ≡ drawn_if (tape_len z)
@@ -97,9 +90,6 @@ read_kind-whole true z true may due = refl
 read_kind-whole false z true may due = absurd (cc (due refl))
 read_kind-whole m z false may due =
     read_kind-drawn m z (codes "drawn") (tape_len z) refl refl may
-
-size_from : (n : ℕ) → IsTrue (nat_le n 2097152) → n ≤ 2097152
-size_from n h = grind (arith, nat_tests)
 
 -- the kind that a line says
 pub record IsKind (m : Bool) (z : Shape) (line : List ℕ) (keyed : Bool) : Type 0 where
@@ -128,7 +118,7 @@ drawn_from m z line keyed word said =
     (cause.Shape field.Tape (tape_len z)) said in
     subst (IsKind m z line) test.1 (record {
       word = (bytes_eq-Decides line (codes "drawn")).0 word;
-      may = size_from (tape_len z) test.0;
+      may = leb-true (tape_len z) 2097152 test.0;
       due = never_keyed m;
     })
 
@@ -186,18 +176,12 @@ none_test : (b : Bool) (k : ℕ) (o : Option ℕ) → cond b (Some k) o ≡ None
 none_test true k o e = absurd (cc e)
 none_test false k o e = (refl, e)
 
-below : (n k : ℕ) → nat_le n k ≡ false → nat_lt k n ≡ true
-below n k h = grind (arith, nat_tests)
-
-not_from : (n k : ℕ) → nat_lt k n ≡ true → nat_le n k ≡ false
-not_from n k h = grind (arith, nat_tests)
-
 pub all_below-none : (n : ℕ) (ns : List ℕ) → first_from n ns ≡ None →
     IsTrue (list_all (λ k. nat_lt k n) ns)
 all_below-none n [] e = refl
 all_below-none n (k ∷ ns) e =
     let test = none_test (nat_le n k) k (first_from n ns) e in
-    and_from (nat_lt k n) (list_all (λ m. nat_lt m n) ns) (below n k test.0)
+    and_from (nat_lt k n) (list_all (λ m. nat_lt m n) ns) (lt-ltb k n (leb-false n k test.0))
     (all_below-none n ns test.1)
 
 pub none_from : (n : ℕ) (ns : List ℕ) → IsTrue (list_all (λ k. nat_lt k n) ns) →
@@ -205,7 +189,7 @@ pub none_from : (n : ℕ) (ns : List ℕ) → IsTrue (list_all (λ k. nat_lt k n
 none_from n [] all = refl
 none_from n (k ∷ ns) all =
     let split = and_parts (nat_lt k n) (list_all (λ m. nat_lt m n) ns) all in
-    rw (not_from n k split.0) (none_from n ns split.1)
+    rw (lt-leb n k (ltb-true k n split.0)) (none_from n ns split.1)
 
 -- a writer and followers in range that ascend are a role
 pub role_sound : (shape : Shape) (w : ℕ) (fs : List ℕ) →

@@ -1,10 +1,9 @@
 -- Printed lines have no line feed of their own, so a text is read as the lines that were printed.
-use Rattle.std.proofs.Common.{◌≡◌, ◌≢◌, ℕ, suc, ◌<◌, ◌≤◌, ◌^◌, List, [], ◌∷◌, ◌++◌, length, map, get_or, codes, decimal, Bool, true, IsTrue, Option, Some, None, refl, ap, sym, ◌∙◌, arith, append_assoc, eq-eqb}
+use Rattle.std.proofs.Common.{◌≡◌, ◌≢◌, ℕ, suc, ◌<◌, ◌^◌, List, [], ◌∷◌, ◌++◌, length, map, get_or, codes, decimal, Bool, true, IsTrue, Option, Some, None, refl, ap, sym, ◌∙◌, arith, append_assoc, eq-eqb}
 use Rattle.std.specs.Prelude.{◌==◌, not, nat_le}
 use Rattle.std.specs.List.{AllByRecursion, list_all, onto_first}
 use Rattle.std.specs.Str.{is_utf8}
-use Rattle.std.proofs.lemmas.Bool.Decides.{nat_tests}
-use Rattle.std.proofs.lemmas.Bool.{and_parts}
+use Rattle.std.proofs.lemmas.Bool.{and_parts, leb-true}
 use Rattle.hex.specs.Hex.{IsBytes, encode_lower, is_hex_digit}
 use Rattle.hex.proofs.HexLemmas.{decode_of-ok, decode_of-encode_lower}
 use Rattle.tk_shape.specs.declared.shape.Shape.{Shape}
@@ -97,14 +96,11 @@ pub bytes_line_lacks : (word bytes : List ℕ) → LacksFeed word → IsBytes by
 bytes_line_lacks word bytes lacks are =
     fields_lack (word ∷ encode_lower bytes ∷ []) (lacks, (digits_lack bytes are, tt))
 
-printable : (b : ℕ) → IsTrue (nat_le 0x20 b) → 0x20 ≤ b
-printable b h = grind (arith, nat_tests)
-
 printables_lack : (text : List ℕ) → list_all is_printable text ≡ true → LacksFeed text
 printables_lack [] all = tt
 printables_lack (b ∷ text) all =
     let both = and_parts (is_printable b) (list_all is_printable text) all in
-    let low = printable b (and_parts (nat_le 0x20 b) (not (b == 0x7F)) both.0).0 in
+    let low = leb-true 0x20 b (and_parts (nat_le 0x20 b) (not (b == 0x7F)) both.0).0 in
     (λ e. omega (arith, low, e), printables_lack text both.1)
 
 text_lacks : (text : List ℕ) → is_allowed text ≡ true → LacksFeed text

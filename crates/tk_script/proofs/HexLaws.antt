@@ -1,8 +1,8 @@
 -- Lines of a word and digits.
-use Rattle.std.proofs.Common.{◌≡◌, ℕ, List, [], ◌∷◌, length, get_or, cond, Bool, true, false, IsTrue, Option, Some, None, Result, Ok, Err, refl, ap, sym, ◌∙◌, subst, arith, eq-eqb}
+use Rattle.std.proofs.Common.{◌≡◌, ℕ, List, [], ◌∷◌, length, get_or, cond, Bool, true, false, Option, Some, None, Result, Ok, Err, refl, ap, sym, ◌∙◌, subst, eq-eqb}
 use Rattle.std.specs.Prelude.{IsNone, IfSome, ◌==◌}
 use Rattle.std.specs.Str.{bytes_eq}
-use Rattle.std.proofs.lemmas.Bool.Decides.{nat_tests}
+use Rattle.std.proofs.lemmas.Bool.{eqb-true}
 use Rattle.std.proofs.lemmas.List.Splits.{join_with_byte-slice_split}
 use Rattle.std.proofs.lemmas.Slice.Eq.{bytes_eq-Decides}
 use Rattle.hex.specs.Hex.{decode_of, is_hex_digit}
@@ -49,14 +49,11 @@ pub record Taken (word line : List ℕ) (count : ℕ) (bytes : List ℕ) : Type 
   pub decoded : decode_of digits ≡ Ok bytes
   pub counted : length bytes ≡ count
 
-equal_by : (n m : ℕ) → IsTrue (n == m) → n ≡ m
-equal_by n m e = grind (arith, nat_tests)
-
 found_is : (count : ℕ) (r : Result (List ℕ) FromHexError) (bytes : List ℕ) →
     counted count (bytes_found r) ≡ Ok bytes → (r ≡ Ok bytes) × (length bytes ≡ count)
 found_is count (Ok found) bytes e =
     let test = ok_if (length found == count) found bytes cause.Form e in
-    (ap Ok test.1, ap length (sym test.1) ∙ equal_by (length found) count test.0)
+    (ap Ok test.1, ap length (sym test.1) ∙ eqb-true (length found) count test.0)
 found_is count (Err x) bytes e = absurd (cc e)
 
 taken_parts : (word : List ℕ) (count : ℕ) (ps : List (List ℕ)) (bytes : List ℕ) →

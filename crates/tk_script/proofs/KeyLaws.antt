@@ -3,8 +3,7 @@ use Rattle.std.proofs.Common.{◌≡◌, ◌<◌, ◌^◌, ℕ, List, [], ◌∷
 use Rattle.std.specs.Prelude.{IsSome, IfSome, ◌==◌}
 use Rattle.std.specs.Int.{w64, to_be_bytes, from_be_bytes}
 use Rattle.std.specs.List.{AllZip, AllByRecursion}
-use Rattle.std.proofs.lemmas.Bool.{and_parts}
-use Rattle.std.proofs.lemmas.Bool.Decides.{nat_tests}
+use Rattle.std.proofs.lemmas.Bool.{and_parts, eqb-true}
 use Rattle.std.proofs.lemmas.List.{length-append, length-drop, length-take-le, take-append-drop}
 use Rattle.std.proofs.lemmas.Nat.{be_bytes_8, from_be_bytes-to_be_bytes_8}
 use Rattle.hex.specs.Hex.{IsBytes}
@@ -255,14 +254,11 @@ split_lines (l ∷ lines) (x ∷ xs) ys each =
       seconds = rest.seconds;
     }
 
-counted : (a b : ℕ) → IsTrue (a == b) → a ≡ b
-counted a b e = grind (arith, nat_tests)
-
 pub keys_counted : (shape : Shape) (k : Keys) → IsTrue (has_keys shape (Some k)) →
     (length k.handles ≡ shape.logs) × (length k.seeds ≡ shape.clients)
 keys_counted shape k e =
     let both = and_parts (length k.handles == shape.logs) (length k.seeds == shape.clients) e in
-    (counted (length k.handles) shape.logs both.0, counted (length k.seeds) shape.clients both.1)
+    (eqb-true (length k.handles) shape.logs both.0, eqb-true (length k.seeds) shape.clients both.1)
 
 -- the handles and the seeds of keys, with their lines
 pub record TheKeys (shape : Shape) (keys : Keys) (lines : List Line) : Type 0 where

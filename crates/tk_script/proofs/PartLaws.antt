@@ -4,10 +4,9 @@ use Rattle.std.specs.Prelude.{nat_lt}
 use Rattle.std.specs.List.{AllByRecursion, onto_first}
 use Rattle.std.specs.Str.{bytes_eq}
 use Rattle.std.specs.Str.Parse.{digits_value}
-use Rattle.std.proofs.lemmas.Bool.Decides.{nat_tests}
 use Rattle.std.proofs.lemmas.List.Splits.{join_with_byte-slice_split}
 use Rattle.std.proofs.lemmas.Slice.Eq.{bytes_eq-Decides}
-use Rattle.std.proofs.lemmas.Bool.{and_parts}
+use Rattle.std.proofs.lemmas.Bool.{and_parts, ltb-true, lt-ltb}
 use Rattle.tk_script.specs.Fields.{LacksSpace}
 use Rattle.tk_script.specs.Grammar.{fields}
 use Rattle.tk_script.specs.Reading.{parts_of, number_if, number_spelled, number_before, numbers_spelled, word_then, numbers_after}
@@ -48,24 +47,18 @@ by_test : (b : Bool) (k n : ℕ) → cond b (Some k) None ≡ Some n → IsTrue 
 by_test true k n e = (refl, cc e)
 by_test false k n e = absurd (cc e)
 
-below_word : (n : ℕ) → IsTrue (nat_lt n 4294967296) → n < 2 ^ 32
-below_word n low = grind (arith, nat_tests)
-
-word_below : (n : ℕ) → n < 2 ^ 32 → nat_lt n 4294967296 ≡ true
-word_below n small = grind (arith, nat_tests)
-
 pub same_bytes : (xs : List ℕ) → bytes_eq xs xs ≡ true
 same_bytes xs = (bytes_eq-Decides xs xs).1 refl
 
 number_if-own : (n : ℕ) → n < 2 ^ 32 → number_if n (decimal n) ≡ Some n
-number_if-own n small = rw (word_below n small, same_bytes (decimal n)) refl
+number_if-own n small = rw (lt-ltb n 4294967296 small, same_bytes (decimal n)) refl
 
 number_if-is : (k n : ℕ) (text : List ℕ) → number_if k text ≡ Some n →
     (n < 2 ^ 32) × (text ≡ decimal n)
 number_if-is k n text e =
     let test = by_test (nat_lt k 4294967296 && bytes_eq (decimal k) text) k n e in
     let both = and_parts (nat_lt k 4294967296) (bytes_eq (decimal k) text) test.0 in (
-      subst (λ m. m < 2 ^ 32) test.1 (below_word k both.0),
+      subst (λ m. m < 2 ^ 32) test.1 (ltb-true k 4294967296 both.0),
       sym ((bytes_eq-Decides (decimal k) text).0 both.1) ∙ ap decimal test.1,
     )
 

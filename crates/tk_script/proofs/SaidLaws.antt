@@ -6,7 +6,8 @@ use Rattle.std.specs.Str.{bytes_eq}
 use Rattle.std.proofs.lemmas.Bool.Decides.{nat_tests}
 use Rattle.std.proofs.lemmas.List.Splits.{join_with_byte-slice_split}
 use Rattle.std.proofs.lemmas.Slice.Eq.{bytes_eq-Decides}
-use Rattle.std.proofs.lemmas.Bool.{and_parts, and_from, le-leb, lt-ltb}
+use Rattle.std.proofs.lemmas.Bool.{and_parts, and_from, leb-true, le-leb, lt-leb, lt-ltb}
+use Rattle.tk_shape.proofs.Offers.{between-from}
 use Rattle.tk_shape.specs.declared.shape.Shape.{Shape}
 use Rattle.tk_shape.specs.Limits.{Numbers, is_between}
 use Rattle.tk_seal.specs.Texts.{is_allowed, allowed_front}
@@ -232,22 +233,16 @@ in_time : (n : Numbers) (last when : When) (text : List ℕ) (o : Option ℕ) �
     is_by last when ≡ true → why_behind n last when text o ≡ why_text (n.block - 18) text
 in_time n last when text o e by = ap (why_behind n last when text) e ∙ rw by refl
 
-too_long : (n room : ℕ) → room < n → nat_le n room ≡ false
-too_long n room h = grind (arith, nat_tests)
-
-has_room : (n room : ℕ) → n ≤ room → nat_le n room ≡ true
-has_room n room h = grind (arith, nat_tests)
-
 pub said_room : (n : Numbers) (last when : When) (text : List ℕ) (o : Option ℕ) → o ≡ None →
     is_by last when ≡ true → n.block - 18 < length text →
     why_behind n last when text o ≡ Some (cause.Room (n.block - 18))
 said_room n last when text o e by long =
-    in_time n last when text o e by ∙ rw (too_long (length text) (n.block - 18) long) refl
+    in_time n last when text o e by ∙ rw (lt-leb (length text) (n.block - 18) long) refl
 
 fits : (room : ℕ) (text : List ℕ) → length text ≤ room →
     why_text room text ≡ cond (is_allowed text) None
     (Some (cause.Text (allowed_front (length text) text)))
-fits room text h = rw (has_room (length text) room h) refl
+fits room text h = rw (le-leb (length text) room h) refl
 
 pub said_text : (n : Numbers) (last when : When) (text : List ℕ) (o : Option ℕ) (at : ℕ) →
     o ≡ None → is_by last when ≡ true → length text ≤ n.block - 18 → is_allowed text ≡ false →
@@ -311,18 +306,14 @@ in_range : (a b c : Bool) (p t g : ℕ) → a ≡ true → b ≡ true → c ≡ 
     cond a (cond b (cond c None (Some g)) (Some t)) (Some p) ≡ None
 in_range a b c p t g x y z = rw (x, y, z) refl
 
-between : (a b n : ℕ) → a ≤ n → n ≤ b → is_between a b n ≡ true
-between a b n low high =
-    and_from (nat_le a n) (nat_le n b) (le-leb a n low) (le-leb n b high)
-
 pub may_say : (shape : Shape) (say : Say) → IsTrue (is_say shape say) → MaySay shape say
 may_say shape say sound =
     let said = is_say-IsSaid shape say sound in
     record {
       range = in_range (is_between 1 shape.phases say.phase) (is_between 1 shape.ticks say.tick)
           (nat_lt say.log shape.logs) say.phase say.tick say.log
-          (between 1 shape.phases say.phase said.phase_low said.phase_high)
-          (between 1 shape.ticks say.tick said.tick_low said.tick_high)
+          (between-from 1 shape.phases say.phase said.phase_low said.phase_high)
+          (between-from 1 shape.ticks say.tick said.tick_low said.tick_high)
           (lt-ltb say.log shape.logs said.log_in);
       short = omega (arith, said.fits);
       good = said.allowed;
@@ -349,9 +340,6 @@ room_test true true room at e = (refl, refl)
 room_test true false room at e = absurd (cc e)
 room_test false c room at e = absurd (cc e)
 
-le_of : (a b : ℕ) → IsTrue (nat_le a b) → a ≤ b
-le_of a b h = grind (arith, nat_tests)
-
 said_parts : (shape : Shape) (last when : When) (text : List ℕ) (o : Option ℕ) →
     why_behind (named shape) last when text o ≡ None →
     (o ≡ None) × IsTrue (is_by last when) × (length text ≤ shape.block - 18)
@@ -361,7 +349,7 @@ said_parts shape last when text None e =
     let by = behind_test (is_by last when) (why_text (shape.block - 18) text) e in
     let room = room_test (nat_le (length text) (shape.block - 18)) (is_allowed text)
     (shape.block - 18) (allowed_front (length text) text) by.1 in
-    (refl, by.0, le_of (length text) (shape.block - 18) room.0, room.1)
+    (refl, by.0, leb-true (length text) (shape.block - 18) room.0, room.1)
 
 -- a text that is said may be said
 pub said_is : (shape : Shape) (last : When) (say : Say) →

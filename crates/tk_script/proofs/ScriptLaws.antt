@@ -1,7 +1,7 @@
 -- The lines of a script and of its tape.
-use Rattle.std.proofs.Common.{◌≡◌, ℕ, ◌≤◌, List, [], ◌∷◌, ◌++◌, map, codes, Bool, true, false, Option, Some, None, refl, ap, sym, ◌∙◌, subst, arith, append_assoc}
-use Rattle.std.specs.Prelude.{IsTrue, nat_le, is_some}
-use Rattle.std.proofs.lemmas.Bool.Decides.{nat_tests}
+use Rattle.std.proofs.Common.{◌≡◌, List, [], ◌∷◌, ◌++◌, map, codes, Bool, true, false, Option, Some, None, refl, ap, sym, ◌∙◌, subst, append_assoc}
+use Rattle.std.specs.Prelude.{IsTrue, is_some}
+use Rattle.std.proofs.lemmas.Bool.{leb-true, le-leb}
 use Rattle.std.proofs.Math.Nat.{ℕ_set}
 use Rattle.std.proofs.Math.Bool.{Bool-set}
 use mathlib.Core.HLevel.{is_prop→PathP}
@@ -79,22 +79,16 @@ script_begins lines S key_lines rest spelled whole = record {
       (sym (kind_is S.keys));
 }
 
-le_of : (a b : ℕ) → IsTrue (nat_le a b) → a ≤ b
-le_of a b h = grind (arith, nat_tests)
-
-of_le : (a b : ℕ) → a ≤ b → IsTrue (nat_le a b)
-of_le a b h = grind (arith, nat_tests)
-
 -- a script's tape is not too long for its kind
 pub may_be : (shape : Shape) (keys : Option Keys) → IsTrue (tape_fits shape keys) →
     MayBeOfKind shape (is_some keys)
-may_be shape None fits = le_of (tape_len shape) 2097152 fits
+may_be shape None fits = leb-true (tape_len shape) 2097152 fits
 may_be shape (Some keys) fits = tt
 
 pub tape_fits_kind : (shape : Shape) (keys : Option Keys) (keyed : Bool) → is_some keys ≡ keyed →
     MayBeOfKind shape keyed → IsTrue (tape_fits shape keys)
 tape_fits_kind shape None keyed kind may =
-    of_le (tape_len shape) 2097152 (subst (MayBeOfKind shape) (sym kind) may)
+    le-leb (tape_len shape) 2097152 (subst (MayBeOfKind shape) (sym kind) may)
 tape_fits_kind shape (Some keys) keyed kind may = refl
 
 -- ---- the tape of an input

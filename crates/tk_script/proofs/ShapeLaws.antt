@@ -1,7 +1,7 @@
 -- A shape and its numbers.
 use Rattle.std.proofs.Common.{◌≡◌, ℕ, List, [], ◌∷◌, length, map, decimal, codes, IsTrue, Option, Some, None, Ok, refl, ap, ◌∙◌, subst, arith}
 use Rattle.std.specs.Prelude.{◌==◌}
-use Rattle.std.proofs.lemmas.Bool.Decides.{nat_tests}
+use Rattle.std.proofs.lemmas.Bool.{eqb-true}
 use Rattle.std.proofs.Math.Nat.{mul-le-mul_left, mul-le-mul_right}
 use Rattle.std.specs.List.{AllByRecursion}
 use Rattle.tk_shape.specs.declared.shape.Shape.{Shape}
@@ -66,9 +66,6 @@ unbroken_from : (n m : Numbers) (o : Option Limit) → unbroken n o ≡ Ok m →
 unbroken_from n m None e = (ok_same n m e, refl)
 unbroken_from n m (Some l) e = absurd (cc e)
 
-equal_by : (n m : ℕ) → IsTrue (n == m) → n ≡ m
-equal_by n m e = grind (arith, nat_tests)
-
 -- twelve numbers, one after the other
 abbrev listed : Numbers → List ℕ
 listed n =
@@ -112,7 +109,7 @@ shape_from format line n (Some ns) known e said =
       of_format = refl;
       whole = (numbers_after-are (codes "shape") line ns e).0
           ∙ ap (λ ms. fields (codes "shape" ∷ map decimal ms))
-          (twelve format ns (equal_by (length ns) 12 test.0));
+          (twelve format ns (eqb-true (length ns) 12 test.0));
     })
 
 pub shape_is : (format : ℕ) (line : Line) (n : Numbers) → IsTrue (is_between 1 2 format) →

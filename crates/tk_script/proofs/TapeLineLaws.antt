@@ -2,6 +2,7 @@
 use Rattle.std.proofs.Common.{◌≡◌, ℕ, ◌<◌, ◌≤◌, ◌^◌, List, [], ◌∷◌, ◌++◌, length, decimal, codes, replicate, ◌⊎◌, inl, inr, cond, Bool, true, false, IsTrue, Option, Some, None, Result, Ok, Err, refl, ap, sym, ◌∙◌, subst, arith, append-nil}
 use Rattle.std.specs.Str.{bytes_eq}
 use Rattle.std.proofs.lemmas.Bool.Decides.{nat_tests}
+use Rattle.tk_shape.proofs.Offers.{between-parts, between-from}
 use Rattle.std.proofs.lemmas.List.Splits.{join_with_byte-slice_split}
 use Rattle.std.proofs.lemmas.Slice.Eq.{bytes_eq-Decides}
 use Rattle.hex.specs.Hex.{decode_of}
@@ -17,9 +18,6 @@ use Rattle.tk_script.proofs.HexLaws.{digits_lack}
 use Rattle.tk_script.proofs.OptionLaws.{ok_or, ok_if, verdict_if}
 use Rattle.tk_script.proofs.PartLaws.{split_field, one_field, number_spelled-decimal, number_spelled-is}
 
-between : (low high n : ℕ) → low ≤ n → n ≤ high → is_between low high n ≡ true
-between low high n p q = grind (arith, nat_tests)
-
 -- ---- digits
 
 pub digits_taken : (digits bytes : List ℕ) → decode_of digits ≡ Ok bytes → 1 ≤ length bytes →
@@ -27,22 +25,17 @@ pub digits_taken : (digits bytes : List ℕ) → decode_of digits ≡ Ok bytes �
 digits_taken digits bytes decoded low high =
     ap read_digits (one_field digits (digits_lack digits bytes decoded))
     ∙ ap (λ r. in_piece (bytes_found r)) decoded
-    ∙ rw (between 1 2048 (length bytes) low high) refl
+    ∙ rw (between-from 1 2048 (length bytes) low high) refl
 
 -- digits that are no piece
 abbrev pub IsNoPiece : List ℕ → Type 0
 IsNoPiece digits = (bytes : List ℕ) → decode_of digits ≡ Ok bytes → 1 ≤ length bytes →
     length bytes ≤ 2048 → ⊥
 
-at_least : (n : ℕ) → is_between 1 2048 n ≡ true → 1 ≤ n
-at_least n e = grind (arith, nat_tests)
-
-at_most : (n : ℕ) → is_between 1 2048 n ≡ true → n ≤ 2048
-at_most n e = grind (arith, nat_tests)
-
 form_by : (n : ℕ) (bytes : List ℕ) (b : Bool) → is_between 1 2048 n ≡ b →
     (1 ≤ n → n ≤ 2048 → ⊥) → ok_or b bytes cause.Form ≡ Err cause.Form
-form_by n bytes true e never = absurd (never (at_least n e) (at_most n e))
+form_by n bytes true e never = let range = between-parts 1 2048 n e in
+    absurd (never range.0 range.1)
 form_by n bytes false e never = refl
 
 piece_form : (bytes : List ℕ) → (1 ≤ length bytes → length bytes ≤ 2048 → ⊥) →
@@ -96,7 +89,7 @@ fill_spelled text digits rest behind n whole e none =
     ∙ ap (λ t. 0x20 ∷ t) (append-nil (decimal n)))
 
 pub repeats_taken : (b n : ℕ) → 1 ≤ n → n ≤ 2097152 → repeats b n ≡ Ok (replicate n b)
-repeats_taken b n low high = rw (between 1 2097152 n low high) refl
+repeats_taken b n low high = rw (between-from 1 2097152 n low high) refl
 
 few : (n : ℕ) → n < 1 → is_between 1 2097152 n ≡ false
 few n h = grind (arith, nat_tests)
@@ -209,10 +202,11 @@ found_from : (r : Result (List ℕ) FromHexError) (bytes : List ℕ) →
     in_piece (bytes_found r) ≡ Ok bytes →
     (r ≡ Ok bytes) × (1 ≤ length bytes) × (length bytes ≤ 2048)
 found_from (Ok found) bytes e =
-    let test = ok_if (is_between 1 2048 (length found)) found bytes cause.Form e in (
+    let test = ok_if (is_between 1 2048 (length found)) found bytes cause.Form e in
+    let range = between-parts 1 2048 (length found) test.0 in (
       ap Ok test.1,
-      subst (λ b. 1 ≤ length b) test.1 (at_least (length found) test.0),
-      subst (λ b. length b ≤ 2048) test.1 (at_most (length found) test.0),
+      subst (λ b. 1 ≤ length b) test.1 range.0,
+      subst (λ b. length b ≤ 2048) test.1 range.1,
     )
 found_from (Err x) bytes e = absurd (cc e)
 
@@ -223,12 +217,6 @@ digits_from (digits ∷ []) bytes e =
     let found = found_from (decode_of digits) bytes e in
     inl ((digits, refl, found.0), found.1, found.2)
 digits_from (digits ∷ more ∷ parts) bytes e = absurd (cc e)
-
-few_enough : (n : ℕ) → is_between 1 2097152 n ≡ true → n ≤ 2097152
-few_enough n e = grind (arith, nat_tests)
-
-some_at_least : (n : ℕ) → is_between 1 2097152 n ≡ true → 1 ≤ n
-some_at_least n e = grind (arith, nat_tests)
 
 -- a byte and its repeats
 abbrev IsRepeated : Result (List ℕ) FromHexError → Option ℕ → List ℕ → Type 0
@@ -242,7 +230,8 @@ repeated_from (Ok []) o bytes e = absurd (cc e)
 repeated_from (Ok (b ∷ [])) None bytes e = absurd (cc e)
 repeated_from (Ok (b ∷ [])) (Some n) bytes e =
     let test = ok_if (is_between 1 2097152 n) (replicate n b) bytes (cause.Number n) e in
-    (b, n, refl, refl, some_at_least n test.0, few_enough n test.0, sym test.1)
+    let range = between-parts 1 2097152 n test.0 in
+    (b, n, refl, refl, range.0, range.1, sym test.1)
 repeated_from (Ok (b ∷ more ∷ found)) o bytes e = absurd (cc e)
 
 fill_from : (parts : List (List ℕ)) (bytes : List ℕ) → read_fill parts ≡ Ok bytes →

@@ -6,8 +6,8 @@ use Rattle.std.proofs.Common.{Option, Some, None, ne_eqb, eq-eqb}
 use Rattle.std.specs.Prelude.{◌==◌}
 use Rattle.std.specs.List.{onto_first}
 use Rattle.std.specs.Str.{bytes_eq}
-use Rattle.std.proofs.lemmas.Slice.Eq.{bytes_eq-Decides}
 use Rattle.tk_script.specs.Reading.{parts_of, number_spelled, numbers_spelled}
+use Rattle.tk_script.proofs.CauseLaws.{differ}
 use Rattle.tk_script.proofs.PartLaws.{number_spelled-decimal}
 use Rattle.tk_script.specs.Reading.{items_spelled, no_turn, turn_parts}
 use Rattle.tk_script.specs.Reading.{order_said, reads_said, turn_said, read_turn}
@@ -168,13 +168,6 @@ head-reads line word last phase tick has is =
     sym (head-by line word last phase tick has
     ∙ ap (λ (w : List ℕ). turn_said w (Some phase) (Some tick) (parts_of last)) is)
 
-bytes-other : (xs ys : List ℕ) → (xs ≡ ys → ⊥) → bytes_eq xs ys ≡ false
-bytes-other xs ys other =
-    elim (bytes_eq xs ys) as (λ b. bytes_eq xs ys ≡ b → b ≡ false) [
-      | true ↦ λ same. absurd (other ((bytes_eq-Decides xs ys).0 same))
-      | false ↦ λ _. refl
-    ] refl
-
 pub head-other : (line word last : List ℕ) (phase tick : ℕ) →
     HasHead (parts_of line) word phase tick (parts_of last) → (word ≡ codes "order" → ⊥) →
     (word ≡ codes "reads" → ⊥) → no_turn ≡ read_turn line
@@ -183,5 +176,5 @@ head-other line word last phase tick has not_order not_reads =
     let reads = reads_said (Some phase) (Some tick) (numbers_spelled (parts_of last)) in
     sym (head-by line word last phase tick has
     ∙ ap (λ b. cond b order (cond (bytes_eq word (codes "reads")) reads no_turn))
-    (bytes-other word (codes "order") not_order)
-    ∙ ap (λ b. cond b reads no_turn) (bytes-other word (codes "reads") not_reads))
+    (differ word (codes "order") not_order)
+    ∙ ap (λ b. cond b reads no_turn) (differ word (codes "reads") not_reads))
