@@ -1,22 +1,19 @@
 -- Vectors that lie one after the other, and the frames that carry them.
-use Rattle.std.proofs.Common.{◌≡◌, ◌≢◌, refl, ap, ap₂, sym, ◌∙◌, subst, arith, IsTrue, Bool, true, false, cond}
-use Rattle.std.proofs.Common.{ℕ, zero, suc, ◌+◌, ◌-◌, ◌*◌, ◌/◌, ◌%◌, ◌^◌, ◌<◌, ◌≤◌, ltb-true}
+use Rattle.std.proofs.Common.{◌≡◌, refl, ap, ap₂, sym, ◌∙◌, subst, arith, Bool, true, false, cond}
+use Rattle.std.proofs.Common.{ℕ, zero, suc, ◌+◌, ◌-◌, ◌*◌, ◌/◌, ◌%◌, ◌<◌, ◌≤◌, ltb-true}
 use Rattle.std.proofs.Common.{List, [], ◌∷◌, ◌++◌, length, map, get_or, take, drop, append_assoc}
 use Rattle.std.proofs.Common.{append-nil, length-append, Option}
 use Rattle.std.specs.Prelude.{slice_index_or, nat_lt, ◌==◌, ◌&&◌}
 use Rattle.std.specs.List.{range_with_len, flat_map, concat}
-use Rattle.std.specs.Int.{is_power_of_two}
-use Rattle.std.specs.Int.Count.{ones}
 use Rattle.std.proofs.Math.Seq.{take-append_seam}
-use Rattle.std.proofs.lemmas.Bool.{eqb-true}
-use Rattle.std.proofs.lemmas.List.{drop-drop, take_at, drop_at}
+use Rattle.std.proofs.lemmas.List.{take_at, drop_at}
 use Rattle.std.proofs.lemmas.List.FromFn.{map-range_with_len_more}
-use Rattle.std.proofs.lemmas.Nat.{div-add-mod', ones_cat, zero_from_ones, le-div, mod-mul-add}
+use Rattle.std.proofs.lemmas.Nat.{le-div, mod-mul-add}
 use Rattle.std.proofs.Math.Nat.{mul-div_cancel}
 use Rattle.tk_shape.specs.declared.shape.Shape.{Shape}
 use Rattle.tk_shape.specs.Lengths.{seed_len, vector_len}
 use Rattle.tk_kernel.specs.Pieces.{pieces, all_pieces, AllSized}
-use Rattle.tk_kernel.proofs.Offers.{pieces-append, all_pieces-append, all_pieces_short}
+use Rattle.tk_kernel.proofs.Offers.{pieces-append, all_pieces-append, all_pieces_short, get_or-pieces}
 use Rattle.tk_kernel.proofs.Offers.{concat-all_pieces, AllSized-all_pieces}
 use Rattle.tk_bits.specs.Shares.{last_share, completed, shares, share_at}
 use Rattle.tk_bits.proofs.Offers.{vector-at, seed-at}
@@ -30,24 +27,7 @@ use Rattle.tk_client.specs.Reader.{Target}
 use Rattle.tk_client.specs.Asked.{pair_for, seeds_told, frame_with, frame_for, asked, AreForBoth}
 use Rattle.tk_client.specs.Framing.{Cut, cut, frame_from}
 
--- ---- a vector has a bit for each bucket
-
--- a power of two from 8 on is a number of whole bytes
-whole_bytes : (n : ℕ) → IsTrue (is_power_of_two n) → 8 ≤ n → n ≡ 8 * (n / 8)
-whole_bytes n one low =
-    let split : n / 8 * 2 ^ 3 + n % 8 ≡ n = omega (arith, div-add-mod' n 8) in
-    let counted : ones (n / 8) + ones (n % 8) ≡ 1 =
-    sym (ones_cat 3 (n / 8) (n % 8) (omega arith)) ∙ ap ones split ∙ eqb-true (ones n) 1 one in
-    let high : ones (n / 8) ≢ 0 =
-    λ e. let none = zero_from_ones (n / 8) e in omega (arith, none, low)
-    in
-    let none : ones (n % 8) ≡ 0 = omega (arith, counted, high) in
-    let no_rest = zero_from_ones (n % 8) none in
-    omega (arith, no_rest)
-
-pub vector_bits : (shape : Shape) → shape.buckets ≡ 8 * vector_len shape
-vector_bits shape =
-    whole_bytes shape.buckets shape.in_range.buckets_power shape.in_range.buckets_low
+-- ---- vectors have bytes
 
 pub vector_some : (shape : Shape) → 0 < vector_len shape
 vector_some shape = let low = shape.in_range.buckets_low in omega (arith, low)
@@ -66,15 +46,6 @@ last_behind (suc n) size h =
     let less : suc n - 1 ≡ n = omega arith in
     ap (λ k. k * size + size) less ∙ omega arith
 
-piece_at : (size i count : ℕ) (bytes : List ℕ) → i < count →
-    get_or (pieces size count bytes) i [] ≡ take size (drop (i * size) bytes)
-piece_at size i zero bytes h = absurd (omega arith)
-piece_at size zero (suc count) bytes h = let none : 0 * size ≡ 0 = omega arith in rw none
-piece_at size (suc i) (suc count) bytes h =
-    let more : size + i * size ≡ suc i * size = omega arith in
-    piece_at size i count (drop size bytes) (omega arith)
-    ∙ ap (take size) (drop-drop (i * size) size bytes ∙ ap (λ n. drop n bytes) more)
-
 pub vector_at : (size i taken start : ℕ) (bytes : List ℕ) → 0 < size → taken ≡ size →
     start ≡ i * size →
     (i + 1) * size ≤ length bytes →
@@ -82,7 +53,7 @@ pub vector_at : (size i taken start : ℕ) (bytes : List ℕ) → 0 < size → t
 vector_at size i taken start bytes some whole from long =
     let low = le-div (i + 1) (length bytes) size some long in
     ap₂ (λ n k. take n (drop k bytes)) whole from
-    ∙ sym (piece_at size i (length bytes / size) bytes (omega (arith, low)))
+    ∙ sym (get_or-pieces size (length bytes / size) i bytes [] (omega (arith, low)))
 
 all_pieces-last : (size : ℕ) (blocks : List (List ℕ)) (last : List ℕ) → 0 < size →
     AllSized size blocks → length last ≡ size →
@@ -227,7 +198,7 @@ module _ (shape : Shape) (bucket : ℕ) (seeds drawn : List (List ℕ))
       ≡ (share_at (shares (vector_len shape) bucket seeds drawn) (j - 1)).seed
   seed-of high =
       let place : j - 1 < shape.servers - 1 = omega (arith, low, high) in
-      sym (piece_at (seed_len shape) (j - 1) (shape.servers - 1) seed_bytes place)
+      sym (get_or-pieces (seed_len shape) (shape.servers - 1) (j - 1) seed_bytes [] place)
       ∙ ap (λ ps. get_or ps (j - 1) []) is.seeds_are
       ∙ sym (seed-at (vector_len shape) bucket (j - 1) seeds drawn
       (omega (arith, place, is.drawn_each)))

@@ -14,7 +14,7 @@ use Rattle.tk_shape.specs.Lengths.{turn_count, seed_len, vector_len, piece_len, 
 use Rattle.tk_handle.specs.Handle.{key_bytes, expanded}
 use Rattle.tk_handle.proofs.Offers.{length-key_bytes}
 use Rattle.tk_kernel.specs.Pieces.{AllSized}
-use Rattle.tk_kernel.proofs.Offers.{length-pieces, AllSized-pieces}
+use Rattle.tk_kernel.proofs.Offers.{length-pieces, AllSized-pieces, AllSized-map}
 use Rattle.tk_bits.specs.Shares.{Share, last_share, completed, shares, share_at}
 use Rattle.tk_bits.proofs.Offers.{length-last_share, vector-at, seed-at}
 use Rattle.tk_words.specs.Words.{WordBook, keyed, drawn, words_of, IsBook, BothBuckets}
@@ -67,11 +67,6 @@ cut-whole shape size bytes long =
       second_sized = AllSized-pieces size each behind
           (omega (arith, long, length-drop (each * size) bytes));
     }
-
-AllSized-map : (f : List ℕ → List ℕ) (a b : ℕ) (vs : List (List ℕ)) →
-    ((v : List ℕ) → length v ≡ a → length (f v) ≡ b) → AllSized a vs → AllSized b (map f vs)
-AllSized-map f a b [] becomes h = tt
-AllSized-map f a b (v ∷ vs) becomes h = (becomes v h.0, AllSized-map f a b vs becomes h.1)
 
 each-whole : (shape : Shape) (f : List ℕ → List ℕ) (a b : ℕ) (both : BothBuckets) →
     ((v : List ℕ) → length v ≡ a → length (f v) ≡ b) → AreForBoth shape a both →

@@ -2,7 +2,7 @@
 use Rattle.std.proofs.Common.{◌≡◌, ◌<◌, ◌≤◌, ◌+◌, ℕ, suc, refl, sym, ap, subst, ◌∙◌, List, []}
 use Rattle.std.proofs.Common.{◌∷◌, ◌++◌, Bool, true, false, ◌-◌, tests, length, map, drop}
 use Rattle.std.proofs.Common.{arith, IsTrue, ◌^◌, length-append, length-drop}
-use Rattle.std.specs.Prelude.{All, if◌then◌else◌, nat_lt, Option, Some, None, Result, Err, IfErr}
+use Rattle.std.specs.Prelude.{All, if◌then◌else◌, nat_lt, Option, Some, None}
 use Rattle.std.specs.Prelude.{slice_index_or}
 use Rattle.std.specs.List.Sorted.{IsStrictlyIncreasing}
 use Rattle.std.proofs.lemmas.List.Elements.{All-push}
@@ -12,7 +12,6 @@ use Rattle.tk_client.specs.declared.written.Written.{Written}
 use Rattle.tk_client.specs.declared.waiting.Waiting.{Waiting}
 use Rattle.tk_client.specs.declared.say_error.SayError.{SayError}
 use Rattle.tk_client.specs.declared.say_error.SayError.TheVariants.{NotWriter, TooLong, Text}
-use Rattle.tk_client.specs.declared.say_error.SayError.TheVariants.{Memory}
 use Rattle.tk_client.specs.Writing.{Writing, unwritten, count_of, one_more_of, with_text}
 use Rattle.tk_client.specs.Saying.{is_written, text_fault, fault_of, IsRefusedFor}
 use Rattle.tk_client.specs.Outboxes.{CanWait, IsOutbox}
@@ -86,9 +85,6 @@ fault-mine shape logs log text mine =
 pub refused-for : (fault : Option SayError) (e : SayError) → fault ≡ Some e → IsRefusedFor fault e
 refused-for fault e is = subst (λ f. IsRefusedFor f e) (sym is) refl
 
-pub refused-memory : (fault : Option SayError) → fault ≡ None → IsRefusedFor fault Memory
-refused-memory fault none = subst (λ f. IsRefusedFor f Memory) (sym none) refl
-
 -- a text with no fault has room and is allowed
 pub fault-none : (shape : Shape) (text : List ℕ) → text_fault shape text ≡ None →
     (length text + 18 ≤ shape.block) × IsTrue (is_allowed text)
@@ -124,14 +120,6 @@ pub can_wait : (shape : Shape) (logs : List Written) (log number : ℕ) (text ke
 can_wait shape logs log number text kept mine none same =
     let can = fault-none shape kept (ap (text_fault shape) same ∙ none) in
     record { log = mine; fits = can.0; allowed = can.1 }
-
--- memory is named only where nothing else is at fault
-pub refused-err : {T : Type 0} (r : Result T SayError) (fault : Option SayError) (e : SayError) →
-    r ≡ Err e → e ≡ Memory →
-    fault ≡ None → IfErr r (IsRefusedFor fault)
-refused-err {T} r fault e is memory none =
-    let P : Result T SayError → Type 0 = λ x. IfErr x (IsRefusedFor fault) in
-    subst P (sym is) (subst (λ f. IsRefusedFor f e) (sym none) memory)
 
 -- what an outbox has after a text was put after the others
 pub said : (log number : ℕ) (logs logs' : List Written) (waiting waiting' : List Waiting)

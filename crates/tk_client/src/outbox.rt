@@ -1,5 +1,5 @@
 ghost use Rattle.std.specs.Prelude.{◌≡◌, ◌<◌, ◌+◌, ◌==◌, ◌++◌, All, IfOk, IfErr, OnOk};
-ghost use Rattle.std.specs.Prelude.{OnErr, None, length, map, position};
+ghost use Rattle.std.specs.Prelude.{OnErr, Some, None, length, map, position};
 ghost use Rattle.std.specs.Option.{ForSome};
 ghost use Rattle.std.specs.List.Sorted.{IsStrictlyIncreasing};
 ghost use Rattle.tk_shape.specs.Lengths.{turn_count};
@@ -73,12 +73,7 @@ impl Outbox {
             (IsRefusedFor (fault_of self.old.shape self.old.writing.logs log text.now)) }
         ensures kept { OnErr result (self.new ≡ self.old) }
     {
-        let Some(place) = place_of(self.logs.as_slice(), log) else {
-            return Err(SayError::NotWriter { log });
-        };
-        if let Some(fault) = fault_in(&self.shape, text) {
-            return Err(fault);
-        }
+        let place = place_to_say(&self.shape, self.logs.as_slice(), log, text)?;
         if self.waiting.len() >= u32::MAX as usize {
             return Err(SayError::Memory);
         }
@@ -174,6 +169,21 @@ fn place_of(logs: &[Written], log: u32) -> Option<usize>
     ensures { result ≡ position (λ f. f.log == log) logs.now }
 {
     logs.iter().position(|written| written.log == log)
+}
+
+/// The place among these of a log on which a text may be said.
+fn place_to_say(shape: &Shape, logs: &[Written], log: u32, text: &[u8]) -> Result<usize, SayError>
+    ensures place { IfOk result (λ place. Some place ≡ position (λ f. f.log == log) logs.now) }
+    ensures may { OnOk result (fault_of shape.now logs.now log text.now ≡ None) }
+    ensures refused { IfErr result (IsRefusedFor (fault_of shape.now logs.now log text.now)) }
+{
+    let Some(place) = place_of(logs, log) else {
+        return Err(SayError::NotWriter { log });
+    };
+    match fault_in(shape, text) {
+        Some(fault) => Err(fault),
+        None => Ok(place),
+    }
 }
 
 /// Why a text may not be said on a log of its client.

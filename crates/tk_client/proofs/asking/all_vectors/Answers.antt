@@ -2,9 +2,10 @@
 use Rattle.std.proofs.Common.{◌≡◌, ◌∙◌, ap, ap₂, List, ℕ, ◌++◌, ◌-◌, ◌*◌, ◌%◌, length, arith}
 use Rattle.std.proofs.Common.{length-append}
 use Rattle.tk_shape.specs.Lengths.{vector_len}
+use Rattle.tk_shape.proofs.Offers.{vector_bits}
 use Rattle.tk_kernel.specs.Pieces.{all_pieces}
 use Rattle.tk_bits.specs.Shares.{last_share}
-use Rattle.tk_client.proofs.AskingLaws.{vector_bits, vector_some, whole_vectors, completed_behind}
+use Rattle.tk_client.proofs.AskingLaws.{vector_some, whole_vectors, completed_behind}
 use Rattle.tk_client.proofs.AskingLaws.{last_behind, written_back}
 use Rattle.tk_client.proofs.asking.all_vectors.Goals as goal
 
