@@ -4,6 +4,7 @@ use Rattle.std.proofs.Common.{arith, List, [], ◌∷◌, ◌++◌, Bool, true, 
 use Rattle.std.proofs.Common.{eq-eqb, ne_eqb}
 use Rattle.std.specs.Prelude.{◌==◌}
 use Rattle.std.proofs.lemmas.Bool.{cases_lt}
+use Rattle.std.proofs.Math.Bool.{or-true}
 use Rattle.tk_shape.specs.declared.shape.Shape.{Shape}
 use Rattle.tk_frames.specs.declared.entry.Placed.{Placed}
 use Rattle.tk_frames.specs.declared.entry.Entry.{Entry}
@@ -12,14 +13,10 @@ use Rattle.tk_frames.specs.Order.{records, before, has_mark}
 use Rattle.tk_frames.specs.Order.{is_mark, is_mark_numbered, is_mark_of}
 use Rattle.tk_frames.specs.InOrder.{mark_count, mark_position, HasNumber, number_after}
 use Rattle.tk_frames.specs.InOrder.{IsOrderFrom, IsOrder}
-use Rattle.tk_frames.proofs.Marks.{before-none, before-settled, before-marked, before-unmarked}
+use Rattle.tk_frames.proofs.Marks.{before-none, before-settled, before-marked}
 use Rattle.tk_frames.proofs.MarkCounts.{marks-cons}
 
 -- ---- which marks stand
-
-or-true : (b : Bool) → (b || true) ≡ true
-or-true true = refl
-or-true false = refl
 
 mark-here : (x : Entry) (due e count : ℕ) (rest : Bool) → HasNumber due x → due ≤ e →
     e < due + (cond (is_mark x) 1 0 + count) →
@@ -85,12 +82,6 @@ before-mark shape E p e order at number =
     before-marked E [] p e (omega (arith, number))
     (has-no_mark shape E e order (omega (arith, number)))
     (ap (is_mark_numbered e) at ∙ eq-eqb e e refl)
-
--- before one that hasn't come: all writes so far
-pub before-later : (shape : Shape) (E : List Placed) (e : ℕ) → IsOrder shape E →
-    mark_count E < e → before E e ≡ records E
-before-later shape E e order above =
-    before-unmarked E e (omega (arith, above)) (has-no_mark shape E e order above)
 
 -- ---- where they stand
 

@@ -2,13 +2,8 @@
 use Rattle.std.proofs.Common.{◌≡◌, ℕ, zero, suc, ◌+◌, ◌<◌, sym, ◌∙◌, subst, arith}
 use Rattle.std.proofs.Common.{List, [], ◌∷◌, ◌++◌, length, take}
 use Rattle.std.specs.Prelude.{slice_index_or}
-use Rattle.std.specs.List.{AllByRecursion, cons_option}
 use Rattle.tk_shape.specs.declared.shape.Shape.{Shape}
 use Rattle.tk_frames.specs.declared.entry.Placed.{Placed}
-use Rattle.tk_frames.specs.declared.entry.Entry.{Entry}
-use Rattle.tk_frames.specs.declared.entry.Entry.TheVariants.{Write, Mark}
-use Rattle.tk_frames.specs.Order.{Record, record_at, records}
-use Rattle.tk_frames.specs.Ranges.{IsEntry, IsWrite}
 use Rattle.tk_frames.specs.InOrder.{mark_count, HasNumber, number_after}
 use Rattle.tk_frames.specs.InOrder.{IsNextAt, IsOrderFrom, IsOrder, IsNext}
 use Rattle.tk_frames.proofs.MarkCounts.{due-next}
@@ -57,45 +52,7 @@ from-front shape place due (p ∷ E) F order =
 pub order-front : (shape : Shape) (E F : List Placed) → IsOrder shape (E ++ F) → IsOrder shape E
 order-front shape E F order = from-front shape 1 1 E F order
 
-from-take : (shape : Shape) (place due n : ℕ) (E : List Placed) →
-    IsOrderFrom shape place due E → IsOrderFrom shape place due (take n E)
-from-take shape place due zero [] order = tt
-from-take shape place due zero (p ∷ E) order = tt
-from-take shape place due (suc n) [] order = tt
-from-take shape place due (suc n) (p ∷ E) order =
-    (order.0, from-take shape (place + 1) (number_after due p.entry) n E order.1)
-
-pub order-take : (shape : Shape) (n : ℕ) (E : List Placed) →
-    IsOrder shape E → IsOrder shape (take n E)
-order-take shape n E order = from-take shape 1 1 n E order
-
 -- ---- what counts on after
-
-from-append : (shape : Shape) (place due : ℕ) (E F : List Placed) →
-    IsOrderFrom shape place due E →
-    IsOrderFrom shape (place + length E) (due + mark_count E) F →
-    IsOrderFrom shape place due (E ++ F)
-from-append shape place due [] F order later =
-    let here : place + 0 ≡ place = omega arith in
-    let none : due + 0 ≡ due = omega arith in
-    subst (λ n. IsOrderFrom shape n due F) here
-    (subst (λ k. IsOrderFrom shape (place + 0) k F) none later)
-from-append shape place due (p ∷ E) F order later =
-    let on : place + suc (length E) ≡ place + 1 + length E = omega arith in (
-      order.0,
-      from-append shape (place + 1) (number_after due p.entry) E F order.1
-          (subst (λ n. IsOrderFrom shape n (number_after due p.entry + mark_count E) F) on
-          (subst (λ k. IsOrderFrom shape (place + suc (length E)) k F) (sym (due-next due p E)) later)),
-    )
-
-pub order-append : (shape : Shape) (E F : List Placed) → IsOrder shape E →
-    IsOrderFrom shape (length E + 1) (mark_count E + 1) F → IsOrder shape (E ++ F)
-order-append shape E F order later =
-    let on : length E + 1 ≡ 1 + length E = omega arith in
-    let due : mark_count E + 1 ≡ 1 + mark_count E = omega arith in
-    from-append shape 1 1 E F order
-    (subst (λ n. IsOrderFrom shape n (1 + mark_count E) F) on
-    (subst (λ k. IsOrderFrom shape (length E + 1) k F) due later))
 
 from-rest : (shape : Shape) (place due : ℕ) (E F : List Placed) →
     IsOrderFrom shape place due (E ++ F) →
@@ -142,21 +99,3 @@ order-entry shape E i d order low =
     (slice_index_or E i d) (omega arith) (omega arith) (from-entry shape 1 1 E i d order low)
 
 -- ---- each write
-
-in_range-entry : (shape : Shape) (at : ℕ) (x : Entry) (R : List Record) → IsEntry shape x →
-    AllByRecursion (λ (r : Record). IsWrite shape r.write) R →
-    AllByRecursion (λ (r : Record). IsWrite shape r.write) (cons_option (record_at at x) R)
-in_range-entry shape at (Write w) R here later = (here, later)
-in_range-entry shape at (Mark e) R here later = later
-
-from-records : (shape : Shape) (place due : ℕ) (E : List Placed) →
-    IsOrderFrom shape place due E →
-    AllByRecursion (λ (r : Record). IsWrite shape r.write) (records E)
-from-records shape place due [] order = tt
-from-records shape place due (p ∷ E) order =
-    in_range-entry shape p.position p.entry (records E) (order.0).in_range.entry
-    (from-records shape (place + 1) (number_after due p.entry) E order.1)
-
-pub order-records : (shape : Shape) (E : List Placed) → IsOrder shape E →
-    AllByRecursion (λ (r : Record). IsWrite shape r.write) (records E)
-order-records shape E order = from-records shape 1 1 E order

@@ -3,7 +3,8 @@ use Rattle.std.proofs.Common.{◌≡◌, ℕ, zero, suc, ◌⊎◌, inl, inr, re
 use Rattle.std.proofs.Common.{List, [], ◌∷◌, ◌++◌, length, Bool, true, false, cond, ◌<◌, map}
 use Rattle.std.proofs.Common.{filter}
 use Rattle.std.specs.Prelude.{Option, Some, None, slice_index_or, flat_map}
-use Rattle.std.specs.List.{AllByRecursion, All, Contains, filter_map, cons_option}
+use Rattle.std.proofs.lemmas.Bool.{and_parts}
+use Rattle.std.specs.List.{list_all, AllByRecursion, All, Contains, filter_map, cons_option}
 use Rattle.std.proofs.lemmas.List.Elements.{All-contains}
 use Rattle.tk_frames.specs.Lists.{IsIn, IsFrom, IsAt}
 
@@ -142,3 +143,10 @@ from_flat_map f (x ∷ xs) d y h =
 pub nothing_in : {X : Type 0} (xs : List X) → ((x : X) → IsIn xs x → ⊥) → xs ≡ []
 nothing_in [] h = refl
 nothing_in (x ∷ xs) h = absurd (h x (inl refl))
+
+-- where all pass, what is in the list does
+pub all-at : {X : Type 0} (test : X → Bool) (xs : List X) (x : X) → list_all test xs ≡ true → IsIn xs x →
+    test x ≡ true
+all-at test [] x all there = absurd there
+all-at test (y ∷ xs) x all (inl e) = subst (λ z. test z ≡ true) e (and_parts (test y) (list_all test xs) all).0
+all-at test (y ∷ xs) x all (inr there) = all-at test xs x (and_parts (test y) (list_all test xs) all).1 there

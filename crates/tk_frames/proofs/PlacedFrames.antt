@@ -1,11 +1,13 @@
 -- Entries with their positions: what is read is spelled so and in range where no check fails, and what is in range is read from its spelling.
-use Rattle.std.proofs.Common.{◌≡◌, ℕ, ◌+◌, ◌*◌, ◌≤◌, true, false, ◌||◌, List, [], ◌∷◌, ◌++◌, length, drop, get_or, Some, None, refl, sym, ap, subst, ◌∙◌, arith, eqb, cond, leb}
-use Rattle.std.proofs.lemmas.Bool.{leb-true, le-leb, and_parts, and_from, cond-false}
+use Rattle.std.proofs.Common.{◌≡◌, ℕ, ◌+◌, ◌*◌, true, false, ◌||◌, List, [], ◌∷◌, ◌++◌, length, drop, get_or, Some, None, refl, sym, ap, subst, ◌∙◌, arith, eqb, cond, leb}
+use Rattle.std.proofs.lemmas.Bool.{le-leb, cond-false}
 use Rattle.std.proofs.lemmas.List.{length-drop, nil_from_length}
 use Rattle.std.proofs.lemmas.Option.{none-some}
 use Rattle.std.proofs.lemmas.Nat.{from_be_bytes-to_be_bytes_4, from_be_bytes-to_be_bytes_8}
 use Rattle.tk_shape.specs.declared.shape.Shape.{Shape}
 use Rattle.tk_shape.specs.Lengths.{turn_count, record_len}
+use Rattle.tk_shape.specs.Limits.{is_between}
+use Rattle.tk_shape.proofs.Offers.{between-parts, between-from}
 use Rattle.tk_frames.specs.declared.write_frame.WriteFrame.{WriteFrame}
 use Rattle.tk_frames.specs.declared.entry.Placed.{Placed}
 use Rattle.tk_frames.specs.declared.entry.Entry.{Entry}
@@ -16,18 +18,12 @@ use Rattle.tk_frames.specs.declared.fault.FrameError.TheVariants as fault
 use Rattle.tk_frames.specs.Spelling.{be32, be64, write_fields, placed_frame, entry_frame}
 use Rattle.tk_frames.specs.Ranges.{IsWrite, IsEntry, IsPlaced}
 use Rattle.tk_frames.specs.Fields.{number_at, long_at, write_in, placed_mark_in, placed_record_in, placed_in}
-use Rattle.tk_frames.specs.Faults.{Check, first_fault, check_on, is_between, position_check, write_field_checks, mark_checks, record_checks, placed_checks}
+use Rattle.tk_frames.specs.Faults.{Check, first_fault, check_on, position_check, write_field_checks, mark_checks, record_checks, placed_checks}
 use Rattle.tk_frames.proofs.BigEndian.{IsBytes, IsBytes-drop, number-join, long-join}
 use Rattle.tk_frames.proofs.Bounds.{last_position_small}
 use Rattle.tk_frames.proofs.Checking.{none-first, none-both}
 use Rattle.tk_frames.proofs.Heads.{head-join, head_stands, head_passes}
 use Rattle.tk_frames.proofs.WriteFields.{length-write_fields, fields-join, fields-again, fields_in_range, fields_pass}
-
-between : (low high n : ℕ) → is_between low high n ≡ true → (low ≤ n) × (n ≤ high)
-between low high n e = let p = and_parts (leb low n) (leb n high) e in (leb-true _ _ p.0, leb-true _ _ p.1)
-
-between_from : (low high n : ℕ) → low ≤ n → n ≤ high → is_between low high n ≡ true
-between_from low high n l h = and_from (leb low n) (leb n high) (le-leb _ _ l) (le-leb _ _ h)
 
 abbrev mark_of : ℕ → ℕ → Placed
 mark_of position e = record { position = position; entry = Mark e }
@@ -49,8 +45,8 @@ mark_passes shape position e fits =
     let again : IsPlaced shape (placed_mark_in bytes) = subst (IsPlaced shape) (sym (mark-again shape position e fits)) fits in
     let on_epoch = check_on name.Epoch (number_at 10 bytes) _ in
     head_passes 14 4 bytes (position_check shape bytes ∷ on_epoch ∷ []) (record { long = refl; first = refl; second = refl })
-    (none-both (position_check shape bytes) (on_epoch ∷ []) (between_from _ _ _ again.position_low again.position_high)
-    (none-both on_epoch [] (between_from _ _ _ again.entry.0 again.entry.1) refl))
+    (none-both (position_check shape bytes) (on_epoch ∷ []) (between-from _ _ _ again.position_low again.position_high)
+    (none-both on_epoch [] (between-from _ _ _ again.entry.0 again.entry.1) refl))
 
 pub mark_found : (shape : Shape) (bytes : List ℕ) → IsBytes bytes → first_fault (mark_checks shape bytes) ≡ None →
     IsPlaced shape (placed_mark_in bytes) × (bytes ≡ placed_frame (placed_mark_in bytes))
@@ -60,7 +56,7 @@ mark_found shape bytes fits e =
     let long = head.0.long in
     let position = none-first (position_check shape bytes) (on_epoch ∷ []) head.1 in
     let epoch = none-first on_epoch [] position.1 in
-    let placed = between 1 (shape.clients * turn_count shape + shape.phases) (long_at 2 bytes) position.0 in
+    let placed = between-parts 1 (shape.clients * turn_count shape + shape.phases) (long_at 2 bytes) position.0 in
     let at2 = long-join 2 10 bytes fits refl (omega arith) in
     let at10 = number-join 10 14 bytes fits refl (omega arith) in
     let nothing : drop 14 bytes ≡ [] = nil_from_length _ (omega (arith, length-drop 14 bytes)) in
@@ -68,7 +64,7 @@ mark_found shape bytes fits e =
     ap (λ rest. be64 (long_at 2 bytes) ++ (be32 (number_at 10 bytes) ++ rest)) (sym nothing)
     ∙ ap (λ rest. be64 (long_at 2 bytes) ++ rest) at10
     ∙ at2 in (
-      record { position_low = placed.0; position_high = placed.1; entry = between _ _ _ epoch.0 },
+      record { position_low = placed.0; position_high = placed.1; entry = between-parts _ _ _ epoch.0 },
       head-join 4 bytes (omega arith) head.0.first head.0.second ∙ ap (λ xs. 4 ∷ 1 ∷ xs) (sym spelled),
     )
 
@@ -91,7 +87,7 @@ record_passes shape position w fits =
     let again : IsPlaced shape (placed_record_in shape bytes) = subst (IsPlaced shape) (sym (record-again shape position w fits)) fits in
     head_passes (record_len shape) 5 bytes (position_check shape bytes ∷ write_field_checks shape (write_fields w))
     (record { long = length-record_frame shape position w fits.entry; first = refl; second = refl })
-    (none-both (position_check shape bytes) (write_field_checks shape (write_fields w)) (between_from _ _ _ again.position_low again.position_high)
+    (none-both (position_check shape bytes) (write_field_checks shape (write_fields w)) (between-from _ _ _ again.position_low again.position_high)
     (fields_pass shape (write_fields w) again.entry))
 
 pub record_found : (shape : Shape) (bytes : List ℕ) → IsBytes bytes → first_fault (record_checks shape bytes) ≡ None →
@@ -101,7 +97,7 @@ record_found shape bytes fits e =
     let head = head_stands (record_len shape) 5 bytes (position_check shape bytes ∷ write_field_checks shape fields) e in
     let long = head.0.long in
     let position = none-first (position_check shape bytes) (write_field_checks shape fields) head.1 in
-    let placed = between 1 (shape.clients * turn_count shape + shape.phases) (long_at 2 bytes) position.0 in
+    let placed = between-parts 1 (shape.clients * turn_count shape + shape.phases) (long_at 2 bytes) position.0 in
     let at2 = long-join 2 10 bytes fits refl (omega arith) in
     let write = fields-join shape fields (IsBytes-drop 10 bytes fits) (omega (arith, length-drop 10 bytes)) in
     let spelled : be64 (long_at 2 bytes) ++ write_fields (write_in shape fields) ≡ drop 2 bytes =

@@ -1,7 +1,8 @@
 -- What a decoder checks, in its order, and the first check that bytes fail.
-use Rattle.std.specs.Prelude.{◌≡◌, ℕ, ◌+◌, ◌*◌, nat_lt, nat_le, ◌==◌, ◌||◌, ◌&&◌, Bool, List, [], ◌∷◌, ◌++◌, length, map, drop, slice_index, Option, Some, None, Result, MatchResult, if◌then◌else◌, true, false}
+use Rattle.std.specs.Prelude.{◌≡◌, ℕ, ◌+◌, ◌*◌, nat_lt, nat_le, ◌==◌, ◌||◌, Bool, List, [], ◌∷◌, ◌++◌, length, map, drop, slice_index, Option, Some, None, Result, MatchResult, if◌then◌else◌, true, false}
 use Rattle.tk_shape.specs.declared.shape.Shape.{Shape}
 use Rattle.tk_shape.specs.Lengths.{turn_count, write_len, record_len, read_len, seed_read_len, reply_len}
+use Rattle.tk_shape.specs.Limits.{is_between}
 use Rattle.tk_frames.specs.declared.fault.Name.{Name}
 use Rattle.tk_frames.specs.declared.fault.Name.TheVariants as name
 use Rattle.tk_frames.specs.declared.fault.FrameError.{FrameError}
@@ -20,9 +21,6 @@ first_fault (c ∷ cs) = if c.passed then first_fault cs else Some c.fault
 
 abbrev pub check_on : Name → ℕ → Bool → Check
 check_on field n ok = record { fault = fault.Field field n; passed = ok }
-
-abbrev pub is_between : ℕ → ℕ → ℕ → Bool
-is_between low high n = nat_le low n && nat_le n high
 
 -- ---- what stands before the fields
 
