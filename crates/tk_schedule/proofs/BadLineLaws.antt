@@ -1,5 +1,5 @@
 -- What the first bad line of lines is, and what lines without one tell.
-use Rattle.std.proofs.Common.{◌≡◌, ℕ, ◌+◌, List, [], ◌∷◌, ◌++◌, Bool, true, false, refl, sym, ap, ◌∙◌, append-nil, Option, Some, None, flat_map}
+use Rattle.std.proofs.Common.{◌≡◌, ℕ, ◌+◌, List, [], ◌∷◌, ◌++◌, true, sym, ap, ◌∙◌, append-nil, Option, Some, None, flat_map}
 use Rattle.std.specs.List.{range_with_len}
 use Rattle.tk_shape.specs.declared.shape.Shape.{Shape}
 use Rattle.tk_shape.specs.Lengths.{turn_count}
@@ -9,6 +9,7 @@ use Rattle.tk_schedule.specs.declared.history.TurnOrder.{TurnOrder}
 use Rattle.tk_schedule.specs.declared.error.HistoryError.{HistoryError}
 use Rattle.tk_schedule.specs.declared.error.HistoryError.TheVariants.{Line, Memory}
 use Rattle.std.specs.Prelude.{Err}
+use Rattle.std.proofs.lemmas.Bool.{false_from_ne_true}
 use Rattle.tk_schedule.specs.Raw.{ends_once, kinds}
 use Rattle.tk_schedule.specs.Schedule.{IsLegal}
 use Rattle.tk_schedule.specs.Due.{Due, turn_due, first_bad, bad_line}
@@ -108,10 +109,6 @@ bad_first shape raw at e =
           cc (d, u);
     }
 
-not_true : (b : Bool) → (b ≡ true → ⊥) → b ≡ false
-not_true true h = absurd (h refl)
-not_true false h = refl
-
 first_is : (shape : Shape) (raw : List RawLine) (at : ℕ) → ends_once raw ≡ true →
     IsFirstBad shape raw at → bad_line shape raw ≡ Some at
 unfolding bad_line
@@ -121,7 +118,7 @@ first_is shape raw at ends f =
     ∙ stops_bad shape (flat_map (turn_due shape) (range_with_len 0 (turn_count shape))) f.before
     f.bad f.behind
     (ap ends_once (sym f.whole) ∙ ends) (begins_due shape f.before f.due)
-    (not_true (are_due shape due (kinds (f.before ++ f.bad ∷ [])))
+    (false_from_ne_true (are_due shape due (kinds (f.before ++ f.bad ∷ [])))
     (λ e. f.undue (due_begins shape (f.before ++ f.bad ∷ []) e)))
     ∙ ap Some f.number
 

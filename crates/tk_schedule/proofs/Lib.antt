@@ -4,4 +4,5 @@ pub mod LineLaws
 pub mod DueLaws
 pub mod ToldLaws
 pub mod BadLineLaws
+pub mod NextPhase
 pub mod Offers

@@ -6,3 +6,7 @@ pub use Rattle.tk_schedule.proofs.ScheduleLaws.{serial-IsLegal, turn_within}
 pub use Rattle.tk_schedule.proofs.TurnLaws.{none_made, epochs_of_open}
 -- the lines of a legal history tell its turns
 pub use Rattle.tk_schedule.proofs.ToldLaws.{same_epochs, same_turn}
+-- an end after lines of which none is one
+pub use Rattle.tk_schedule.proofs.DueLaws.{end_behind_told}
+-- in which phase the turn after a turn is
+pub use Rattle.tk_schedule.proofs.NextPhase.{one_if, next_in_phase}

@@ -1,9 +1,9 @@
 -- A turn is legal exactly where its order and its epochs pass their tests, and the epochs of one
 -- that doesn't close are all the newest before it.
-use Rattle.std.proofs.Common.{◌≡◌, ℕ, ◌+◌, ◌/◌, ◌%◌, ◌<◌, ◌≤◌, List, length, replicate, Bool, true, false, sym, subst, ◌∙◌, arith, zero-add, count_by, get_or, eqb-true, eq-eqb, tests}
+use Rattle.std.proofs.Common.{◌≡◌, ℕ, ◌+◌, ◌/◌, ◌%◌, ◌<◌, ◌≤◌, List, length, replicate, Bool, true, false, sym, subst, ◌∙◌, arith, zero-add, count_by, get_or, eqb-true, eq-eqb}
 use Rattle.std.specs.Prelude.{◌==◌, nat_le, ◌&&◌}
 use Rattle.std.specs.List.{list_all, range_with_len}
-use Rattle.std.proofs.lemmas.Bool.{and_parts, and_from, eqb-false}
+use Rattle.std.proofs.lemmas.Bool.{and_parts, and_from, eqb-false, leb-true, le-leb}
 use Rattle.std.proofs.lemmas.Nat.{le-div, div-add-mod'}
 use Rattle.std.proofs.lemmas.List.{ext_get_or, length-replicate, get_or-replicate}
 use Rattle.std.proofs.lemmas.List.Elements.{All-get_or, All-from_get_or}
@@ -35,12 +35,6 @@ from_below p n h = from_each p (range_with_len 0 n) (λ i l.
     let low : i < n = omega (arith, length-range_with_len 0 n) in
     subst (λ k. p k ≡ true) (sym (get_or-range_with_len 0 n i 0 low ∙ zero-add i)) (h i low))
 
-is_le : (a b : ℕ) → nat_le a b ≡ true → a ≤ b
-is_le a b e = grind (arith, tests)
-
-le_is : (a b : ℕ) → a ≤ b → nat_le a b ≡ true
-le_is a b h = grind (arith, tests)
-
 pub legal_turn : (shape : Shape) (g : ℕ) (turn : TurnOrder) → is_order shape g turn.order ≡ true
     → are_epochs shape g turn.epochs ≡ true → IsTurn shape g turn
 legal_turn shape g turn ordered read =
@@ -56,8 +50,8 @@ legal_turn shape g turn ordered read =
           two.1 c l);
       marks = eqb-true _ _ three.1;
       readers = counted;
-      newest_before = λ c l. is_le _ _ (within c l).0;
-      none_ahead = λ c l. is_le _ _ (within c l).1;
+      newest_before = λ c l. leb-true _ _ (within c l).0;
+      none_ahead = λ c l. leb-true _ _ (within c l).1;
     }
 
 pub legal_order : (shape : Shape) (g : ℕ) (turn : TurnOrder) → IsTurn shape g turn →
@@ -75,7 +69,7 @@ legal_epochs shape g turn legal =
     (from_each (λ e. nat_le (phases_over shape g) e && nat_le e (phases_over shape (g + 1)))
     turn.epochs (λ i l.
     let low : i < shape.clients = omega (arith, legal.readers) in
-    and_from _ _ (le_is _ _ (legal.newest_before i low)) (le_is _ _ (legal.none_ahead i low))))
+    and_from _ _ (le-leb _ _ (legal.newest_before i low)) (le-leb _ _ (legal.none_ahead i low))))
 
 pub newest_are_epochs : (shape : Shape) (g : ℕ) →
     are_epochs shape g (replicate shape.clients (phases_over shape g)) ≡ true
