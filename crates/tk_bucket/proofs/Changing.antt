@@ -7,7 +7,7 @@ use Rattle.std.proofs.lemmas.Nat.{div_below, div-add-mod'}
 use Rattle.std.proofs.lemmas.List.{length-map, map-set, get_or-map}
 use Rattle.std.proofs.lemmas.List.Sums.{sum_by-set}
 use Rattle.tk_kernel.specs.Pieces.{pieces}
-use Rattle.tk_kernel.proofs.Offers.{length-pieces}
+use Rattle.tk_kernel.proofs.Offers.{length-pieces, AllSized-set}
 use Rattle.tk_pool.specs.Pool.{Spares}
 use Rattle.tk_bucket.specs.declared.sizes.Sizes.{Sizes}
 use Rattle.tk_bucket.specs.declared.held.Held.{Held}
@@ -18,7 +18,7 @@ use Rattle.tk_bucket.specs.Paging.{IsPerPage, Paging, shared_count, one_if}
 use Rattle.tk_bucket.specs.Paging.{with_owned, with_changed}
 use Rattle.tk_bucket.specs.Holding.{IsHeld, held_bytes, is_shared, page_len}
 use Rattle.tk_bucket.specs.Holding.{table_in_pages, paging_of}
-use Rattle.tk_bucket.proofs.Rows.{AllSized-get, AllSized-set, get_row, set_row}
+use Rattle.tk_bucket.proofs.Rows.{AllSized-get, get_row, set_row}
 
 -- each page's table has as many buckets
 pub page_rows : (page : Sizes) (x : List ℕ) → length x ≡ page_len page

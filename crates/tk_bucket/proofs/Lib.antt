@@ -11,4 +11,5 @@ pub mod PerPage
 pub mod BecomeShared
 pub mod Filled
 pub mod Opened
+pub mod InSizes
 pub mod Offers

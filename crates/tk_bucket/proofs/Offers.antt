@@ -2,3 +2,5 @@
 
 -- A bucket of the table that bytes stand for, and a slot of it.
 pub use Rattle.tk_bucket.proofs.Tables.{bucket_at-table_in, slot_at-table_in}
+-- Sizes that pass a test are those of a table.
+pub use Rattle.tk_bucket.proofs.InSizes.{in_sizes}

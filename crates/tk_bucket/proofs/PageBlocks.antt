@@ -12,9 +12,9 @@ use Rattle.tk_bucket.specs.Sizes.{slot_len, bucket_len}
 use Rattle.tk_bucket.specs.Table.{Slot}
 use Rattle.tk_bucket.specs.Bytes.{slot_bytes, blocks_of}
 use Rattle.tk_frames.specs.Slots.{slot_from}
+use Rattle.tk_frames.proofs.Offers.{IsBytes}
 use Rattle.tk_bucket.specs.Packing.{table_of, table_in, bucket_in}
 use Rattle.tk_bucket.specs.Holding.{page_len, table_in_pages}
-use Rattle.tk_bucket.proofs.OneSlot.{IsBytes}
 use Rattle.tk_bucket.proofs.Tables.{blocks_of-table_in, slot_ends}
 use Rattle.tk_bucket.proofs.Rest.{rest_is_run}
 use Rattle.tk_bucket.proofs.Rows.{length_rows, run_in_row, AllSized-get, AllSized-rows, map-flat_map}

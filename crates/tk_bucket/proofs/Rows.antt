@@ -5,6 +5,7 @@ use Rattle.std.proofs.Math.ListN.{get_or-append}
 use Rattle.std.proofs.Math.Seq.{drop-append_seam}
 use Rattle.std.proofs.lemmas.List.{get_or-append_right, set-append_left, set-append_right, map-append, drop-drop, drop-append-le, take-append-le, length-drop}
 use Rattle.tk_kernel.specs.Pieces.{AllSized}
+use Rattle.tk_kernel.proofs.Offers.{AllSized-append}
 use Rattle.tk_answer.specs.Runs.{IsRun}
 
 -- ---- lists of one length
@@ -13,15 +14,6 @@ pub AllSized-get : (size : ℕ) (vs : List (List ℕ)) (i : ℕ) (d : List ℕ) 
 AllSized-get size [] i d h lt = absurd (omega arith)
 AllSized-get size (v ∷ vs) zero d h lt = h.0
 AllSized-get size (v ∷ vs) (suc i) d h lt = AllSized-get size vs i d h.1 (omega arith)
-
-pub AllSized-set : (size : ℕ) (vs : List (List ℕ)) (i : ℕ) (v : List ℕ) → AllSized size vs → length v ≡ size → AllSized size (set vs i v)
-AllSized-set size [] i v h e = tt
-AllSized-set size (x ∷ xs) zero v h e = (e, h.1)
-AllSized-set size (x ∷ xs) (suc i) v h e = (h.0, AllSized-set size xs i v h.1 e)
-
-pub AllSized-append : (size : ℕ) (vs ws : List (List ℕ)) → AllSized size vs → AllSized size ws → AllSized size (vs ++ ws)
-AllSized-append size [] ws h k = k
-AllSized-append size (v ∷ vs) ws h k = (h.0, AllSized-append size vs ws h.1 k)
 
 -- ---- rows
 

@@ -10,9 +10,10 @@ use Rattle.tk_bucket.specs.Sizes.{IsSizes, slot_len, bucket_len}
 use Rattle.tk_bucket.specs.Table.{empty_slot, empty_table, bucket_at, slot_at, with_slot, IsSized}
 use Rattle.tk_bucket.specs.Bytes.{slot_bytes, blocks_of}
 use Rattle.tk_frames.specs.Slots.{slot_from}
+use Rattle.tk_frames.proofs.Offers.{IsBytes, IsBytes-drop, IsBytes-take}
 use Rattle.tk_bucket.specs.Packing.{bucket_in, table_in}
 use Rattle.tk_bucket.proofs.Pages.{take-drop-take, put_mid-within, length-put_mid, pieces-put_mid, pieces-replicate}
-use Rattle.tk_bucket.proofs.OneSlot.{IsBytes, IsBytes-take, IsBytes-drop, slot_bytes-slot_from, slot_from-zeros}
+use Rattle.tk_bucket.proofs.OneSlot.{slot_bytes-slot_from, slot_from-zeros}
 
 -- ---- places
 

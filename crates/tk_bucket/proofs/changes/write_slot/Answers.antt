@@ -1,4 +1,4 @@
-use Rattle.std.proofs.Common.{◌%◌, sym, ap, refl, arith, ◌∙◌}
+use Rattle.std.proofs.Common.{◌%◌, sym, ap, refl, arith, rules, ◌∙◌}
 use Rattle.tk_bucket.specs.Table.{with_slot}
 use Rattle.tk_bucket.specs.Shown.{shown}
 use Rattle.tk_bucket.specs.Packing.{table_of}
@@ -18,10 +18,12 @@ index_mut-held-requires c =
     (b % page.buckets) lies in
     omega (arith, found, c.args.pages.now.ok.0)
 
-pub write_in-requires-clause-whole : goal.write_in-requires-clause-whole
-write_in-requires-clause-whole c =
+pub write_in-requires : goal.write_in-requires
+write_in-requires c =
     let page = c.args.cut.page in
     let items = c.args.pages.now.items in
+    let pool = c.args.pool.now in
+    let is = c.requires.held in
     let b = c.args.at.bucket in
     let i = c.page_of.result in
     let j = c.place_in.result.bucket in
@@ -32,63 +34,25 @@ write_in-requires-clause-whole c =
       in_rest = c.place_in.ensures.bucket;
     } in
     let h = c.index_mut-held.result.now in
-    page_whole page items c.args.pool.now c.requires.held b i j lies h c.index_mut-held.ensures.value
-
-pub write_in-requires-clause-len : goal.write_in-requires-clause-len
-write_in-requires-clause-len c =
-    let page = c.args.cut.page in
-    let items = c.args.pages.now.items in
-    let b = c.args.at.bucket in
-    let i = c.page_of.result in
-    let j = c.place_in.result.bucket in
-    let lies : Lies page items b i j =
+    let there = c.index_mut-held.ensures.value in
+    let whole = page_whole page items pool is b i j lies h there in
     record {
-      below = c.requires.bucket;
-      in_page = c.page_of.ensures;
-      in_rest = c.place_in.ensures.bucket;
-    } in
-    let h = c.index_mut-held.result.now in
-    page_whole page items c.args.pool.now c.requires.held b i j lies h c.index_mut-held.ensures.value
-    ∙ sym c.requires.held.page_len
-
-pub write_in-requires-clause-spare : goal.write_in-requires-clause-spare
-write_in-requires-clause-spare c =
-    let page = c.args.cut.page in
-    let items = c.args.pages.now.items in
-    let b = c.args.at.bucket in
-    let i = c.page_of.result in
-    let j = c.place_in.result.bucket in
-    let lies : Lies page items b i j =
-    record {
-      below = c.requires.bucket;
-      in_page = c.page_of.ensures;
-      in_rest = c.place_in.ensures.bucket;
-    } in
-    let h = c.index_mut-held.result.now in
-    page_spare page items c.args.pool.now c.requires.held b i j lies h c.index_mut-held.ensures.value
-
-pub write_in-requires-clause-place : goal.write_in-requires-clause-place
-write_in-requires-clause-place c =
-    let page = c.args.cut.page in
-    let items = c.args.pages.now.items in
-    let b = c.args.at.bucket in
-    let i = c.page_of.result in
-    let j = c.place_in.result.bucket in
-    let lies : Lies page items b i j =
-    record {
-      below = c.requires.bucket;
-      in_page = c.page_of.ensures;
-      in_rest = c.place_in.ensures.bucket;
-    } in
-    record {
-      bucket = bucket_below page items c.args.pool.now c.requires.held b i j lies;
-      slot = rw c.place_in.ensures.slot c.requires.slot;
+      whole = whole;
+      len = whole ∙ sym is.page_len;
+      spare = page_spare page items pool is b i j lies h there;
+      place = record {
+        bucket = bucket_below page items pool is b i j lies;
+        slot = rw c.place_in.ensures.slot c.requires.slot;
+      };
+      block = search rules;
     }
 
-pub returns-clause-held : goal.returns-clause-held
-returns-clause-held c =
+pub returns : goal.returns
+returns c =
     let page = c.args.cut.page in
     let items = c.args.pages.now.items in
+    let pool = c.args.pool.now in
+    let is = c.requires.held in
     let b = c.args.at.bucket in
     let i = c.page_of.result in
     let j = c.place_in.result.bucket in
@@ -99,51 +63,17 @@ returns-clause-held c =
       in_rest = c.place_in.ensures.bucket;
     } in
     let h = c.index_mut-held.result.now in
+    let there = c.index_mut-held.ensures.value in
+    let s = c.args.at.slot in
     let x = shown c.args.slot in
+    let held = c.write_in.new.held in
+    let after = c.write_in.new.pool in
     let e = c.write_in.ensures in
     let written = e.table
     ∙ ap (λ s. with_slot (table_of page (held_bytes h)) (j, s) x) c.place_in.ensures.slot in
-    after_held page items c.args.pool.now c.requires.held b i j lies h c.index_mut-held.ensures.value
-    c.args.at.slot x c.write_in.new.held c.write_in.new.pool e.whole written e.owned e.len e.spare
-
-pub returns-clause-table : goal.returns-clause-table
-returns-clause-table c =
-    let page = c.args.cut.page in
-    let items = c.args.pages.now.items in
-    let b = c.args.at.bucket in
-    let i = c.page_of.result in
-    let j = c.place_in.result.bucket in
-    let lies : Lies page items b i j =
     record {
-      below = c.requires.bucket;
-      in_page = c.page_of.ensures;
-      in_rest = c.place_in.ensures.bucket;
-    } in
-    let h = c.index_mut-held.result.now in
-    let x = shown c.args.slot in
-    let e = c.write_in.ensures in
-    let written = e.table
-    ∙ ap (λ s. with_slot (table_of page (held_bytes h)) (j, s) x) c.place_in.ensures.slot in
-    after_table page items c.args.pool.now c.requires.held b i j lies h c.index_mut-held.ensures.value
-    c.args.at.slot x c.write_in.new.held c.write_in.new.pool e.whole written e.owned e.len e.spare
-
-pub returns-clause-paging : goal.returns-clause-paging
-returns-clause-paging c =
-    let page = c.args.cut.page in
-    let items = c.args.pages.now.items in
-    let b = c.args.at.bucket in
-    let i = c.page_of.result in
-    let j = c.place_in.result.bucket in
-    let lies : Lies page items b i j =
-    record {
-      below = c.requires.bucket;
-      in_page = c.page_of.ensures;
-      in_rest = c.place_in.ensures.bucket;
-    } in
-    let h = c.index_mut-held.result.now in
-    let x = shown c.args.slot in
-    let e = c.write_in.ensures in
-    let written = e.table
-    ∙ ap (λ s. with_slot (table_of page (held_bytes h)) (j, s) x) c.place_in.ensures.slot in
-    after_paging page items c.args.pool.now c.requires.held b i j lies h c.index_mut-held.ensures.value
-    c.args.at.slot x c.write_in.new.held c.write_in.new.pool e.whole written e.owned e.len e.spare
+      held = after_held page items pool is b i j lies h there s x held after e.whole written e.owned e.len e.spare;
+      count = search rules;
+      table = after_table page items pool is b i j lies h there s x held after e.whole written e.owned e.len e.spare;
+      paging = after_paging page items pool is b i j lies h there s x held after e.whole written e.owned e.len e.spare;
+    }

@@ -24,42 +24,31 @@ index-held-requires c =
     (b % page.buckets) lies in
     omega (arith, found, inside.pages.ok.0)
 
-pub slot_at-requires-clause-whole : goal.slot_at-requires-clause-whole
-slot_at-requires-clause-whole c =
+pub slot_at-requires : goal.slot_at-requires
+slot_at-requires c =
     let inside = c.self.inside in
     let page = inside.cut.page in
+    let items = inside.pages.items in
     let b = c.args.bucket in
-    let all : length inside.pages.items * page.buckets ≡ c.args.self.now.contents.buckets =
-    ap (λ (v : Stored). v.contents.buckets) c.self.view_is in
-    let lies : Lies page inside.pages.items b c.page_of.result c.place_in-place.result.bucket =
-    record {
-      below = omega (arith, all, c.requires.bucket_in);
-      in_page = c.page_of.ensures;
-      in_rest = c.place_in-place.ensures.bucket;
-    } in
-    ap length c.bytes_of.ensures
-    ∙ page_whole page inside.pages.items inside.pool c.self.invariant b c.page_of.result
-    c.place_in-place.result.bucket lies c.index-held.result.now c.index-held.ensures
-
-pub slot_at-requires-clause-place : goal.slot_at-requires-clause-place
-slot_at-requires-clause-place c =
-    let inside = c.self.inside in
-    let page = inside.cut.page in
-    let b = c.args.bucket in
-    let all : length inside.pages.items * page.buckets ≡ c.args.self.now.contents.buckets =
+    let i = c.page_of.result in
+    let j = c.place_in-place.result.bucket in
+    let all : length items * page.buckets ≡ c.args.self.now.contents.buckets =
     ap (λ (v : Stored). v.contents.buckets) c.self.view_is in
     let deep : page.depth ≡ c.args.self.now.contents.depth =
     ap (λ (v : Stored). v.contents.depth) c.self.view_is in
-    let lies : Lies page inside.pages.items b c.page_of.result c.place_in-place.result.bucket =
+    let lies : Lies page items b i j =
     record {
       below = omega (arith, all, c.requires.bucket_in);
       in_page = c.page_of.ensures;
       in_rest = c.place_in-place.ensures.bucket;
     } in
     record {
-      bucket = bucket_below page inside.pages.items inside.pool c.self.invariant b c.page_of.result
-          c.place_in-place.result.bucket lies;
-      slot = omega (arith, c.place_in-place.ensures.slot, c.requires.slot_in, deep);
+      whole = ap length c.bytes_of.ensures
+          ∙ page_whole page items inside.pool c.self.invariant b i j lies c.index-held.result.now c.index-held.ensures;
+      place = record {
+        bucket = bucket_below page items inside.pool c.self.invariant b i j lies;
+        slot = omega (arith, c.place_in-place.ensures.slot, c.requires.slot_in, deep);
+      };
     }
 
 pub returns : goal.returns
