@@ -24,6 +24,7 @@ use Rattle.tk_table.proofs.Ascending.{ascend-above, retained-ascend}
 use Rattle.tk_table.proofs.LaidOut.{layout-laid_out}
 use Rattle.tk_table.proofs.Earliest.{IsLeast, earliest-least, IsFirst, first_some-none}
 use Rattle.tk_table.proofs.Earliest.{first_some-first}
+use Rattle.tk_lists.proofs.Offers.{option_map-from}
 
 -- ---- what a record's slot gives
 
@@ -59,11 +60,6 @@ accepted-filled pair opens s y h =
     (option_map {U = Accepted} (λ text. (s.position, text)) (opens s.block)) None ≡ Some y →
     z ≡ false)
     [ true ↦ λ h. absurd (cc h) | false ↦ λ _. refl ] h
-
-mapped-some : {X Y : Type 0} (f : X → Y) (o : Option X) (y : Y) → option_map f o ≡ Some y →
-    (x : X) × (o ≡ Some x) × (f x ≡ y)
-mapped-some f None y h = absurd (cc h)
-mapped-some f (Some x) y h = (x, refl, cc h)
 
 -- ---- records and slots
 
@@ -144,7 +140,7 @@ given shape K T pair opens y laid ascend h =
         (text_in pair opens from.origin) ≡ Some y =
         sym (accepted-text pair opens from.origin low) ∙ ap (accepted pair opens) from.gives
         ∙ slot.gives in
-        let text = mapped-some (λ text. (from.origin.position, text))
+        let text = option_map-from (λ text. (from.origin.position, text))
         (text_in pair opens from.origin) y gives in
         record {
           origin = from.origin;

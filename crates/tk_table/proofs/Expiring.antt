@@ -4,8 +4,7 @@ use Rattle.std.proofs.Common.{◌≡◌, ℕ, zero, suc, ◌+◌, ◌-◌, ◌<�
 use Rattle.std.proofs.Common.{◌∙◌, subst, arith, List, [], ◌∷◌, ◌++◌, length, drop, map, Bool, true}
 use Rattle.std.proofs.Common.{false, cond, eqb-true, ◌||◌}
 use Rattle.std.specs.Prelude.{◌==◌}
-use Rattle.std.specs.List.{list_all}
-use Rattle.std.proofs.lemmas.Bool.{and_parts, or_left, ne_eqb}
+use Rattle.std.proofs.lemmas.Bool.{or_left, ne_eqb}
 use Rattle.std.proofs.lemmas.List.{same_lists, get_or_default}
 use Rattle.std.proofs.lemmas.List.{length-map, length-drop, drop-append-le, drop-drop}
 use Rattle.std.proofs.lemmas.List.Folds.{list_any-append}
@@ -17,11 +16,12 @@ use Rattle.tk_table.specs.Table.{has_position, retained, layout, without_expired
 use Rattle.tk_table.specs.Laws.{IsSlotOf, IsLaidOut}
 use Rattle.tk_table.specs.Steps.{cleared, cleared_all}
 use Rattle.tk_frames.specs.Lists.{IsIn}
-use Rattle.tk_frames.proofs.Offers.{all_in}
+use Rattle.tk_frames.proofs.Offers.{all_in, all-at}
 use Rattle.tk_table.proofs.AsWritten.{entry-record}
 use Rattle.tk_table.proofs.Buckets.{bucket-map}
 use Rattle.tk_table.proofs.InWindow.{retained-in_window}
 use Rattle.tk_table.proofs.Windows.{window-push}
+use Rattle.tk_table.proofs.Ascending.{ascend-lower}
 
 -- ---- lists
 
@@ -38,14 +38,6 @@ map-kept f (x ∷ xs) same =
     ap (λ y. y ∷ map f xs) (same x (inl refl))
     ∙ ap (λ ys. x ∷ ys) (map-kept f xs (λ y there. same y (inr there)))
 
-all_true : {X : Type 0} (test : X → Bool) (xs : List X) (x : X) → list_all test xs ≡ true →
-    IsIn xs x → test x ≡ true
-all_true test [] x h there = absurd there
-all_true test (y ∷ xs) x h (inl e) =
-    subst (λ z. test z ≡ true) e (and_parts (test y) (list_all test xs) h).0
-all_true test (y ∷ xs) x h (inr there) =
-    all_true test xs x (and_parts (test y) (list_all test xs) h).1 there
-
 pub same_tables : (S T : SlotTable) → length S ≡ length T →
     ((b : ℕ) → b < length T → bucket_at S b ≡ bucket_at T b) → S ≡ T
 same_tables S T long same =
@@ -59,15 +51,11 @@ either_way false x = refl
 
 -- ---- records in order
 
-ascend-from_lower : (p q : ℕ) (R : List Record) → p ≤ q → AscendFrom q R → AscendFrom p R
-ascend-from_lower p q [] lower h = tt
-ascend-from_lower p q (r ∷ R) lower h = (omega (arith, lower, h.0), h.1)
-
 ascend-drop : (p n : ℕ) (R : List Record) → AscendFrom p R → AscendFrom p (drop n R)
 ascend-drop p zero R h = h
 ascend-drop p (suc n) [] h = tt
 ascend-drop p (suc n) (r ∷ R) h =
-    ascend-from_lower p (r.position + 1) (drop n R) (omega (arith, h.0))
+    ascend-lower p (r.position + 1) (drop n R) (omega (arith, h.0))
     (ascend-drop (r.position + 1) n R h.1)
 
 none_below : (p q : ℕ) (R : List Record) → p < q → AscendFrom q R → has_position R p ≡ false
@@ -95,7 +83,7 @@ kept-in shape R w b s laid there room =
         (ne_eqb s.position 0 (λ e. omega (arith, low, e))) in
         let before : has_position (window shape R) s.position ≡ true =
         ap (λ (s : Slot). has_position (window shape R) s.position) (sym from.gives)
-        ∙ all_true (λ r. has_position (window shape R) r.position) (retained shape R) from.origin
+        ∙ all-at (λ r. has_position (window shape R) r.position) (retained shape R) from.origin
         (retained-in_window shape R) from.there in
         let long = length-drop (length R - shape.retained) R in
         let same : drop (length R + 1 - shape.retained) R ≡ window shape R =
@@ -194,7 +182,7 @@ module _ (shape : Shape) (R : List Record) (w r : Record)
       by_position low false e =
           let from = entry-record shape (retained shape R) (layout shape R) b s laid there
           (ne_eqb s.position 0 (λ z. omega (arith, low, z))) in
-          let before = all_true (λ r. has_position (window shape R) r.position) (retained shape R)
+          let before = all-at (λ r. has_position (window shape R) r.position) (retained shape R)
           from.origin (retained-in_window shape R) from.there in
           let same : from.origin.position ≡ s.position = ap (λ (s : Slot). s.position) from.gives in
           ap (λ t. cond t (empty_slot shape) s) e

@@ -6,6 +6,7 @@ use Rattle.std.specs.Prelude.{◌==◌}
 use Rattle.std.proofs.lemmas.Bool.{or_left, or_cases, and_parts, and_from}
 use Rattle.std.specs.List.{sum_by}
 use Rattle.std.proofs.lemmas.List.Sums.{sum_by-cons}
+use Rattle.std.proofs.Math.Bool.{or_comm}
 use Rattle.tk_place.specs.Place.{one_more, is_placeable}
 use Rattle.tk_table.proofs.Counting.{count_by-passes, found, none-length, sum-without}
 
@@ -16,12 +17,6 @@ one_more-comm (n ∷ counts) zero zero = refl
 one_more-comm (n ∷ counts) zero (suc b) = refl
 one_more-comm (n ∷ counts) (suc a) zero = refl
 one_more-comm (n ∷ counts) (suc a) (suc b) = ap (λ ns. n ∷ ns) (one_more-comm counts a b)
-
-or-comm : (x y : Bool) → (x || y) ≡ (y || x)
-or-comm true true = refl
-or-comm true false = refl
-or-comm false true = refl
-or-comm false false = refl
 
 or-swap : (a b c d : Bool) → ((a || b) || (c || d)) ≡ ((a || c) || (b || d))
 or-swap true b c d = refl
@@ -37,7 +32,7 @@ placeable-flip : (depth : ℕ) (counts : List ℕ) (a b : ℕ) (ps : List (ℕ �
     is_placeable depth counts ((a, b) ∷ ps) ≡ is_placeable depth counts ((b, a) ∷ ps)
 unfolding is_placeable
 placeable-flip depth counts a b ps =
-    or-comm (is_placeable depth (one_more counts a) ps) (is_placeable depth (one_more counts b) ps)
+    or_comm (is_placeable depth (one_more counts a) ps) (is_placeable depth (one_more counts b) ps)
 
 placeable-swap : (depth : ℕ) (counts : List ℕ) (p q : ℕ × ℕ) (ps : List (ℕ × ℕ)) →
     is_placeable depth counts (p ∷ q ∷ ps) ≡ is_placeable depth counts (q ∷ p ∷ ps)
@@ -93,7 +88,7 @@ IsBlind weight = (a b : ℕ) → weight (a, b) ≡ weight (b, a)
 
 same_pair-blind : (p : ℕ × ℕ) → IsBlind (λ q. cond (same_pair p q) 1 0)
 unfolding same_pair
-same_pair-blind p a b = ap (λ t. cond t 1 0) (or-comm (a == p.0 && b == p.1) (b == p.0 && a == p.1))
+same_pair-blind p a b = ap (λ t. cond t 1 0) (or_comm (a == p.0 && b == p.1) (b == p.0 && a == p.1))
 
 same_pair-cases : (p q : ℕ × ℕ) → same_pair p q ≡ true → (q ≡ p) ⊎ (q ≡ (p.1, p.0))
 unfolding same_pair

@@ -1,7 +1,7 @@
 -- A search has no end exactly where no placement exists.
-use Rattle.std.proofs.Common.{◌≡◌, ◌↔◌, ℕ, ◌<◌, refl, sym, ◌∙◌, ap, subst, List, [], ◌∷◌, length}
-use Rattle.std.proofs.Common.{Bool, true, false, true≢false, cond}
-use Rattle.std.specs.Prelude.{Option, Some, None, is_some, find}
+use Rattle.std.proofs.Common.{◌≡◌, ◌↔◌, ℕ, ◌<◌, refl, sym, ◌∙◌, ap, length}
+use Rattle.std.proofs.Common.{true, false, true≢false}
+use Rattle.std.specs.Prelude.{Option, Some, None, is_some}
 use Rattle.tk_place.specs.Place.{Others, Reached, lowest_empty, fit, search_end, reached}
 use Rattle.tk_place.specs.Pairs.{pairs_with}
 use Rattle.tk_place.specs.Table.{IsTable}
@@ -9,17 +9,7 @@ use Rattle.tk_place.proofs.Offers.{nothing_fits}
 use Rattle.tk_place.proofs.Offers.{fit_by_placement}
 use Rattle.tk_place.proofs.Offers.{path_to_end}
 use Rattle.tk_place.proofs.Offers.{placed_along}
-
--- what is found passes
-found-passes : {X : Type 0} (test : X → Bool) (xs : List X) (x : X) → find test xs ≡ Some x →
-    test x ≡ true
-found-passes test [] x e = absurd (cc e)
-found-passes test (y ∷ xs) x e =
-    elim (test y) as (λ b. test y ≡ b → cond b (Some y) (find test xs) ≡ Some x → test x ≡ true) [
-      | true ↦ λ passes same.
-          let here : y ≡ x = cc same in subst (λ z. test z ≡ true) here passes
-      | false ↦ λ _ later. found-passes test xs x later
-    ] refl e
+use Rattle.tk_lists.proofs.Offers.{found-passes}
 
 -- where it ends, there is an empty slot
 pub ends_in_room : (T : Others) (new : ℕ × ℕ) (end : Reached) → search_end T new ≡ Some end →

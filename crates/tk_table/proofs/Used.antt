@@ -255,10 +255,6 @@ module _ (buckets depth : ℕ) (others : List ℕ) (used marks : List Bool)
 
 -- ---- a slot is set
 
-pub not_twice : (b : Bool) → b ≡ not (not b)
-not_twice true = refl
-not_twice false = refl
-
 -- the rows, where both runs are set
 pub rows_set : (buckets depth b i : ℕ) (others : List ℕ) (used : List Bool) (other : Option ℕ) →
     b < buckets → i < depth →

@@ -1,89 +1,20 @@
 -- Chains, displaced writes and expired ones, computed.
 use Rattle.std.specs.Prelude.{◌≡◌, ℕ, List, [], ◌∷◌, map, replicate, true, false}
-use Rattle.std.proofs.Common.{refl, lit≤}
+use Rattle.std.proofs.Common.{refl}
 use Rattle.tk_shape.specs.declared.shape.Shape.{Shape}
-use Rattle.tk_shape.specs.Ranges.{IsShape}
+use Rattle.tk_shape.specs.Limits.{numbers_in}
+use Rattle.tk_shape.proofs.Offers.{shape_of}
 use Rattle.tk_frames.specs.Order.{Record}
 use Rattle.tk_table.specs.Table.{retained, is_displaced}
 use Rattle.tk_table.proofs.Computing.{computing}
 
-pub narrow_ranges : IsShape 1 2 8 1 8 24 64 1 0 2 2 1 1
-unfolding computing
-narrow_ranges =
-    record {
-      format_low = lit≤ tt;
-      format_high = lit≤ tt;
-      servers_low = lit≤ tt;
-      servers_high = lit≤ tt;
-      buckets_power = refl;
-      buckets_low = lit≤ tt;
-      buckets_high = lit≤ tt;
-      depth_low = lit≤ tt;
-      depth_high = lit≤ tt;
-      retained_low = lit≤ tt;
-      retained_high = lit≤ tt;
-      block_low = lit≤ tt;
-      block_high = lit≤ tt;
-      filter_power = refl;
-      filter_low = lit≤ tt;
-      filter_high = lit≤ tt;
-      hits_low = lit≤ tt;
-      hits_high = lit≤ tt;
-      ahead_high = lit≤ tt;
-      clients_low = lit≤ tt;
-      clients_high = lit≤ tt;
-      phases_low = lit≤ tt;
-      phases_high = lit≤ tt;
-      ticks_low = lit≤ tt;
-      ticks_high = lit≤ tt;
-      logs_low = lit≤ tt;
-      logs_high = lit≤ tt;
-      schedule = lit≤ tt;
-      table = lit≤ tt;
-      work = lit≤ tt;
-    }
-
 abbrev pub narrow : Shape
-narrow = record { format = 1; servers = 2; buckets = 8; depth = 1; retained = 8; block = 24; filter_bits = 64; hits = 1; ahead = 0; clients = 2; phases = 2; ticks = 1; logs = 1; in_range = narrow_ranges }
-
-pub short_ranges : IsShape 1 2 8 1 2 24 64 1 0 2 2 1 1
 unfolding computing
-short_ranges =
-    record {
-      format_low = lit≤ tt;
-      format_high = lit≤ tt;
-      servers_low = lit≤ tt;
-      servers_high = lit≤ tt;
-      buckets_power = refl;
-      buckets_low = lit≤ tt;
-      buckets_high = lit≤ tt;
-      depth_low = lit≤ tt;
-      depth_high = lit≤ tt;
-      retained_low = lit≤ tt;
-      retained_high = lit≤ tt;
-      block_low = lit≤ tt;
-      block_high = lit≤ tt;
-      filter_power = refl;
-      filter_low = lit≤ tt;
-      filter_high = lit≤ tt;
-      hits_low = lit≤ tt;
-      hits_high = lit≤ tt;
-      ahead_high = lit≤ tt;
-      clients_low = lit≤ tt;
-      clients_high = lit≤ tt;
-      phases_low = lit≤ tt;
-      phases_high = lit≤ tt;
-      ticks_low = lit≤ tt;
-      ticks_high = lit≤ tt;
-      logs_low = lit≤ tt;
-      logs_high = lit≤ tt;
-      schedule = lit≤ tt;
-      table = lit≤ tt;
-      work = lit≤ tt;
-    }
+narrow = shape_of (numbers_in 1 (2 ∷ 8 ∷ 1 ∷ 8 ∷ 24 ∷ 64 ∷ 1 ∷ 0 ∷ 2 ∷ 2 ∷ 1 ∷ 1 ∷ [])) refl refl
 
 abbrev pub short : Shape
-short = record { format = 1; servers = 2; buckets = 8; depth = 1; retained = 2; block = 24; filter_bits = 64; hits = 1; ahead = 0; clients = 2; phases = 2; ticks = 1; logs = 1; in_range = short_ranges }
+unfolding computing
+short = shape_of (numbers_in 1 (2 ∷ 8 ∷ 1 ∷ 2 ∷ 24 ∷ 64 ∷ 1 ∷ 0 ∷ 2 ∷ 2 ∷ 1 ∷ 1 ∷ [])) refl refl
 
 -- a write with its position and buckets; the rest doesn't matter to the table
 abbrev at : ℕ → ℕ → ℕ → Record

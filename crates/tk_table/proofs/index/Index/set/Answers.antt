@@ -1,8 +1,9 @@
 use Rattle.std.proofs.Common.{◌+◌, ◌*◌, ap, ap₂, arith, drop, is_none, length, set, subst, sym, take, ◌∙◌}
 use Rattle.std.specs.Prelude.{is_some, not, position}
 use Rattle.std.proofs.lemmas.List.{length-set}
+use Rattle.std.proofs.Math.Bool.{not-not}
 use Rattle.tk_table.specs.Rows.{rows, slots_in, IsIndex}
-use Rattle.tk_table.proofs.Used.{low_at, inner_at, part_ends, rows_set, index_set, not_twice}
+use Rattle.tk_table.proofs.Used.{low_at, inner_at, part_ends, rows_set, index_set}
 use Rattle.tk_table.proofs.index.Index.set.Goals as goal
 
 pub index_mut-requires : goal.index_mut-requires
@@ -53,7 +54,7 @@ invariant_of-self c =
     ∙ ap (position (λ u. not u)) (c.part.ensures
     ∙ ap (λ us. take x.depth (drop (at.bucket * x.depth) us))
     (c.deref.ensures.value ∙ ap (set x.used.items place) c.is_some.ensures)) in
-    let mark = not_twice c.is_none.result ∙ sym (ap not c.is_none.ensures) ∙ ap is_none empty in
+    let mark = sym (not-not c.is_none.result) ∙ sym (ap not c.is_none.ensures) ∙ ap is_none empty in
     let is = index_set x.buckets x.depth at.bucket at.slot x.others.items x.used.items x.full.items
     c.args.other c.is_none.result c.self.invariant within inner mark in
     let os = sym (ap (set x.others.items place) c.unwrap_or.ensures) in
