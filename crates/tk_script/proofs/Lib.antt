@@ -1,3 +1,4 @@
+pub mod LiftLaws
 pub mod LineLaws
 pub mod NumberLaws
 pub mod SoundLaws

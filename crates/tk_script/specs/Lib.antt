@@ -13,3 +13,4 @@ pub mod Stands
 pub mod Printing
 pub mod PrintLaws
 pub mod TurnHead
+pub mod Lifting

@@ -1,3 +1,6 @@
+ghost use Rattle.std.specs.Prelude.{◌≡◌};
+
+use std::alloc::AllocError;
 use std::marker::Model;
 use tk_handle::Handle;
 
@@ -6,6 +9,17 @@ use tk_handle::Handle;
 pub struct Keys {
     pub handles: Handles,
     pub seeds: ClientSeeds,
+}
+
+impl Clone for Keys {
+    ghost is_clone = { λ x y. y ≡ x };
+
+    fn clone(&self) -> Result<Keys, AllocError> {
+        Ok(Keys {
+            handles: self.handles.clone()?,
+            seeds: self.seeds.clone()?,
+        })
+    }
 }
 
 /// The handle of each log, by number; seen as their list.
@@ -48,6 +62,15 @@ impl Handles {
     }
 }
 
+impl Clone for Handles {
+    ghost is_clone = { λ x y. y ≡ x };
+
+    fn clone(&self) -> Result<Handles, AllocError> {
+        let items = Vec::from_slice(*self.items.allocator(), &self.items)?;
+        Ok(Handles { items })
+    }
+}
+
 /// The seed of each client, by number; seen as their list.
 #[derive(Debug, Drop)]
 pub struct ClientSeeds {
@@ -84,5 +107,14 @@ impl ClientSeeds {
         ensures { result.items ≡ self }
     {
         self.items
+    }
+}
+
+impl Clone for ClientSeeds {
+    ghost is_clone = { λ x y. y ≡ x };
+
+    fn clone(&self) -> Result<ClientSeeds, AllocError> {
+        let items = Vec::from_slice(*self.items.allocator(), &self.items)?;
+        Ok(ClientSeeds { items })
     }
 }

@@ -1,3 +1,6 @@
+ghost use Rattle.std.specs.Prelude.{◌≡◌};
+
+use std::alloc::AllocError;
 use std::marker::Model;
 use tk_shape::Bytes;
 
@@ -8,6 +11,19 @@ pub struct Say {
     pub tick: u32,
     pub log: u32,
     pub text: Bytes,
+}
+
+impl Clone for Say {
+    ghost is_clone = { λ x y. y ≡ x };
+
+    fn clone(&self) -> Result<Say, AllocError> {
+        Ok(Say {
+            phase: self.phase,
+            tick: self.tick,
+            log: self.log,
+            text: self.text.clone()?,
+        })
+    }
 }
 
 /// What is said in a run, in order; seen as their list.
@@ -47,5 +63,14 @@ impl Says {
         ensures { result.items ≡ self }
     {
         self.items
+    }
+}
+
+impl Clone for Says {
+    ghost is_clone = { λ x y. y ≡ x };
+
+    fn clone(&self) -> Result<Says, AllocError> {
+        let items = self.items.to_vec(*self.items.allocator())?;
+        Ok(Says { items })
     }
 }
