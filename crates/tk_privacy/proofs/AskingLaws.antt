@@ -1,29 +1,24 @@
 -- What one who follows in a client's place would ask in a turn.
-use Rattle.std.proofs.Common.{◌≡◌, ap, sym, ◌∙◌, subst, arith}
+use Rattle.std.proofs.Common.{◌≡◌, ap, ◌∙◌, arith}
 use Rattle.std.proofs.Common.{ℕ, ◌+◌, ◌-◌, ◌<◌, ◌≤◌, Bool, List, Option}
 use Rattle.std.specs.Prelude.{slice_index_or}
 use Rattle.std.proofs.lemmas.List.FromFn.{get_or-map-range_with_len}
-use Rattle.tk_shape.specs.Lengths.{turn_count}
 use Rattle.tk_schedule.specs.declared.history.History.{History}
-use Rattle.tk_schedule.specs.Schedule.{IsLegal, epoch_at, phases_over}
+use Rattle.tk_schedule.specs.Schedule.{epoch_at}
 use Rattle.tk_script.specs.declared.script.Script.{Script}
 use Rattle.tk_words.specs.Words.{WordBook, words_of}
 use Rattle.tk_bloom.specs.Filters.{all_marked}
-use Rattle.tk_frames.specs.Order.{Record, before}
 use Rattle.tk_frames.specs.declared.read_frame.ReadFrame.{ReadFrame}
 use Rattle.tk_table.specs.Shown.{is_shown}
 use Rattle.tk_client.specs.declared.target.Target.{Target}
 use Rattle.tk_client.specs.Reader.{target, at_epoch}
 use Rattle.tk_client.specs.Asked.{frame_for, asked, shown_by}
 use Rattle.tk_client.specs.Looking.{FollowerState, looked_for}
-use Rattle.tk_replica.specs.declared.epoch.Epoch.{Epoch}
-use Rattle.tk_replica.specs.Epochs.{EpochStandsFor, IsEpochOf}
 use Rattle.tk_report.specs.Clients.{follower_before}
-use Rattle.tk_report.specs.Entries.{entries, write_at}
 use Rattle.tk_report.specs.Exchange.{read_pair, read_at}
 use Rattle.tk_report.specs.Report.{target_at, read_over, reader_before}
-use Rattle.tk_report.specs.Turns.{placed_before}
-use Rattle.tk_report.proofs.Offers.{before-over}
+use Rattle.tk_report.specs.Ledgers.{IsLeftBy}
+use Rattle.tk_report.specs.declared.marked.Marked.{Marked}
 
 -- a filter that shows what the writes before the epoch's mark do
 abbrev pub Shows : Script → WordBook → History → ℕ → ℕ → List Bool → Type 0
@@ -31,22 +26,12 @@ Shows S b H g c marks =
     (hits : List ℕ) →
     all_marked marks hits ≡ is_shown S.shape (read_over S (words_of S.shape b) H g c) hits
 
--- that of an epoch which was made by the end of a turn does
-pub filter-shows : (S : Script) (b : WordBook) (H : History) (g c e : ℕ) (held : Epoch)
-    (marks : List Bool) → IsLegal S.shape H → g < turn_count S.shape →
-    e ≤ phases_over S.shape (g + 1) → e ≡ epoch_at H g c →
-    IsEpochOf S.shape (placed_before S (words_of S.shape b) H (g + 1)) e held →
-    marks ≡ held.filter → Shows S b H g c marks
-filter-shows S b H g c e held marks legal within made named is same hits =
-    let w = words_of S.shape b in
-    let over = before-over S.shape (write_at S w) H (g + 1) (turn_count S.shape) e legal
-    (omega (arith, within)) (omega arith) made in
-    let stands : EpochStandsFor S.shape (before (entries S w H) e) held =
-    subst (λ (R : List Record). EpochStandsFor S.shape R held) (sym over) is.stands
-    in
-    ap (λ (m : List Bool). all_marked m hits) same
-    ∙ stands.shows hits
-    ∙ ap (λ (n : ℕ). is_shown S.shape (before (entries S w H) n) hits) named
+-- that of what lies open to its read does
+pub filter-shows : (S : Script) (b : WordBook) (H : History) (g c : ℕ) (open_now : Marked)
+    (marks : List Bool) → IsLeftBy S.shape (read_over S (words_of S.shape b) H g c) open_now →
+    marks ≡ open_now.filter → Shows S b H g c marks
+filter-shows S b H g c open_now marks is same hits =
+    ap (λ (m : List Bool). all_marked m hits) same ∙ is.shows hits
 
 -- so it is looked for what a client reads in the turn
 looked-is : (S : Script) (b : WordBook) (H : History) (g c e : ℕ) (marks : List Bool)

@@ -17,12 +17,10 @@ use Rattle.tk_frames.specs.declared.read_frame.ReadFrame.{ReadFrame}
 use Rattle.tk_client.specs.Looking.{FollowerState, new_follower}
 use Rattle.tk_words.specs.Words.{BookWords}
 use Rattle.tk_report.specs.Clients.{AreFollowers, follower_before}
-use Rattle.tk_report.specs.Entries.{entries_before}
 use Rattle.tk_client.specs.Framing.{AreAllTold}
 use Rattle.tk_client.proofs.Offers.{frame-told}
 use Rattle.tk_report.specs.Exchange.{read_pair, read_at}
 use Rattle.tk_report.specs.Report.{follows_of, reader_before}
-use Rattle.tk_report.specs.Turns.{placed_before}
 use Rattle.tk_privacy.specs.Hiding.{read_in, blank_read}
 use Rattle.tk_privacy.specs.Reads.{reads_at, reads_before, all_reads}
 use Rattle.tk_privacy.specs.Steps.{AreLastReads}
@@ -143,10 +141,6 @@ followers-first S w H followers are =
       counted = are.counted;
       each = λ c d low. are.each c d low ∙ first-look S w H c;
     }
-
-pub placed-none : (S : Script) (w : BookWords) (H : History) → [] ≡ placed_before S w H 0
-unfolding entries_before
-placed-none S w H = refl
 
 -- ---- vectors that seeds alone tell
 

@@ -1,16 +1,15 @@
 -- A history as far as it was gone through for the reads that one server sees.
-use Rattle.std.specs.Prelude.{◌≡◌, ℕ, ◌≤◌, List, map, flat_map}
+use Rattle.std.specs.Prelude.{◌≡◌, ℕ, List, map, flat_map}
 use Rattle.std.specs.List.{range_with_len}
 use Rattle.tk_shape.specs.Lengths.{turn_count}
 use Rattle.tk_schedule.specs.declared.history.History.{History}
-use Rattle.tk_schedule.specs.Schedule.{phases_over}
 use Rattle.tk_script.specs.declared.script.Script.{Script}
 use Rattle.tk_words.specs.Words.{WordBook, words_of}
 use Rattle.tk_frames.specs.declared.read_frame.ReadFrame.{ReadFrame}
-use Rattle.tk_replica.specs.Replica.{StandsFor}
 use Rattle.tk_report.specs.Clients.{AreClients, client_knowing, known_first}
 use Rattle.tk_report.specs.Clients.{AreFollowers, follower_before}
 use Rattle.tk_report.specs.Exchange.{read_at}
+use Rattle.tk_report.specs.Ledgers.{Keeps}
 use Rattle.tk_report.specs.Queues.{said_before}
 use Rattle.tk_report.specs.Turns.{placed_before}
 use Rattle.tk_privacy.specs.declared.reads.Fold.{Fold}
@@ -27,14 +26,12 @@ reads_before S b H j g = flat_map (reads_at S b H j) (range_with_len 0 g)
 abbrev pub all_reads : Script → WordBook → History → ℕ → List ReadFrame
 all_reads S b H j = reads_before S b H j (turn_count S.shape)
 
--- before turn g all is as the definitions say of it, the epochs that are yet to be read are kept,
--- and the reads so far are those of server j
+-- before turn g all is as the definitions say of it, and the reads so far are those of server j
 pub record IsFoldBefore (S : Script) (b : WordBook) (H : History) (j g : ℕ) (f : Fold)
     : Type 0 where
   pub said : f.said ≡ said_before S g
   pub clients : AreClients S.shape.clients (client_knowing S (known_first S) g) f.clients.items
   pub followers : AreFollowers S.shape.clients (follower_before S (words_of S.shape b) H g)
       f.followers.items
-  pub replica : StandsFor S.shape (placed_before S (words_of S.shape b) H g) f.replica
-  pub floor : f.replica.floor ≤ phases_over S.shape g
+  pub ledger : Keeps S.shape (placed_before S (words_of S.shape b) H g) f.ledger
   pub reads : f.reads.items ≡ reads_before S b H j g

@@ -1,5 +1,5 @@
 -- A run as far as its frames were seen.
-use Rattle.std.specs.Prelude.{◌≡◌, ℕ, List, [], ◌∷◌, length}
+use Rattle.std.specs.Prelude.{◌≡◌, ℕ, List, [], ◌∷◌, ◌++◌, length, map}
 use Rattle.tk_shape.specs.declared.shape.Shape.{Shape}
 use Rattle.tk_schedule.specs.declared.history.History.{History}
 use Rattle.tk_script.specs.declared.script.Script.{Script}
@@ -7,7 +7,7 @@ use Rattle.tk_words.specs.Words.{WordBook, words_of}
 use Rattle.tk_frames.specs.declared.entry.Placed.{Placed}
 use Rattle.tk_frames.specs.declared.read_frame.ReadFrame.{ReadFrame}
 use Rattle.tk_frames.specs.InOrder.{IsOrder}
-use Rattle.tk_frames.specs.Spelling.{read_frame}
+use Rattle.tk_frames.specs.Spelling.{placed_frame, read_frame}
 use Rattle.tk_report.specs.Clients.{AreClients, client_knowing, known_first}
 use Rattle.tk_report.specs.Entries.{write_at}
 use Rattle.tk_report.specs.Exchange.{frames_before}
@@ -22,9 +22,15 @@ abbrev pub frame_in : Shape → List ReadFrame → ℕ → ℕ → List (List �
 frame_in shape reads g c = read_frame (read_in shape reads g c) ∷ []
 
 -- after these entries, which are in order, as many were counted
-pub record HasEntered (shape : Shape) (E : List Placed) (seen : Seen) : Type 0 where
+pub record HasCounted (shape : Shape) (E : List Placed) (seen : Seen) : Type 0 where
   pub order : IsOrder shape E
   pub count : seen.entries ≡ length E
+
+-- after the first the frames of the second were seen
+pub record HasEntered (was : Seen) (shape : Shape) (E F : List Placed) (is : Seen) : Type 0 where
+  pub order : IsOrder shape (E ++ F)
+  pub count : is.entries ≡ length (E ++ F)
+  pub frames : is.frames.items ≡ was.frames.items ++ map placed_frame F
 
 -- before turn g all is as the definitions say of it, and the frames so far are those of its entries
 -- and of these reads
@@ -32,6 +38,6 @@ pub record IsViewBefore (S : Script) (b : WordBook) (H : History) (reads : List 
     (v : Viewed) : Type 0 where
   pub said : v.said ≡ said_before S g
   pub clients : AreClients S.shape.clients (client_knowing S (known_first S) g) v.clients.items
-  pub entered : HasEntered S.shape (placed_before S (words_of S.shape b) H g) v.seen
+  pub entered : HasCounted S.shape (placed_before S (words_of S.shape b) H g) v.seen
   pub frames : v.seen.frames.items
       ≡ frames_before S.shape H (write_at S (words_of S.shape b)) (frame_in S.shape reads) g

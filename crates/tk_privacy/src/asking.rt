@@ -1,18 +1,16 @@
 ghost use Rattle.std.specs.Prelude.{◌≡◌, ◌+◌, ◌<◌, ◌≤◌, IfOk, OnOk};
 ghost use Rattle.tk_shape.specs.Lengths.{turn_count};
-ghost use Rattle.tk_schedule.specs.Schedule.{phases_over};
 ghost use Rattle.tk_words.specs.Words.{words_of};
-ghost use Rattle.tk_replica.specs.Replica.{StandsFor};
 ghost use Rattle.tk_report.specs.Clients.{AreFollowers, follower_before};
 ghost use Rattle.tk_report.specs.Exchange.{read_at};
+ghost use Rattle.tk_report.specs.Ledgers.{Keeps};
 ghost use Rattle.tk_report.specs.Turns.{placed_before};
 ghost use Rattle.tk_privacy.specs.Reads.{reads_at};
 
 use std::alloc::Global;
 use tk_client::Follower;
 use tk_frames::ReadFrame;
-use tk_replica::ReplicaState;
-use tk_report::Plan;
+use tk_report::{Ledger, Plan, open_to};
 use tk_shape::Memory;
 use tk_words::Draws;
 
@@ -28,16 +26,15 @@ pub(crate) fn ask_turn<D: Draws>(
     alloc: Global,
     plan: &Plan<D>,
     spot: Spot,
-    replica: &ReplicaState,
+    ledger: &Ledger,
     followers: &mut [Follower],
 ) -> Result<Vec<ReadFrame>, Memory>
     requires turn_in { spot.turn < turn_count plan.now.script.now.shape }
     requires low { 1 ≤ spot.server }
     requires high { spot.server ≤ plan.now.script.now.shape.servers }
-    requires floor { replica.now.floor ≤ phases_over plan.now.script.now.shape spot.turn }
-    requires replica { let S = plan.now.script.now in
+    requires ledger { let S = plan.now.script.now in
         let words = words_of S.shape (D.book plan.now.draws.now) in
-        StandsFor S.shape (placed_before S words plan.now.history.now (spot.turn + 1)) replica.now }
+        Keeps S.shape (placed_before S words plan.now.history.now (spot.turn + 1)) ledger.now }
     requires followers { let S = plan.now.script.now in
         let words = words_of S.shape (D.book plan.now.draws.now) in
         AreFollowers S.shape.clients (follower_before S words plan.now.history.now spot.turn)
@@ -49,7 +46,7 @@ pub(crate) fn ask_turn<D: Draws>(
 {
     let mut reads = Vec::new(alloc);
     for (number, follower) in followers.iter_mut().enumerate() {
-        reads.push(ask_one(alloc, plan, spot, number as u32, replica, follower)?)?;
+        reads.push(ask_one(alloc, plan, spot, number as u32, ledger, follower)?)?;
     }
     Ok(reads)
 }
@@ -60,17 +57,16 @@ fn ask_one<D: Draws>(
     plan: &Plan<D>,
     spot: Spot,
     number: u32,
-    replica: &ReplicaState,
+    ledger: &Ledger,
     follower: &mut Follower,
 ) -> Result<ReadFrame, Memory>
     requires turn_in { spot.turn < turn_count plan.now.script.now.shape }
     requires low { 1 ≤ spot.server }
     requires high { spot.server ≤ plan.now.script.now.shape.servers }
     requires number_in { number < plan.now.script.now.shape.clients }
-    requires floor { replica.now.floor ≤ phases_over plan.now.script.now.shape spot.turn }
-    requires replica { let S = plan.now.script.now in
+    requires ledger { let S = plan.now.script.now in
         let words = words_of S.shape (D.book plan.now.draws.now) in
-        StandsFor S.shape (placed_before S words plan.now.history.now (spot.turn + 1)) replica.now }
+        Keeps S.shape (placed_before S words plan.now.history.now (spot.turn + 1)) ledger.now }
     requires follower { let S = plan.now.script.now in
         let words = words_of S.shape (D.book plan.now.draws.now) in
         follower.old ≡ follower_before S words plan.now.history.now spot.turn number }
@@ -80,14 +76,14 @@ fn ask_one<D: Draws>(
     ensures same { follower.new ≡ follower.old }
 {
     let due = plan.history.epoch(spot.turn, number);
-    let epoch = replica.epoch(due);
+    let open = open_to(plan, spot.turn, number, ledger);
     let mut frames = follower.read_frames(
         alloc,
         plan.draws,
         number,
         spot.turn,
         due,
-        epoch.filter(),
+        open.filter(),
     )?;
     Ok(frames.swap_remove(spot.server as usize - 1))
 }

@@ -8,21 +8,20 @@ use crate::asking::{Spot, ask_turn};
 use std::alloc::Global;
 use tk_client::{Client, Follower};
 use tk_frames::ReadFrame;
-use tk_replica::ReplicaState;
-use tk_report::{Plan, open_clients, open_followers, read_turn, say_turn, write_turn};
+use tk_report::{Ledger, Plan, open_clients, open_followers, read_turn, say_turn, write_turn};
 use tk_script::Script;
 use tk_shape::Memory;
 use tk_words::Draws;
 
 /// A history as far as it was gone through: how many texts were said, the clients that write, one
-/// for each who reads in its place, what a server has of the entries, and the read frames that one
+/// for each who reads in its place, what the entries leave for reads, and the read frames that one
 /// server sees.
 #[derive(Drop)]
 pub(crate) struct Fold {
     pub said: usize,
     pub clients: Vec<Client>,
     pub followers: Vec<Follower>,
-    pub replica: ReplicaState,
+    pub ledger: Ledger,
     pub reads: Vec<ReadFrame>,
 }
 
@@ -53,14 +52,13 @@ fn open_fold(alloc: Global, script: &Script) -> Result<Fold, Memory>
         said: 0,
         clients: open_clients(alloc, script)?,
         followers: open_followers(alloc, script)?,
-        replica: ReplicaState::open(alloc, &script.shape)?,
+        ledger: Ledger::open(alloc, &script.shape)?,
         reads: Vec::new(alloc),
     })
 }
 
 /// What happens in a turn: texts are said, the clients write in the history's order, and for each a
-/// read is made over the epoch that the history gives it. The epochs before the newest are read no
-/// more.
+/// read is made over the epoch that the history gives it.
 fn take_turn<D: Draws>(
     alloc: Global,
     plan: &Plan<D>,
@@ -77,12 +75,10 @@ fn take_turn<D: Draws>(
 {
     let clients = fold.clients.as_mut_slice();
     fold.said = say_turn(alloc, plan.script, spot.turn, fold.said, clients)?;
-    write_turn(alloc, plan, spot.turn, clients, &mut fold.replica)?;
+    write_turn(alloc, plan, spot.turn, clients, &mut fold.ledger)?;
     let followers = fold.followers.as_mut_slice();
-    let mut asked = ask_turn(alloc, plan, spot, &fold.replica, followers)?;
-    read_turn(alloc, plan, spot.turn, &fold.replica, followers)?;
+    let mut asked = ask_turn(alloc, plan, spot, &fold.ledger, followers)?;
+    read_turn(alloc, plan, spot.turn, &fold.ledger, followers)?;
     fold.reads.append(&mut asked)?;
-    let newest = fold.replica.last();
-    fold.replica.release(newest);
     Ok(())
 }

@@ -9,13 +9,12 @@ ghost use Rattle.tk_report.specs.Exchange as told;
 ghost use Rattle.tk_client.specs.Framing.{AreAllTold};
 ghost use Rattle.tk_privacy.specs.Views.{IsViewBefore, frame_in};
 
-use crate::entering::enter_turn;
 use crate::reads::all_reads;
 use crate::watching::Seen;
 use std::alloc::Global;
 use tk_client::Client;
 use tk_frames::ReadFrame;
-use tk_report::{Plan, open_clients, say_turn};
+use tk_report::{Plan, open_clients, say_turn, write_turn};
 use tk_schedule::History;
 use tk_script::Script;
 use tk_shape::{Bytes, Memory};
@@ -114,7 +113,7 @@ fn view_turn<D: Draws>(
 {
     let clients = viewed.clients.as_mut_slice();
     viewed.said = say_turn(alloc, plan.script, turn, viewed.said, clients)?;
-    enter_turn(alloc, plan, turn, clients, &mut viewed.seen)?;
+    write_turn(alloc, plan, turn, clients, &mut viewed.seen)?;
     viewed.seen.ask(alloc, &plan.script.shape, turn, reads)?;
     Ok(())
 }

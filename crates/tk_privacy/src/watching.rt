@@ -1,14 +1,15 @@
-ghost use Rattle.std.specs.Prelude.{◌≡◌, ◌+◌, ◌*◌, ◌<◌, ◌^◌, ◌++◌, ◌∷◌, [], length, flat_map, OnOk};
+ghost use Rattle.std.specs.Prelude.{◌≡◌, ◌*◌, ◌<◌, ◌++◌, ◌∷◌, [], length, flat_map, OnOk};
 ghost use Rattle.std.specs.List.{range_with_len};
 ghost use Rattle.tk_shape.specs.Lengths.{turn_count};
-ghost use Rattle.tk_frames.specs.Spelling.{placed_frame, read_frame};
+ghost use Rattle.tk_frames.specs.Spelling.{read_frame};
 ghost use Rattle.tk_frames.specs.Ranges.{AreTold};
 ghost use Rattle.tk_client.specs.Framing.{AreAllTold};
-ghost use Rattle.tk_privacy.specs.Views.{frame_in};
+ghost use Rattle.tk_privacy.specs.Views.{HasEntered, frame_in};
 
 use crate::cells::place;
 use std::alloc::Global;
-use tk_frames::{Entry, Placed, ReadFrame, encode_placed, encode_read};
+use tk_frames::{Placed, ReadFrame, encode_placed, encode_read};
+use tk_report::Takes;
 use tk_shape::{Bytes, Memory, Shape};
 
 /// The frames that a server saw so far, and how many entries are among them.
@@ -19,21 +20,6 @@ pub(crate) struct Seen {
 }
 
 impl Seen {
-    /// Sees the next entry.
-    pub(crate) fn enter(&mut self, alloc: Global, entry: Entry) -> Result<(), Memory>
-        requires { self.old.entries + 1 < 2 ^ 64 }
-        ensures entries { OnOk result (self.new.entries ≡ self.old.entries + 1) }
-        ensures frames { OnOk result (self.new.frames.items ≡ self.old.frames.items
-            ++ placed_frame (record { position = self.old.entries + 1; entry = entry }) ∷ []) }
-    {
-        let position = self.entries + 1;
-        let mut bytes = Vec::new(alloc);
-        encode_placed(&Placed { position, entry }, &mut bytes)?;
-        self.frames.push(Bytes::from_vec(bytes))?;
-        self.entries = position;
-        Ok(())
-    }
-
     /// Sees the reads of a turn, which lie by client among those of all turns.
     pub(crate) fn ask(
         &mut self,
@@ -69,4 +55,23 @@ impl Seen {
         self.frames.push(Bytes::from_vec(bytes))?;
         Ok(())
     }
+}
+
+impl Takes for Seen {
+    ghost took = { λ was shape E F is. HasEntered was shape E F is };
+
+    fn taken(&self) -> u64 {
+        self.entries
+    }
+
+    /// Sees the next entry.
+    fn take(&mut self, alloc: Global, placed: &Placed) -> Result<(), Memory> {
+        let mut bytes = Vec::new(alloc);
+        encode_placed(placed, &mut bytes)?;
+        self.frames.push(Bytes::from_vec(bytes))?;
+        self.entries = placed.position;
+        Ok(())
+    }
+
+    ghost in_order = { λ was shape E F is has. has.order };
 }

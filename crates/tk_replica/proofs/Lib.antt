@@ -1,5 +1,3 @@
-pub mod Ordering
-pub mod Pushes
 pub mod Standing
 pub mod Restored
 pub mod Vectors

@@ -4,8 +4,6 @@
 pub use Rattle.tk_replica.proofs.Standing.{entry-next}
 -- A state without its first epochs stands for the same entries.
 pub use Rattle.tk_replica.proofs.Standing.{stands-released}
--- The writes of an order are in order.
-pub use Rattle.tk_replica.proofs.Ordering.{order-writes}
 -- The epoch of the last mark among the first entries is that in a longer list, and the other way
 -- round.
 pub use Rattle.tk_replica.proofs.LastMarks.{epoch-whole, epoch-front}

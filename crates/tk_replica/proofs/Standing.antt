@@ -31,8 +31,7 @@ use Rattle.tk_frames.proofs.Offers.{marks-write, marks-mark}
 use Rattle.tk_frames.proofs.Offers.{order-push}
 use Rattle.tk_frames.proofs.Offers.{before-more, before-mark, mark_position-more}
 use Rattle.tk_frames.proofs.Offers.{mark_position-mark}
-use Rattle.tk_replica.proofs.Ordering.{order-writes}
-use Rattle.tk_replica.proofs.Pushes.{pushes-more, pushes-none}
+use Rattle.tk_table.proofs.Offers.{order-writes, pushes-more, pushes-none}
 
 -- ---- an epoch
 

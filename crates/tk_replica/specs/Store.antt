@@ -1,10 +1,11 @@
 -- What the latest writes are seen as, and the epoch that they make.
-use Rattle.std.specs.Prelude.{◌≡◌, ℕ, List, ◌++◌, ◌∷◌, []}
+use Rattle.std.specs.Prelude.{◌≡◌, ℕ, List, []}
 use Rattle.tk_shape.specs.declared.shape.Shape.{Shape}
 use Rattle.tk_table.specs.Stands.{Kept, TableStandsFor}
 use Rattle.tk_table.specs.Table.{blocks_of}
 use Rattle.tk_bloom.specs.Filters.{positions_of, marks_of, all_marked, is_shown}
-use Rattle.tk_bloom.specs.Windows.{Kept as KeptPushes, window}
+use Rattle.tk_bloom.specs.Windows.{Kept as KeptPushes}
+pub use Rattle.tk_table.specs.Shown.{window_with, pushed}
 use Rattle.tk_replica.specs.declared.epoch.Epoch.{Epoch}
 
 -- a table and a window of one shape
@@ -18,26 +19,12 @@ pub record IsStore (shape : Shape) (table : Kept) (window : KeptPushes) : Type 0
   pub bits_same : window.bits ≡ shape.filter_bits
   pub hits_same : window.hits ≡ shape.hits
 
--- the window of a shape with these pushes
-abbrev pub window_with : Shape → List (List ℕ) → KeptPushes
-window_with shape pushes =
-    record {
-      bits = shape.filter_bits;
-      hits = shape.hits;
-      retained = shape.retained;
-      pushes = pushes;
-    }
-
 -- nothing of any write
 pub record IsNewStore (shape : Shape) (s : Stored) : Type 0 where
   pub same : s.shape ≡ shape
   pub table_same : s.table.shape ≡ shape
   pub table : TableStandsFor s.table []
   pub window : s.window ≡ window_with shape []
-
--- the window with one more push
-abbrev pub pushed : KeptPushes → List ℕ → KeptPushes
-pushed w hits = record w { pushes = window w.retained (w.pushes ++ hits ∷ []) }
 
 -- the epoch has this number, and is what this table and this window show
 pub record IsTaken (shape : Shape) (number upto : ℕ) (table : Kept) (pushes : KeptPushes)

@@ -21,7 +21,8 @@ use Rattle.tk_frames.specs.Order.{records}
 use Rattle.tk_frames.specs.InOrder.{IsOrder, mark_count}
 use Rattle.tk_frames.proofs.Offers.{records-append, marks-append, length-writes_and_marks}
 use Rattle.tk_frames.proofs.Offers.{next-write, next-mark}
-use Rattle.tk_report.specs.Entries.{placed_from, placed_after, entries_before, write_at}
+use Rattle.tk_report.specs.Entries.{placed_from, placed_after, entries_before, entries_at}
+use Rattle.tk_report.specs.Entries.{write_at}
 use Rattle.tk_report.proofs.EpochLaws.{marks-before}
 use Rattle.tk_report.proofs.TurnEntries.{length-placed_from, marks-placed_from}
 use Rattle.tk_report.proofs.TurnEntries.{placed_from-append}
@@ -285,6 +286,12 @@ module _ (S : Script) (w : BookWords) (H : History) (g : ℕ) where
       (take_all i (order_at H g) past
       ∙ sym (take_all (length (order_at H g)) (order_at H g) (omega arith)))
 
+  pub placed-all : placed_in S w H g (length (order_at H g)) ≡ entries_at (write_at S w) H g
+  unfolding placed_in
+  placed-all =
+      ap (placed_after (write_at S w g) (placed_before S w H g))
+      (take_all (length (order_at H g)) (order_at H g) (omega arith))
+
   -- when all items are done
   pub so_far-all : placed_so_far S w H g (length (order_at H g)) ≡ placed_before S w H (g + 1)
   unfolding placed_in entries_before
@@ -293,6 +300,11 @@ module _ (S : Script) (w : BookWords) (H : History) (g : ℕ) where
       ap (λ (items : List Item). E ++ placed_after (write_at S w g) E items)
       (take_all (length (order_at H g)) (order_at H g) (omega arith))
       ∙ ap (entries_before (write_at S w) H) (sym (add-one g))
+
+  -- after those before a turn its own make those before the next
+  pub turn-done : placed_before S w H g ++ entries_at (write_at S w) H g
+      ≡ placed_before S w H (g + 1)
+  turn-done = ap (λ (ps : List Placed). placed_before S w H g ++ ps) (sym placed-all) ∙ so_far-all
 
 -- each item may come after those so far
 so_far-may_come : (S : Script) (w : BookWords) (H : History) (g i : ℕ) (d : Item) →

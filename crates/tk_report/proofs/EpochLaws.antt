@@ -61,6 +61,11 @@ next_in_phase t g some =
         elim (below_or_last r n (omega (arith, h)))
         [ inl l ↦ inl (omega (arith, l)) | inr e ↦ inr (omega (arith, e)) ]
 
+-- a turn closes one phase at most
+pub phases-next : (shape : Shape) (g : ℕ) →
+    phases_over shape (g + 1) ≡ phases_over shape g + marks_due shape g
+phases-next shape g = next_in_phase shape.ticks g shape.in_range.ticks_low
+
 -- as many marks stand before a turn as phases are over
 pub marks-before : (shape : Shape) (write : ℕ → ℕ → WriteFrame) (H : History) → IsLegal shape H →
     (g : ℕ) → g ≤ turn_count shape →

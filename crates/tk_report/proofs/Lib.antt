@@ -33,6 +33,7 @@ pub mod SayingLaws
 pub mod ComingLaws
 pub mod WritingLaws
 pub mod PlacingLaws
+pub mod LedgerLaws
 pub mod ReadingLaws
 pub mod DisplacedLaws
 pub mod SaidLaws

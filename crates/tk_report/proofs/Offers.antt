@@ -29,11 +29,13 @@ pub use Rattle.tk_report.proofs.LeavingLaws.{followers-in, got-ended}
 pub use Rattle.tk_report.proofs.SaidLaws.{ends-unsent, ends-count_said}
 pub use Rattle.tk_report.proofs.ShowsLaws.{reports-show}
 pub use Rattle.tk_report.proofs.OneHistoryLaws.{shows-one}
+-- what the entries up to the end of a turn leave
+pub use Rattle.tk_report.proofs.LedgerLaws.{keeps-first}
 -- clients and entries within a turn
 pub use Rattle.tk_report.proofs.WritingLaws.{after-none, after-next, after-item, after-all}
 pub use Rattle.tk_report.proofs.WritingLaws.{client-below}
 pub use Rattle.tk_report.proofs.ComingLaws.{IsDue, item-due, in-none, in-past}
-pub use Rattle.tk_report.proofs.ComingLaws.{so_far-none, so_far-all}
+pub use Rattle.tk_report.proofs.ComingLaws.{so_far-none, so_far-all, turn-done}
 pub use Rattle.tk_report.proofs.ListTests.{list_all-at}
 -- what clients know before a run, and in it
 pub use Rattle.tk_report.proofs.ClientsLaws.{clients-first, clients-know}

@@ -1,8 +1,7 @@
--- A replica to which the entries of a turn are applied, one item after the other.
-use Rattle.std.proofs.Common.{◌≡◌, ◌∙◌, ℕ, ◌+◌, ◌^◌, ◌<◌, ◌≤◌, ap, subst, arith}
-use Rattle.std.proofs.Math.Nat.{mul_assoc}
-use Rattle.tk_frames.specs.InOrder.{IsNext}
+-- What takes the entries of a turn, one item after the other.
+use Rattle.std.proofs.Common.{◌≡◌, ℕ, ◌+◌, ◌^◌, ◌<◌, ◌≤◌, ◌∙◌, ap, sym, subst, arith}
 use Rattle.std.proofs.Common.{List, [], ◌∷◌, ◌++◌, length}
+use Rattle.std.proofs.Math.Nat.{mul_assoc}
 use Rattle.tk_shape.specs.declared.shape.Shape.{Shape}
 use Rattle.tk_schedule.specs.declared.history.History.{History}
 use Rattle.tk_schedule.specs.Schedule.{order_at}
@@ -10,42 +9,39 @@ use Rattle.tk_script.specs.declared.script.Script.{Script}
 use Rattle.tk_words.specs.Words.{BookWords}
 use Rattle.tk_frames.specs.declared.entry.Placed.{Placed}
 use Rattle.tk_frames.specs.declared.entry.Entry.{Entry}
-use Rattle.tk_replica.specs.Replica.{ReplicaView, StandsFor}
-use Rattle.tk_report.specs.Entries.{entries_before}
-use Rattle.tk_report.specs.Turns.{placed_before, placed_so_far, next_placed}
-use Rattle.tk_report.proofs.ComingLaws.{IsDue, in-past, so_far-none, so_far-all}
+use Rattle.tk_frames.specs.InOrder.{IsNext}
+use Rattle.tk_report.specs.Entries.{entries_at, write_at}
+use Rattle.tk_report.specs.Taking.{Taking}
+use Rattle.tk_report.specs.Turns.{placed_before, placed_in, placed_so_far, next_placed}
+use Rattle.tk_report.proofs.ComingLaws.{IsDue, in-none, in-past, placed-all}
 
--- a replica of the same entries
-pub stands-same : (shape : Shape) (E F : List Placed) (s : ReplicaView) → E ≡ F →
-    StandsFor shape E s → StandsFor shape F s
-stands-same shape E F s same is = subst (λ (ps : List Placed). StandsFor shape ps s) same is
+module _ {X : Type 0} (took : Taking X) (S : Script) (w : BookWords) (H : History) (g : ℕ)
+    (was : X) where
+  -- it has taken these entries of the turn
+  abbrev pub HasTakenIn : List Placed → X → Type 0
+  HasTakenIn F is = took was S.shape (placed_before S w H g) F is
 
-module _ (S : Script) (w : BookWords) (H : History) (g : ℕ) where
+  took-same : (E F : List Placed) (is : X) → E ≡ F → HasTakenIn E is → HasTakenIn F is
+  took-same E F is same has = subst (λ (ps : List Placed). HasTakenIn ps is) same has
+
   -- before any item
-  pub stands-none : (s : ReplicaView) → StandsFor S.shape (placed_before S w H g) s →
-      StandsFor S.shape (placed_so_far S w H g 0) s
-  stands-none s is =
-      stands-same S.shape (placed_before S w H g) (placed_so_far S w H g 0) s
-      (so_far-none S w H g) is
+  pub took-none : HasTakenIn [] was → HasTakenIn (placed_in S w H g 0) was
+  took-none has = took-same [] (placed_in S w H g 0) was (sym (in-none S w H g)) has
 
   -- the entry of one item more
-  pub stands-more : (i : ℕ) (e : Entry) (s : ReplicaView) → IsDue S w H g i e →
-      StandsFor S.shape
-      (placed_so_far S w H g i ++ next_placed (placed_so_far S w H g i) e ∷ []) s →
-      StandsFor S.shape (placed_so_far S w H g (i + 1)) s
-  stands-more i e s due is =
-      stands-same S.shape
-      (placed_so_far S w H g i ++ next_placed (placed_so_far S w H g i) e ∷ [])
-      (placed_so_far S w H g (i + 1)) s due.more is
+  pub took-more : (i : ℕ) (e : Entry) (is : X) → IsDue S w H g i e →
+      HasTakenIn (placed_in S w H g i ++ next_placed (placed_so_far S w H g i) e ∷ []) is →
+      HasTakenIn (placed_in S w H g (i + 1)) is
+  took-more i e is due has =
+      took-same (placed_in S w H g i ++ next_placed (placed_so_far S w H g i) e ∷ [])
+      (placed_in S w H g (i + 1)) is (sym due.here) has
 
   -- and of all
-  pub stands-all : (i : ℕ) (s : ReplicaView) → length (order_at H g) ≤ i →
-      StandsFor S.shape (placed_so_far S w H g i) s →
-      StandsFor S.shape (placed_before S w H (g + 1)) s
-  stands-all i s past is =
-      stands-same S.shape (placed_so_far S w H g i) (placed_before S w H (g + 1)) s
-      (ap (λ (ps : List Placed). placed_before S w H g ++ ps) (in-past S w H g i past)
-      ∙ so_far-all S w H g) is
+  pub took-all : (i : ℕ) (is : X) → length (order_at H g) ≤ i →
+      HasTakenIn (placed_in S w H g i) is → HasTakenIn (entries_at (write_at S w) H g) is
+  took-all i is past has =
+      took-same (placed_in S w H g i) (entries_at (write_at S w) H g) is
+      (in-past S w H g i past ∙ placed-all S w H g) has
 
 -- ---- the next entry
 
@@ -66,10 +62,3 @@ place-room shape E entry next =
 pub placed-same : (E : List Placed) (entry : Entry) (n : ℕ) → n ≡ length E →
     record { position = n + 1; entry = entry } ≡ next_placed E entry
 placed-same E entry n same = ap (λ (k : ℕ). record { position = k + 1; entry = entry }) same
-
--- ---- the first turn
-
-pub stands-first : (S : Script) (w : BookWords) (H : History) (s : ReplicaView) →
-    StandsFor S.shape [] s → StandsFor S.shape (placed_before S w H 0) s
-unfolding entries_before
-stands-first S w H s is = is

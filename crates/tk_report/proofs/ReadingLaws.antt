@@ -3,6 +3,7 @@ use Rattle.std.proofs.Common.{◌≡◌, ◌≢◌, refl, ap, sym, ◌∙◌, su
 use Rattle.std.proofs.Common.{ℕ, ◌+◌, ◌<◌, ◌≤◌, Bool, List, Option, Some, None, length, set}
 use Rattle.std.proofs.Common.{get_or-set_other, get_or-set_same, below_more, length-set}
 use Rattle.std.specs.Prelude.{slice_index_or, Result, Ok, Err, OnOk}
+use Rattle.tk_shape.specs.declared.shape.Shape.{Shape}
 use Rattle.tk_shape.specs.Lengths.{turn_count}
 use Rattle.tk_schedule.specs.declared.history.History.{History}
 use Rattle.tk_schedule.specs.Schedule.{IsLegal, epoch_at, phases_over}
@@ -15,12 +16,14 @@ use Rattle.tk_client.specs.declared.target.Target.{Target}
 use Rattle.tk_client.specs.Reader.{Reader, target, at_epoch, after_read}
 use Rattle.tk_client.specs.Asked.{shown_by}
 use Rattle.tk_client.specs.Looking.{FollowerState, text_for, after_look}
-use Rattle.tk_replica.specs.declared.epoch.Epoch.{Epoch}
-use Rattle.tk_replica.specs.Epochs.{EpochStandsFor, IsEpochOf}
 use Rattle.tk_report.specs.Clients.{follower_before}
 use Rattle.tk_report.specs.Entries.{entries, write_at}
+use Rattle.tk_report.specs.Ledgers.{IsLeftBy}
+use Rattle.tk_report.specs.declared.marked.Marked.{Marked}
 use Rattle.tk_report.specs.Report.{answered, reader_step, reader_before}
 use Rattle.tk_report.specs.Turns.{placed_before}
+use Rattle.tk_report.proofs.EpochLaws.{phases-next}
+use Rattle.tk_report.proofs.StorableLaws.{one-mark}
 use Rattle.tk_report.proofs.LaidOutLaws.{bytes-give-lookup}
 use Rattle.tk_report.proofs.MarkedLaws.{before-over}
 
@@ -49,11 +52,11 @@ step_over S w H r n =
     after_read S.shape (at_epoch n r) t (answered S.shape w R t)
 
 -- an epoch of a history
-abbrev pub IsHeld : Script → WordBook → History → ℕ → Epoch → Type 0
+abbrev pub IsHeld : Script → WordBook → History → ℕ → Marked → Type 0
 IsHeld S b H e held =
-    EpochStandsFor S.shape (before (entries S (words_of S.shape b) H) e) held
+    IsLeftBy S.shape (before (entries S (words_of S.shape b) H) e) held
 
-reader-next : (S : Script) (b : WordBook) (H : History) (g c e : ℕ) (held : Epoch) →
+reader-next : (S : Script) (b : WordBook) (H : History) (g c e : ℕ) (held : Marked) →
     IsBook S.shape b → IsLegal S.shape H → IsHeld S b H e held → epoch_at H g c ≡ e →
     let w = words_of S.shape b in
     let now = at_epoch e (reader_before S w H c g) in
@@ -77,25 +80,37 @@ reader-next S b H g c e held served legal is epoch =
     ∙ ap (step_over S w H r) (sym epoch)
     ∙ sym (before-next S w H c g)
 
--- what a replica of the entries up to the end of a turn keeps for an epoch that was made by then
-pub held-of : (S : Script) (b : WordBook) (H : History) (g e : ℕ) (held : Epoch) →
+-- what the entries up to the end of a turn leave before a mark that was made by then
+pub held-of : (S : Script) (b : WordBook) (H : History) (g e : ℕ) (held : Marked) →
     IsLegal S.shape H → g < turn_count S.shape → e ≤ phases_over S.shape (g + 1) →
-    IsEpochOf S.shape (placed_before S (words_of S.shape b) H (g + 1)) e held → IsHeld S b H e held
+    IsLeftBy S.shape (before (placed_before S (words_of S.shape b) H (g + 1)) e) held →
+    IsHeld S b H e held
 held-of S b H g e held legal within made is =
     let w = words_of S.shape b in
-    subst (λ (R : List Record). EpochStandsFor S.shape R held)
+    subst (λ (R : List Record). IsLeftBy S.shape R held)
     (sym (before-over S.shape (write_at S w) H (g + 1) (turn_count S.shape) e legal
     (omega (arith, within)) (omega arith) made))
-    is.stands
+    is
+
+-- a read is over the last epoch that was made by the end of its turn, or over the one before it
+pub read-late : (shape : Shape) (H : History) (g c : ℕ) → IsLegal shape H → g < turn_count shape →
+    c < shape.clients → phases_over shape (g + 1) ≤ epoch_at H g c + 1
+read-late shape H g c legal within low =
+    omega (
+      arith,
+      phases-next shape g,
+      one-mark shape g,
+      (legal.each_turn g within).newest_before c low,
+    )
 
 -- ---- one who looks
 
 -- what a read over open buckets does
-abbrev pub Looks : WordBook → ℕ → Epoch → FollowerState → FollowerState → Type 0
+abbrev pub Looks : WordBook → ℕ → Marked → FollowerState → FollowerState → Type 0
 Looks b e held old new =
     new ≡ after_look (words_of old.shape b) held.filter held.blocks.blocks e old
 
-pub follower-next : (S : Script) (b : WordBook) (H : History) (g c e : ℕ) (held : Epoch)
+pub follower-next : (S : Script) (b : WordBook) (H : History) (g c e : ℕ) (held : Marked)
     (old new : FollowerState) → IsBook S.shape b → IsLegal S.shape H → IsHeld S b H e held →
     epoch_at H g c ≡ e → old ≡ follower_before S (words_of S.shape b) H g c →
     Looks b e held old new → new ≡ follower_before S (words_of S.shape b) H (g + 1) c

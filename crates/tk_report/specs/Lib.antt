@@ -12,6 +12,8 @@ pub mod Agreement
 pub mod Histories
 pub mod Delivered
 pub mod Turns
+pub mod Taking
+pub mod Ledgers
 pub mod Folds
 pub mod Displaced
 pub mod Counts

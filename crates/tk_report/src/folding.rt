@@ -5,6 +5,7 @@ ghost use Rattle.tk_words.specs.Words.{WordBook, words_of};
 ghost use Rattle.tk_report.specs.Clients.{AreClientsAtEnd, joined};
 ghost use Rattle.tk_report.specs.Folds.{IsFoldBefore};
 
+use crate::ledger::Ledger;
 use crate::opening::{open_clients, open_followers};
 use crate::plan::Plan;
 use crate::reading::read_turn;
@@ -12,19 +13,18 @@ use crate::saying::say_turn;
 use crate::writing::write_turn;
 use std::alloc::Global;
 use tk_client::{Client, Follower};
-use tk_replica::ReplicaState;
 use tk_script::Script;
 use tk_shape::Memory;
 use tk_words::Draws;
 
 /// A history as far as it was gone through: how many texts were said, the clients that write, one
-/// for each who reads in its place, and what a server has of the entries.
+/// for each who reads in its place, and what the entries leave for reads.
 #[derive(Drop)]
 pub(crate) struct Fold {
     pub said: usize,
     pub clients: Vec<Client>,
     pub followers: Vec<Follower>,
-    pub replica: ReplicaState,
+    pub ledger: Ledger,
 }
 
 /// A history gone through to its end.
@@ -49,13 +49,12 @@ fn open_fold(alloc: Global, script: &Script) -> Result<Fold, Memory>
         said: 0,
         clients: open_clients(alloc, script)?,
         followers: open_followers(alloc, script)?,
-        replica: ReplicaState::open(alloc, &script.shape)?,
+        ledger: Ledger::open(alloc, &script.shape)?,
     })
 }
 
 /// What happens in a turn: texts are said, the clients write in the history's order, and for each a
-/// read is made over the epoch that the history gives it. The epochs before the newest are read no
-/// more.
+/// read is made over the epoch that the history gives it.
 fn take_turn<D: Draws>(
     alloc: Global,
     plan: &Plan<D>,
@@ -70,10 +69,8 @@ fn take_turn<D: Draws>(
 {
     let clients = fold.clients.as_mut_slice();
     fold.said = say_turn(alloc, plan.script, turn, fold.said, clients)?;
-    write_turn(alloc, plan, turn, clients, &mut fold.replica)?;
+    write_turn(alloc, plan, turn, clients, &mut fold.ledger)?;
     let followers = fold.followers.as_mut_slice();
-    read_turn(alloc, plan, turn, &fold.replica, followers)?;
-    let newest = fold.replica.last();
-    fold.replica.release(newest);
+    read_turn(alloc, plan, turn, &fold.ledger, followers)?;
     Ok(())
 }

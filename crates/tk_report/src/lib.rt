@@ -8,10 +8,12 @@ mod displacing;
 mod folding;
 mod history_text;
 mod laws;
+mod ledger;
 mod left;
 mod line_kind;
 mod listing;
 mod log_text;
+mod marked;
 mod opening;
 mod outcome;
 mod outcome_text;
@@ -26,6 +28,7 @@ mod room;
 mod saying;
 mod sendings;
 mod sent;
+mod taking;
 mod telling;
 mod writing;
 
@@ -35,19 +38,22 @@ pub use laws::{
     agreement, clear, delivered, ends, honest_passing_over, laid_out, marks, one_history,
     queues_send, records_are_shown, told,
 };
+pub use ledger::Ledger;
 pub use listing::all_sent;
+pub use marked::Marked;
 pub use opening::{open_clients, open_followers};
 pub use outcome::Outcome;
 pub use outcome_text::print_outcome;
 pub use parsing::parse_history;
 pub use plan::Plan;
-pub use reading::read_turn;
+pub use reading::{open_to, read_turn};
 pub use reporting::report;
 pub use saying::{count_said, say_turn};
 pub use sendings::Sendings;
 pub use sent::Sent;
+pub use taking::Takes;
 pub use tk_shape::Memory;
-pub use writing::{entry_of, write_turn};
+pub use writing::write_turn;
 
 #[cfg(test)]
 mod displaced_tests;

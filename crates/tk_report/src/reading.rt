@@ -1,15 +1,16 @@
-ghost use Rattle.std.specs.Prelude.{◌≡◌, ◌+◌, ◌<◌, ◌≤◌, OnOk};
+ghost use Rattle.std.specs.Prelude.{◌≡◌, ◌+◌, ◌<◌, OnOk};
 ghost use Rattle.tk_shape.specs.Lengths.{turn_count};
-ghost use Rattle.tk_schedule.specs.Schedule.{phases_over};
 ghost use Rattle.tk_words.specs.Words.{words_of};
-ghost use Rattle.tk_replica.specs.Replica.{StandsFor};
 ghost use Rattle.tk_report.specs.Clients.{AreFollowers, follower_before};
+ghost use Rattle.tk_report.specs.Ledgers.{Keeps, IsLeftBy};
+ghost use Rattle.tk_report.specs.Report.{read_over};
 ghost use Rattle.tk_report.specs.Turns.{placed_before};
 
+use crate::ledger::Ledger;
+use crate::marked::Marked;
 use crate::plan::Plan;
 use std::alloc::Global;
 use tk_client::Follower;
-use tk_replica::ReplicaState;
 use tk_shape::Memory;
 use tk_words::Draws;
 
@@ -19,14 +20,13 @@ pub fn read_turn<D: Draws>(
     alloc: Global,
     plan: &Plan<D>,
     turn: u32,
-    replica: &ReplicaState,
+    ledger: &Ledger,
     followers: &mut [Follower],
 ) -> Result<(), Memory>
     requires turn_in { turn < turn_count plan.now.script.now.shape }
-    requires floor { replica.now.floor ≤ phases_over plan.now.script.now.shape turn }
-    requires replica { let S = plan.now.script.now in
+    requires ledger { let S = plan.now.script.now in
         let words = words_of S.shape (D.book plan.now.draws.now) in
-        StandsFor S.shape (placed_before S words plan.now.history.now (turn + 1)) replica.now }
+        Keeps S.shape (placed_before S words plan.now.history.now (turn + 1)) ledger.now }
     requires followers { let S = plan.now.script.now in
         let words = words_of S.shape (D.book plan.now.draws.now) in
         AreFollowers S.shape.clients (follower_before S words plan.now.history.now turn) followers.old }
@@ -36,7 +36,7 @@ pub fn read_turn<D: Draws>(
         (follower_before S words plan.now.history.now (turn + 1)) followers.new) }
 {
     for (number, follower) in followers.iter_mut().enumerate() {
-        read_one(alloc, plan, turn, number as u32, replica, follower)?;
+        read_one(alloc, plan, turn, number as u32, ledger, follower)?;
     }
     Ok(())
 }
@@ -47,15 +47,14 @@ fn read_one<D: Draws>(
     plan: &Plan<D>,
     turn: u32,
     number: u32,
-    replica: &ReplicaState,
+    ledger: &Ledger,
     follower: &mut Follower,
 ) -> Result<(), Memory>
     requires turn_in { turn < turn_count plan.now.script.now.shape }
     requires number_in { number < plan.now.script.now.shape.clients }
-    requires floor { replica.now.floor ≤ phases_over plan.now.script.now.shape turn }
-    requires replica { let S = plan.now.script.now in
+    requires ledger { let S = plan.now.script.now in
         let words = words_of S.shape (D.book plan.now.draws.now) in
-        StandsFor S.shape (placed_before S words plan.now.history.now (turn + 1)) replica.now }
+        Keeps S.shape (placed_before S words plan.now.history.now (turn + 1)) ledger.now }
     requires follower { let S = plan.now.script.now in
         let words = words_of S.shape (D.book plan.now.draws.now) in
         follower.old ≡ follower_before S words plan.now.history.now turn number }
@@ -65,6 +64,25 @@ fn read_one<D: Draws>(
         (follower.new ≡ follower_before S words plan.now.history.now (turn + 1) number) }
 {
     let due = plan.history.epoch(turn, number);
-    let epoch = replica.epoch(due);
-    follower.look(alloc, plan.draws, due, epoch.filter(), epoch.blocks())
+    let open = open_to(plan, turn, number, ledger);
+    follower.look(alloc, plan.draws, due, open.filter(), open.blocks())
+}
+
+/// What lies open to a client's read in a turn: what the writes before the mark of its epoch left.
+pub fn open_to<'a, D: Draws>(
+    plan: &Plan<D>,
+    turn: u32,
+    number: u32,
+    ledger: &'a Ledger,
+) -> &'a Marked
+    requires turn_in { turn < turn_count plan.now.script.now.shape }
+    requires number_in { number < plan.now.script.now.shape.clients }
+    requires ledger { let S = plan.now.script.now in
+        let words = words_of S.shape (D.book plan.now.draws.now) in
+        Keeps S.shape (placed_before S words plan.now.history.now (turn + 1)) ledger.now }
+    ensures { let S = plan.now.script.now in
+        let words = words_of S.shape (D.book plan.now.draws.now) in
+        IsLeftBy S.shape (read_over S words plan.now.history.now turn number) result.now }
+{
+    ledger.epoch(plan.history.epoch(turn, number))
 }

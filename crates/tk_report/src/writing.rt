@@ -1,81 +1,62 @@
-ghost use Rattle.std.specs.Prelude.{◌≡◌, ◌<◌, ◌+◌, ◌++◌, ◌∷◌, [], ℕ, List, length, IsTrue, IfOk};
-ghost use Rattle.std.specs.Prelude.{OnOk};
+ghost use Rattle.std.specs.Prelude.{◌≡◌, ◌<◌, ◌+◌, [], ℕ, length, IsTrue, IfOk, OnOk};
 ghost use Rattle.std.specs.Prelude.{slice_index_or, slice_set};
 ghost use Rattle.std.specs.Option.{ForSome};
 ghost use Rattle.tk_shape.specs.Lengths.{turn_count};
 ghost use Rattle.tk_schedule.specs.declared.item.Item.TheVariants.{Client as Writes, Publish};
 ghost use Rattle.tk_schedule.specs.Schedule.{is_within, phase_of};
 ghost use Rattle.tk_words.specs.Words.{words_of};
-ghost use Rattle.tk_shape.specs.declared.shape.Shape.{Shape};
-ghost use Rattle.tk_frames.specs.declared.entry.Placed.{Placed};
-ghost use Rattle.tk_frames.specs.InOrder.{IsNext};
 ghost use Rattle.tk_frames.specs.Ranges.{IsWrite, IsEntry};
-ghost use Rattle.tk_replica.specs.Replica.{StandsFor};
 ghost use Rattle.tk_client.specs.Client.{ClientState};
 ghost use Rattle.tk_client.specs.Reader.{Reader};
 ghost use Rattle.tk_client.specs.Writing.{first_waiting, after_write};
 ghost use Rattle.tk_client.specs.Writes.{write_of};
-ghost use Rattle.tk_report.specs.Entries.{write_at};
-ghost use Rattle.tk_report.specs.Clients.{AreClients, IsTold, client_told, client_knowing};
-ghost use Rattle.tk_report.specs.Clients.{known_first};
-ghost use Rattle.tk_report.specs.Folds.{MayPlace};
-ghost use Rattle.tk_report.specs.Turns.{placed_before, entry_due, next_placed};
+ghost use Rattle.tk_report.specs.Clients.{AreClients, AreTold, IsTold, client_told};
+ghost use Rattle.tk_report.specs.Clients.{client_knowing};
+ghost use Rattle.tk_report.specs.Entries.{write_at, entries_at};
+ghost use Rattle.tk_report.specs.Turns.{placed_before, entry_due};
 
 use crate::plan::Plan;
+use crate::taking::{Takes, place_next};
 use std::alloc::Global;
 use tk_client::Client;
-use tk_frames::{Entry, Placed, WriteFrame, decode_write};
-use tk_replica::ReplicaState;
+use tk_frames::{Entry, WriteFrame, decode_write};
 use tk_schedule::{Item, place};
 use tk_shape::{Memory, Shape};
 use tk_words::Draws;
 
-/// Applies each entry of a turn in the order of the history: what each client writes, and the mark
-/// where the turn closes a phase. Where memory runs out nothing is promised of clients and replica.
-pub fn write_turn<D: Draws>(
+/// Places each entry of a turn in the order of the history: what each client writes, and the mark
+/// where the turn closes a phase. What clients know as readers stays. Where memory runs out nothing
+/// is promised of clients and taker.
+pub fn write_turn<D: Draws, T: Takes>(
     alloc: Global,
     plan: &Plan<D>,
     turn: u32,
     clients: &mut [Client],
-    replica: &mut ReplicaState,
+    taker: &mut T,
 ) -> Result<(), Memory>
     requires turn_in { turn < turn_count plan.now.script.now.shape }
-    requires clients { let S = plan.now.script.now in
-        AreClients S.shape.clients (client_told S (known_first S) turn) clients.old }
-    requires replica { let S = plan.now.script.now in
+    requires clients { AreTold plan.now.script.now turn clients.old }
+    requires taker { let S = plan.now.script.now in
         let words = words_of S.shape (D.book plan.now.draws.now) in
-        StandsFor S.shape (placed_before S words plan.now.history.now turn) replica.old }
+        T.took taker.old S.shape (placed_before S words plan.now.history.now turn) [] taker.old }
     ensures clients { let S = plan.now.script.now in
-        OnOk result (AreClients S.shape.clients
-        (client_knowing S (known_first S) (turn + 1)) clients.new) }
-    ensures replica { let S = plan.now.script.now in
+        (knows : ℕ → Reader) → AreClients S.shape.clients (client_told S knows turn) clients.old
+        → OnOk result (AreClients S.shape.clients (client_knowing S knows (turn + 1)) clients.new) }
+    ensures taker { let S = plan.now.script.now in
         let words = words_of S.shape (D.book plan.now.draws.now) in
-        OnOk result
-        (StandsFor S.shape (placed_before S words plan.now.history.now (turn + 1)) replica.new) }
-    ensures floor { replica.new.floor ≡ replica.old.floor }
+        OnOk result (T.took taker.old S.shape (placed_before S words plan.now.history.now turn)
+        (entries_at (write_at S words) plan.now.history.now turn) taker.new) }
 {
     'items: for item in plan.history.order(turn) {
         let entry = entry_of(alloc, plan, turn, item, clients)?;
-        place_next(alloc, entry, replica)?;
+        place_next(alloc, entry, taker)?;
     }
     Ok(())
 }
 
-/// Applies an entry after all others.
-fn place_next(alloc: Global, entry: Entry, replica: &mut ReplicaState) -> Result<(), Memory>
-    requires { MayPlace entry replica.old }
-    ensures stands { (shape : Shape) (E : List Placed) → StandsFor shape E replica.old
-        → IsNext shape E (next_placed E entry)
-        → OnOk result (StandsFor shape (E ++ next_placed E entry ∷ []) replica.new) }
-    ensures floor { replica.new.floor ≡ replica.old.floor }
-{
-    let position = replica.applied() + 1;
-    replica.apply(alloc, &Placed { position, entry })
-}
-
 /// The entry of an item of a turn: its client's write, or the mark of the turn's phase. Where memory
 /// runs out nothing is promised of the client.
-pub fn entry_of<D: Draws>(
+fn entry_of<D: Draws>(
     alloc: Global,
     plan: &Plan<D>,
     turn: u32,

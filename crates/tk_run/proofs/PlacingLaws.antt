@@ -1,23 +1,20 @@
 -- Servers that take the entries of a turn, one item after the other.
-use Rattle.std.proofs.Common.{◌≡◌, ◌∙◌, ℕ, ◌+◌, ◌<◌, ◌≤◌, ap, sym, subst, arith, List, []}
-use Rattle.std.proofs.Common.{◌∷◌, ◌++◌, length}
-use Rattle.std.proofs.Common.{flat_map, append-nil}
+use Rattle.std.proofs.Common.{◌≡◌, ◌∙◌, ℕ, ◌+◌, ◌<◌, ◌≤◌, ap, refl, sym, subst, arith, List, []}
+use Rattle.std.proofs.Common.{◌∷◌, ◌++◌, length, append-nil, append_assoc}
 use Rattle.std.proofs.lemmas.Grind.{flat_map-append}
 use Rattle.std.specs.Prelude.{slice_index_or}
 use Rattle.tk_shape.specs.declared.shape.Shape.{Shape}
 use Rattle.tk_schedule.specs.declared.history.History.{History}
-use Rattle.tk_schedule.specs.Schedule.{order_at}
 use Rattle.tk_script.specs.declared.script.Script.{Script}
 use Rattle.tk_words.specs.Words.{BookWords}
 use Rattle.tk_frames.specs.declared.entry.Placed.{Placed}
-use Rattle.tk_frames.specs.declared.entry.Entry.{Entry}
-use Rattle.tk_frames.specs.InOrder.{IsOrder}
+use Rattle.tk_frames.specs.InOrder.{IsOrder, IsNext}
 use Rattle.tk_frames.specs.Spelling.{placed_frame}
+use Rattle.tk_frames.proofs.Offers.{order-push}
 use Rattle.tk_report.specs.Entries.{entries_before}
 use Rattle.tk_run.specs.declared.server.Server.{Server}
-use Rattle.tk_run.specs.Servers.{IsServer, AreServers, nothing_seen, next_placed}
-use Rattle.tk_run.specs.Turns.{placed_before, placed_in, placed_so_far, entries_seen}
-use Rattle.tk_report.proofs.Offers.{IsDue, in-none, in-past, so_far-none, so_far-all}
+use Rattle.tk_run.specs.Servers.{IsServer, AreServers, HaveTaken, nothing_seen, taken_seen}
+use Rattle.tk_run.specs.Turns.{placed_before}
 
 -- servers of the same entries that saw the same
 pub servers-same : (shape : Shape) (E F : List Placed) (seen saw : ℕ → List ℕ)
@@ -38,53 +35,6 @@ servers-same shape E F seen saw servers entries same are =
           };
     }
 
-module _ (S : Script) (w : BookWords) (H : History) (g : ℕ) where
-  -- before any item they saw nothing
-  pub servers-none : (servers : List Server) →
-      AreServers S.shape (placed_before S w H g) nothing_seen servers →
-      AreServers S.shape (placed_so_far S w H g 0) (entries_seen S w H g 0) servers
-  servers-none servers are =
-      servers-same S.shape (placed_before S w H g) (placed_so_far S w H g 0) nothing_seen
-      (entries_seen S w H g 0) servers (so_far-none S w H g)
-      (λ j low high. sym (ap (flat_map placed_frame) (in-none S w H g))) are
-
-  -- what was seen of one item more
-  due-seen : (i : ℕ) (e : Entry) → IsDue S w H g i e → (j : ℕ) →
-      entries_seen S w H g i j ++ placed_frame (next_placed (placed_so_far S w H g i) e)
-      ≡ entries_seen S w H g (i + 1) j
-  due-seen i e due j =
-      let next = next_placed (placed_so_far S w H g i) e in
-      ap (λ (bytes : List ℕ). entries_seen S w H g i j ++ bytes)
-      (sym (append-nil (placed_frame next)))
-      ∙ sym (flat_map-append placed_frame (placed_in S w H g i) (next ∷ []))
-      ∙ ap (flat_map placed_frame) (sym due.here)
-
-  -- the entry of one item more
-  pub servers-more : (i : ℕ) (e : Entry) (servers : List Server) → IsDue S w H g i e →
-      AreServers S.shape
-      (placed_so_far S w H g i ++ next_placed (placed_so_far S w H g i) e ∷ [])
-      (λ j. entries_seen S w H g i j ++ placed_frame (next_placed (placed_so_far S w H g i) e))
-      servers →
-      AreServers S.shape (placed_so_far S w H g (i + 1)) (entries_seen S w H g (i + 1)) servers
-  servers-more i e servers due are =
-      servers-same S.shape
-      (placed_so_far S w H g i ++ next_placed (placed_so_far S w H g i) e ∷ [])
-      (placed_so_far S w H g (i + 1))
-      (λ j. entries_seen S w H g i j ++ placed_frame (next_placed (placed_so_far S w H g i) e))
-      (entries_seen S w H g (i + 1)) servers due.more (λ j low high. due-seen i e due j) are
-
-  -- and of all
-  pub servers-all : (i : ℕ) (servers : List Server) → length (order_at H g) ≤ i →
-      AreServers S.shape (placed_so_far S w H g i) (entries_seen S w H g i) servers →
-      AreServers S.shape (placed_before S w H (g + 1))
-      (entries_seen S w H g (length (order_at H g))) servers
-  servers-all i servers past are =
-      let same = in-past S w H g i past in
-      servers-same S.shape (placed_so_far S w H g i) (placed_before S w H (g + 1))
-      (entries_seen S w H g i) (entries_seen S w H g (length (order_at H g))) servers
-      (ap (λ (ps : List Placed). placed_before S w H g ++ ps) same ∙ so_far-all S w H g)
-      (λ j low high. ap (flat_map placed_frame) same) are
-
 some-server : (servers : List Server) → 0 < length servers → Server
 some-server [] some = absurd (omega (arith, some))
 some-server (s ∷ servers) some = s
@@ -96,6 +46,35 @@ servers-order shape E seen servers are =
     let low = shape.in_range.servers_low in
     let some : 0 < length servers = omega (arith, low, are.counted) in
     (are.each 0 (some-server servers some) some).state.order
+
+-- ---- the entries of a turn
+
+-- before any they have taken none
+pub taken-none : (shape : Shape) (E : List Placed) (servers : List Server) →
+    AreServers shape E nothing_seen servers → HaveTaken shape E [] servers
+taken-none shape E servers are =
+    let same = sym (append-nil E) in
+    let now = servers-same shape E (E ++ []) nothing_seen (taken_seen []) servers same
+    (λ j low high. refl) are in
+    record { order = servers-order shape (E ++ []) (taken_seen []) servers now; are = now }
+
+-- one entry more
+pub taken-more : (shape : Shape) (E F : List Placed) (p : Placed) (servers new : List Server) →
+    HaveTaken shape E F servers → IsNext shape (E ++ F) p →
+    AreServers shape ((E ++ F) ++ p ∷ []) (λ j. taken_seen F j ++ placed_frame p) new →
+    HaveTaken shape E (F ++ p ∷ []) new
+taken-more shape E F p servers new have next are =
+    let same = append_assoc E F (p ∷ []) in
+    record {
+      order = subst (IsOrder shape) same (order-push shape (E ++ F) p have.order next);
+      are = servers-same shape ((E ++ F) ++ p ∷ []) (E ++ (F ++ p ∷ []))
+          (λ j. taken_seen F j ++ placed_frame p) (taken_seen (F ++ p ∷ [])) new same
+          (λ j low high.
+          ap (λ (bytes : List ℕ). taken_seen F j ++ bytes) (sym (append-nil (placed_frame p)))
+          ∙ sym (flat_map-append placed_frame F (p ∷ []))) are;
+    }
+
+-- ---- the first turn
 
 -- before the first turn servers have taken nothing
 pub servers-first : (S : Script) (w : BookWords) (H : History) (servers : List Server) →

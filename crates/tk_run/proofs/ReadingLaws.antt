@@ -1,6 +1,6 @@
 -- The reads of a turn: what clients ask, what servers reply, and what clients know then.
 use Rattle.std.proofs.Common.{◌≡◌, refl, ap, ap₂, sym, ◌∙◌, arith}
-use Rattle.std.proofs.Common.{ℕ, zero, suc, ◌+◌, ◌<◌, ◌≤◌, List, [], ◌∷◌, ◌++◌, length, map}
+use Rattle.std.proofs.Common.{ℕ, zero, suc, ◌+◌, ◌<◌, ◌≤◌, List, [], ◌∷◌, ◌++◌, map}
 use Rattle.std.proofs.Common.{flat_map}
 use Rattle.std.proofs.Common.{add-one}
 use Rattle.std.specs.List.{range_with_len}
@@ -8,7 +8,7 @@ use Rattle.std.proofs.lemmas.List.{map-append}
 use Rattle.std.proofs.lemmas.List.FromFn.{map-range_with_len_more}
 use Rattle.tk_shape.specs.Lengths.{turn_count}
 use Rattle.tk_schedule.specs.declared.history.History.{History}
-use Rattle.tk_schedule.specs.Schedule.{IsLegal, epoch_at, order_at, phases_over}
+use Rattle.tk_schedule.specs.Schedule.{IsLegal, epoch_at, phases_over}
 use Rattle.std.proofs.Common.{le_trans, div-mul-le_self, le_of_mul-le-mul_right}
 use Rattle.tk_report.specs.Entries.{write_at}
 use Rattle.tk_report.proofs.Offers.{before-over}
@@ -119,7 +119,7 @@ map-map f h (x ∷ xs) = ap (λ rest. f (h x) ∷ rest) (map-map f h xs)
 -- what a server saw of a turn, when it has answered all reads
 pub seen-answered : (S : Script) (b : WordBook) (H : History) (g j : ℕ) → AreMade S b H g →
     let E = placed_before S (words_of S.shape b) H (g + 1) in
-    entries_seen S (words_of S.shape b) H g (length (order_at H g)) j
+    entries_seen S (words_of S.shape b) H g j
     ++ answered S.shape E (reads_for S b H g S.shape.clients j)
     ≡ turn_seen S b H g j
 unfolding answered reads_for
@@ -133,7 +133,7 @@ seen-answered S b H g j made =
     λ c low. ap (λ R. bytes_of (with_reply S.shape R (read c)))
     (ap (before E) (read_at-epoch S b H g c j) ∙ made c low)
     in
-    ap (λ bytes. entries_seen S w H g (length (order_at H g)) j ++ bytes)
+    ap (λ bytes. entries_seen S w H g j ++ bytes)
     (flat_map-map sees read (range_with_len 0 S.shape.clients)
     ∙ flat_map-below (λ c. sees (read c)) (λ c. bytes_of (read_answered S b H j g c))
     S.shape.clients each)

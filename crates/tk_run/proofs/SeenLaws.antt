@@ -1,24 +1,23 @@
 -- What servers see, turn after turn, and what taps gain of it.
 use Rattle.std.proofs.Common.{◌≡◌, refl, ap, ap₂, sym, subst, ◌∙◌, arith}
-use Rattle.std.proofs.Common.{ℕ, zero, suc, ◌+◌, ◌-◌, ◌<◌, List, [], ◌∷◌, ◌++◌, length, map}
+use Rattle.std.proofs.Common.{ℕ, zero, suc, ◌+◌, ◌-◌, ◌<◌, List, [], ◌∷◌, ◌++◌, map}
 use Rattle.std.proofs.Common.{flat_map, append_assoc, append-nil, zero-add, Option}
 use Rattle.std.specs.List.{range_with_len}
-use Rattle.std.proofs.lemmas.List.{map-id, take_all}
+use Rattle.std.proofs.lemmas.List.{map-id}
 use Rattle.std.proofs.lemmas.List.FromFn.{map-range_with_len_more}
 use Rattle.std.proofs.lemmas.Grind.{flat_map-append}
 use Rattle.tk_shape.specs.Lengths.{turn_count}
 use Rattle.tk_schedule.specs.declared.history.History.{History}
-use Rattle.tk_schedule.specs.Schedule.{order_at}
 use Rattle.tk_script.specs.declared.script.Script.{Script}
-use Rattle.tk_words.specs.Words.{WordBook, BookWords, words_of}
+use Rattle.tk_words.specs.Words.{WordBook, words_of}
 use Rattle.tk_frames.specs.Spelling.{placed_frame}
 use Rattle.tk_io.specs.Content.{gained}
-use Rattle.tk_report.specs.Entries.{write_at, entries_at, placed_after}
+use Rattle.tk_report.specs.Entries.{write_at, entries_at}
 use Rattle.tk_report.specs.Exchange.{turn_frames, frames_before, read_answered, exchange, bytes_of}
 use Rattle.tk_io.specs.Tapped.{GainsFront, TapsGain, TapsGainFronts}
 use Rattle.tk_io.proofs.Offers.{gained-nothing, taps-same, taps-twice}
 use Rattle.tk_io.proofs.Offers.{front-of_first, front-of_second}
-use Rattle.tk_run.specs.Turns.{placed_before, placed_in, entries_seen, turn_seen, seen_before}
+use Rattle.tk_run.specs.Turns.{entries_seen, turn_seen, seen_before}
 
 -- ---- lists
 
@@ -75,17 +74,9 @@ seen_before-all S b H j = refl
 
 -- ---- a turn
 
--- all items of a turn give its entries
-pub placed-all : (S : Script) (w : BookWords) (H : History) (g : ℕ) →
-    placed_in S w H g (length (order_at H g)) ≡ entries_at (write_at S w) H g
-unfolding placed_in
-placed-all S w H g =
-    ap (placed_after (write_at S w g) (placed_before S w H g))
-    (take_all (length (order_at H g)) (order_at H g) (omega arith))
-
 -- a turn's entries are seen first, and then the reads of all clients
 pub turn_seen-parts : (S : Script) (b : WordBook) (H : History) (g j : ℕ) →
-    entries_seen S (words_of S.shape b) H g (length (order_at H g)) j
+    entries_seen S (words_of S.shape b) H g j
     ++ flat_map (λ c. bytes_of (read_answered S b H j g c)) (range_with_len 0 S.shape.clients)
     ≡ turn_seen S b H g j
 unfolding turn_seen
@@ -95,7 +86,7 @@ turn_seen-parts S b H g j =
     let clients = range_with_len 0 S.shape.clients in
     let reads = λ (c : ℕ). read_answered S b H j g c in
     ap₂ (λ (front back : List ℕ). front ++ back)
-    (ap (flat_map placed_frame) (placed-all S w H g) ∙ sym (bytes_of-map placed_frame placed))
+    (sym (bytes_of-map placed_frame placed))
     (sym (bytes_of-flat_map reads clients))
     ∙ sym (flat_map-append (λ f. f) (map placed_frame placed) (flat_map reads clients))
 

@@ -10,7 +10,6 @@ use Rattle.tk_frames.specs.declared.write_frame.WriteFrame.{WriteFrame}
 use Rattle.tk_frames.specs.Spelling.{placed_frame, read_frame, reply_frame}
 use Rattle.tk_schedule.specs.declared.history.TurnOrder.{TurnOrder}
 use Rattle.tk_schedule.specs.declared.history.History.{History}
-use Rattle.tk_schedule.specs.Schedule.{order_at}
 use Rattle.tk_script.specs.declared.script.Script.{Script}
 use Rattle.tk_words.specs.Words.{WordBook, words_of}
 use Rattle.tk_report.specs.Entries.{write_at, entries_at}
@@ -25,7 +24,7 @@ use Rattle.tk_run.specs.Turns.{reply_at, entries_seen}
 use Rattle.tk_run.specs.Ran.{Ran}
 use Rattle.tk_run.specs.Courses.{GoesOn, IsTalk, AreTalks, HasTalked, talk_seen, AreSights}
 use Rattle.tk_run.specs.Courses.{IsCourse, HasWritten}
-use Rattle.tk_run.proofs.SeenLaws.{placed-all, turn_seen-parts}
+use Rattle.tk_run.proofs.SeenLaws.{turn_seen-parts}
 use Rattle.tk_run.proofs.GoesOnLaws.{filled, filled_legal, filled_begins}
 
 -- what a list gives, place by place
@@ -96,9 +95,7 @@ module _ (S : Script) (b : WordBook) (H : History) (g : ℕ) where
         each = λ i d low.
             let server : i < S.shape.servers = omega (arith, low, counted) in
             let w = words_of S.shape b in
-            let front : bytes ≡ entries_seen S w H g (length (order_at H g)) (i + 1) =
-            are ∙ sym (ap (flat_map placed_frame) (placed-all S w H g))
-            in
+            let front : bytes ≡ entries_seen S w H g (i + 1) = are in
             let back : flat_map (talk_seen i) talks
             ≡ flat_map (λ c. bytes_of (read_answered S b H (i + 1) g c))
             (range_with_len 0 (length talks)) =

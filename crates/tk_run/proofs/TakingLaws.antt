@@ -1,16 +1,13 @@
 -- What an entry does to a server, and to several.
-use Rattle.std.proofs.Common.{◌≡◌, ℕ, ◌+◌, ◌^◌, ◌<◌, ◌≤◌, ◌∙◌, sym, subst, ap, arith}
+use Rattle.std.proofs.Common.{◌≡◌, ℕ, ◌+◌, ◌<◌, ◌≤◌, ◌∙◌, sym, subst, ap, arith}
 use Rattle.std.proofs.Common.{List, [], ◌∷◌, ◌++◌, length, length-append}
 use Rattle.std.specs.Prelude.{slice_index_or}
 use Rattle.tk_shape.specs.declared.shape.Shape.{Shape}
 use Rattle.tk_frames.specs.declared.entry.Placed.{Placed}
 use Rattle.tk_frames.specs.Spelling.{placed_frame}
-use Rattle.std.proofs.Math.Nat.{mul_assoc}
-use Rattle.tk_frames.specs.declared.entry.Entry.{Entry}
 use Rattle.tk_frames.specs.InOrder.{IsNext}
 use Rattle.tk_run.specs.declared.server.Server.{Server}
 use Rattle.tk_run.specs.Servers.{IsServer, AreServers, MayTake, MayTakeAll}
-use Rattle.tk_run.specs.Servers.{next_placed}
 use Rattle.tk_run.proofs.Changes.{ChangedUpTo}
 
 -- a server has seen an entry and taken it
@@ -52,26 +49,6 @@ pub length-next : {X : Type 0} (xs more : List X) (x : X) (n : ℕ) → more ≡
     length xs ≡ n → length more ≡ n + 1
 length-next xs more x n pushed counted =
     ap length pushed ∙ length-append xs (x ∷ []) ∙ omega (arith, counted)
-
--- ---- the next entry
-
--- its position is one that 64 bits can count
-pub place-room : (shape : Shape) (E : List Placed) (entry : Entry) →
-    IsNext shape E (next_placed E entry) → length E + 1 < 2 ^ 64
-place-room shape E entry next =
-    let high = next.in_range.position_high in
-    let bound = shape.in_range in
-    omega (
-      arith,
-      high,
-      bound.schedule,
-      bound.phases_high,
-      mul_assoc shape.clients shape.phases shape.ticks,
-    )
-
-pub placed-same : (E : List Placed) (entry : Entry) (n : ℕ) → n ≡ length E →
-    record { position = n + 1; entry = entry } ≡ next_placed E entry
-placed-same E entry n same = ap (λ (k : ℕ). record { position = k + 1; entry = entry }) same
 
 -- the first of servers that stand so has applied these entries
 pub first-applied : (shape : Shape) (E : List Placed) (seen : ℕ → List ℕ) (servers : List Server)

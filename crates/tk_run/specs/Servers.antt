@@ -1,18 +1,16 @@
 -- A server of a run: the entries that its replica has applied, and what it saw.
-use Rattle.std.specs.Prelude.{◌≡◌, ℕ, ◌+◌, ◌-◌, ◌<◌, List, [], length, map, flat_map}
+use Rattle.std.specs.Prelude.{◌≡◌, ℕ, ◌+◌, ◌-◌, ◌<◌, List, [], ◌++◌, length, map, flat_map}
 use Rattle.std.specs.Prelude.{slice_index_or}
 use Rattle.std.specs.List.{AllByRecursion}
 use Rattle.tk_shape.specs.declared.shape.Shape.{Shape}
 use Rattle.tk_frames.specs.declared.entry.Placed.{Placed}
-use Rattle.tk_frames.specs.declared.entry.Entry.{Entry}
 use Rattle.tk_frames.specs.declared.read_frame.ReadFrame.{ReadFrame}
 use Rattle.tk_frames.specs.Ranges.{IsRead}
-use Rattle.tk_frames.specs.Spelling.{read_frame}
+use Rattle.tk_frames.specs.Spelling.{placed_frame, read_frame}
 use Rattle.tk_frames.specs.Order.{before}
-use Rattle.tk_frames.specs.InOrder.{IsNext, mark_count}
+use Rattle.tk_frames.specs.InOrder.{IsNext, IsOrder, mark_count}
 use Rattle.tk_replica.specs.Replica.{StandsFor}
 use Rattle.tk_report.specs.Exchange.{bytes_of, with_reply}
-pub use Rattle.tk_report.specs.Turns.{next_placed}
 use Rattle.tk_run.specs.declared.server.Server.{Server}
 
 -- Its replica has applied these entries and keeps the last epoch and the one before it, and it saw
@@ -49,13 +47,14 @@ pub record MayTakeAll (p : Placed) (servers : List Server) : Type 0 where
   pub are : AreServers shape E seen servers
   pub next : IsNext shape E p
 
--- servers for which this entry is the next one, wherever they stand
-pub record MayPlace (entry : Entry) (servers : List Server) : Type 0 where
-  pub shape : Shape
-  pub E : List Placed
-  pub seen : ℕ → List ℕ
-  pub are : AreServers shape E seen servers
-  pub next : IsNext shape E (next_placed E entry)
+-- what each server saw of entries that it took
+abbrev pub taken_seen : List Placed → ℕ → List ℕ
+taken_seen F j = flat_map placed_frame F
+
+-- servers that took the second after the first, of which they had nothing that isn't given away
+pub record HaveTaken (shape : Shape) (E F : List Placed) (servers : List Server) : Type 0 where
+  pub order : IsOrder shape (E ++ F)
+  pub are : AreServers shape (E ++ F) (taken_seen F) servers
 
 -- ---- reads
 

@@ -1,28 +1,27 @@
 -- A run as it stands within a turn.
-use Rattle.std.specs.Prelude.{◌≡◌, ℕ, ◌+◌, List, flat_map, map}
+use Rattle.std.specs.Prelude.{◌≡◌, ℕ, ◌+◌, List, map}
 use Rattle.std.specs.List.{range_with_len}
 use Rattle.tk_schedule.specs.declared.history.History.{History}
 use Rattle.tk_script.specs.declared.script.Script.{Script}
 use Rattle.tk_words.specs.Words.{WordBook, BookWords, words_of}
 use Rattle.tk_frames.specs.declared.read_frame.ReadFrame.{ReadFrame}
 use Rattle.tk_frames.specs.declared.reply_frame.ReplyFrame.{ReplyFrame}
-use Rattle.tk_frames.specs.Spelling.{placed_frame, read_frame, reply_frame}
-use Rattle.tk_report.specs.Entries.{write_at}
+use Rattle.tk_frames.specs.Spelling.{read_frame, reply_frame}
+use Rattle.tk_report.specs.Entries.{write_at, entries_at}
 use Rattle.tk_report.specs.Exchange.{turn_frames, frames_before, read_at, read_answered, bytes_of}
 use Rattle.tk_table.specs.Replies.{reply_to}
 use Rattle.tk_report.specs.Report.{read_over}
 use Rattle.tk_report.specs.Queues.{said_before}
 use Rattle.tk_run.specs.declared.run.Run.{Run}
 use Rattle.tk_run.specs.Clients.{AreClients, client_before}
-pub use Rattle.tk_report.specs.Turns.{placed_before, placed_so_far, entry_due}
-unfoldable pub use Rattle.tk_report.specs.Turns.{placed_in}
-use Rattle.tk_run.specs.Servers.{AreServers}
+pub use Rattle.tk_report.specs.Turns.{placed_before}
+use Rattle.tk_run.specs.Servers.{AreServers, taken_seen}
 
 -- ---- entries
 
--- what each server saw in turn g of the entries of its first i items
-abbrev pub entries_seen : Script → BookWords → History → ℕ → ℕ → ℕ → List ℕ
-entries_seen S w H g i j = flat_map placed_frame (placed_in S w H g i)
+-- what each server saw of the entries of turn g
+abbrev pub entries_seen : Script → BookWords → History → ℕ → ℕ → List ℕ
+entries_seen S w H g = taken_seen (entries_at (write_at S w) H g)
 
 -- ---- reads
 
@@ -68,4 +67,4 @@ pub record IsRunBefore (S : Script) (b : WordBook) (H : History) (g : ℕ) (seen
   pub clients : AreClients S.shape.clients (client_before S (words_of S.shape b) H g)
       run.clients.items
   pub servers : AreServers S.shape (placed_before S (words_of S.shape b) H g) seen
-      run.servers.items
+      run.servers.list.items

@@ -29,7 +29,6 @@ mod telling;
 mod threaded;
 mod ticks;
 mod turns;
-mod writing;
 
 pub use run_error::RunError;
 pub use serially::serial;

@@ -1,6 +1,5 @@
 ghost use Rattle.std.specs.Prelude.{◌<◌, ◌+◌, length, IfOk, OnOk};
 ghost use Rattle.tk_shape.specs.Lengths.{turn_count};
-ghost use Rattle.tk_schedule.specs.Schedule.{order_at};
 ghost use Rattle.tk_words.specs.Words.{words_of};
 ghost use Rattle.tk_run.specs.Clients.{AreClients, client_wrote, client_asked, client_before};
 ghost use Rattle.tk_run.specs.Rows.{AreRows};
@@ -32,9 +31,8 @@ pub(crate) fn read_turn<D: Draws>(
     requires servers { let S = plan.now.script.now in
         let words = words_of S.shape (D.book plan.now.draws.now) in
         let history = plan.now.history.now in
-        let all = length (order_at history turn) in
         AreServers S.shape (placed_before S words history (turn + 1))
-        (entries_seen S words history turn all) servers.old }
+        (entries_seen S words history turn) servers.old }
     ensures clients { let S = plan.now.script.now in
         let words = words_of S.shape (D.book plan.now.draws.now) in
         OnOk result (AreClients S.shape.clients
@@ -67,9 +65,8 @@ fn answer_all<D: Draws>(
     requires servers { let S = plan.now.script.now in
         let words = words_of S.shape (D.book plan.now.draws.now) in
         let history = plan.now.history.now in
-        let all = length (order_at history turn) in
         AreServers S.shape (placed_before S words history (turn + 1))
-        (entries_seen S words history turn all) servers.old }
+        (entries_seen S words history turn) servers.old }
     ensures replies { let S = plan.now.script.now in
         let book = D.book plan.now.draws.now in
         IfOk result (λ rows. AreRows S.shape.clients

@@ -1,4 +1,4 @@
-use crate::server::Server;
+use crate::servers::Servers;
 use tk_client::Client;
 
 /// A run as it stands between two steps of it.
@@ -8,6 +8,6 @@ pub(crate) struct Run {
     pub said: usize,
     /// The clients, by number.
     pub clients: Vec<Client>,
-    /// The servers, server 1 first.
-    pub servers: Vec<Server>,
+    /// The servers.
+    pub servers: Servers,
 }

@@ -3,22 +3,29 @@ ghost use Rattle.tk_shape.specs.declared.shape.Shape.{Shape};
 ghost use Rattle.tk_frames.specs.declared.entry.Placed.{Placed};
 ghost use Rattle.tk_frames.specs.Spelling.{placed_frame};
 ghost use Rattle.tk_frames.specs.InOrder.{IsNext};
-ghost use Rattle.tk_run.specs.Servers.{AreServers, MayTakeAll, MayPlace, nothing_seen, next_placed};
+ghost use Rattle.tk_run.specs.Servers.{AreServers, HaveTaken, MayTakeAll, nothing_seen};
 
 use crate::server::Server;
 use std::alloc::Global;
-use tk_frames::{Entry, Placed};
+use tk_frames::Placed;
+use tk_report::Takes;
 use tk_shape::{Memory, Shape};
 
+/// The servers of a run, server 1 first.
+#[derive(Drop)]
+pub(crate) struct Servers {
+    pub list: Vec<Server>,
+}
+
 /// The servers of a shape, before any entry.
-pub(crate) fn open_servers(alloc: Global, shape: &Shape) -> Result<Vec<Server>, Memory>
-    ensures { IfOk result (λ servers. AreServers shape.now [] nothing_seen servers.items) }
+pub(crate) fn open_servers(alloc: Global, shape: &Shape) -> Result<Servers, Memory>
+    ensures { IfOk result (λ servers. AreServers shape.now [] nothing_seen servers.list.items) }
 {
     let mut servers = Vec::new(alloc);
     for _ in 0..shape.servers {
         servers.push(Server::open(alloc, shape)?)?;
     }
-    Ok(servers)
+    Ok(Servers { list: servers })
 }
 
 /// Each server sees the frame of an entry and takes it.
@@ -35,14 +42,16 @@ pub(crate) fn take_all(alloc: Global, servers: &mut [Server], placed: &Placed) -
     Ok(())
 }
 
-/// Each server sees and takes an entry, which stands next.
-pub(crate) fn place_next(alloc: Global, servers: &mut [Server], entry: Entry) -> Result<(), Memory>
-    requires { MayPlace entry servers.old }
-    ensures { (shape : Shape) (E : List Placed) (seen : ℕ → List ℕ)
-        → AreServers shape E seen servers.old → IsNext shape E (next_placed E entry)
-        → OnOk result (AreServers shape (E ++ next_placed E entry ∷ [])
-        (λ j. seen j ++ placed_frame (next_placed E entry)) servers.new) }
-{
-    let position = servers[0].state.applied() + 1;
-    take_all(alloc, servers, &Placed { position, entry })
+impl Takes for Servers {
+    ghost took = { λ was shape E F is. HaveTaken shape E F is.list.items };
+
+    fn taken(&self) -> u64 {
+        self.list[0].state.applied()
+    }
+
+    fn take(&mut self, alloc: Global, placed: &Placed) -> Result<(), Memory> {
+        take_all(alloc, self.list.as_mut_slice(), placed)
+    }
+
+    ghost in_order = { λ was shape E F is have. have.order };
 }

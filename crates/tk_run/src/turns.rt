@@ -14,11 +14,10 @@ use crate::run::Run;
 use crate::run_error::RunError;
 use crate::servers::open_servers;
 use crate::tapping::give_all;
-use crate::writing::write_turn;
 use std::alloc::Global;
 use tk_client::Client;
 use tk_io::Taps;
-use tk_report::{Plan, open_clients, say_turn};
+use tk_report::{Plan, open_clients, say_turn, write_turn};
 use tk_script::Script;
 use tk_shape::Memory;
 use tk_words::Draws;
@@ -125,7 +124,7 @@ fn take_turn<D: Draws, T: Taps>(
     ensures counts { T.faults taps.old ≤ T.faults taps.new }
 {
     meet(alloc, plan, turn, run)?;
-    give_all(run.servers.as_mut_slice(), taps)?;
+    give_all(run.servers.list.as_mut_slice(), taps)?;
     Ok(())
 }
 
@@ -140,8 +139,8 @@ fn meet<D: Draws>(alloc: Global, plan: &Plan<D>, turn: u32, run: &mut Run) -> Re
         plan.now.history.now (turn + 1) seen run.new) }
 {
     let clients = run.clients.as_mut_slice();
-    let servers = run.servers.as_mut_slice();
     run.said = say_turn(alloc, plan.script, turn, run.said, clients)?;
-    write_turn(alloc, plan, turn, clients, servers)?;
+    write_turn(alloc, plan, turn, clients, &mut run.servers)?;
+    let servers = run.servers.list.as_mut_slice();
     read_turn(alloc, plan, turn, clients, servers)
 }

@@ -32,6 +32,8 @@ pub mod Grids
 pub mod Standing
 pub mod Computing
 pub mod FewPlaces
+pub mod Ordering
+pub mod Pushes
 pub mod Filling
 pub mod Spelled
 pub mod Learning

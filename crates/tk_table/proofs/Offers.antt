@@ -6,3 +6,7 @@ pub use Rattle.tk_table.proofs.LaidOut.{layout-laid_out}
 pub use Rattle.tk_table.proofs.AsWritten.{layout-as_written}
 pub use Rattle.tk_table.proofs.BucketBytes.{layout-read_back, layout-as_read}
 pub use Rattle.tk_table.proofs.OneEntry.{one_among, one_slot_is_sound}
+-- The writes of an order are in order.
+pub use Rattle.tk_table.proofs.Ordering.{order-writes}
+-- The positions of the writes in the window: none, and with one more write.
+pub use Rattle.tk_table.proofs.Pushes.{pushes-none, pushes-more}

@@ -1,28 +1,12 @@
--- The epoch that the history gives is kept, and of what is asked over it the server sees its share.
-use Rattle.std.proofs.Common.{◌≤◌, ◌∙◌, ◌+◌, ◌<◌, ap, sym, subst, arith, length}
+-- Of what is asked the server sees its share.
+use Rattle.std.proofs.Common.{◌∙◌, ◌<◌, ap, sym, subst, arith, length}
 use Rattle.tk_shape.specs.declared.shape.Shape.{Shape}
 use Rattle.tk_shape.specs.Lengths.{turn_count}
-use Rattle.tk_schedule.specs.Schedule.{phases_over}
 use Rattle.tk_words.specs.Words.{words_of}
 use Rattle.tk_client.specs.Looking.{FollowerState, looked_for}
 use Rattle.tk_client.proofs.Offers.{length-asked}
-use Rattle.tk_report.specs.Entries.{write_at}
-use Rattle.tk_report.specs.Turns.{placed_before}
-use Rattle.tk_report.proofs.Offers.{epoch-made, marks-before}
 use Rattle.tk_privacy.proofs.AskingLaws.{filter-shows, read-is}
 use Rattle.tk_privacy.proofs.asking.ask_one.Goals as goal
-
-pub epoch-epoch-requires-clause-high : goal.epoch-epoch-requires-clause-high
-epoch-epoch-requires-clause-high g c =
-    let plan = c.args.plan.now in
-    let S = plan.script.now in
-    let write = write_at S (words_of S.shape (g.D.Draws.book plan.draws.now)) in
-    let H = plan.history.now in
-    let turn = c.args.spot.turn in
-    let made = epoch-made S.shape H turn c.args.number plan.legal c.requires.turn_in in
-    let over : turn + 1 ≤ turn_count S.shape = omega (arith, c.requires.turn_in) in
-    let marks = marks-before S.shape write H plan.legal (turn + 1) over in
-    omega (arith, c.epoch-due.ensures, made, marks, c.requires.replica.last)
 
 pub read_frames-requires-clause-one_shape : goal.read_frames-requires-clause-one_shape
 read_frames-requires-clause-one_shape g c κs within =
@@ -55,22 +39,13 @@ returns-clause-read g c =
     let plan = c.args.plan.now in
     let S = plan.script.now in
     let book = g.D.Draws.book plan.draws.now in
-    let words = words_of S.shape book in
     let H = plan.history.now in
     let turn = c.args.spot.turn in
     let number = c.args.number in
     let due = c.epoch-due.result in
-    let held = c.epoch-epoch.result.now in
     let marks = c.filter.result.now in
-    let made = epoch-made S.shape H turn number plan.legal c.requires.turn_in in
-    let within : due ≤ phases_over S.shape (turn + 1) = omega (arith, c.epoch-due.ensures, made) in
-    let is =
-    c.epoch-epoch.ensures.stands S.shape (placed_before S words H (turn + 1)) c.requires.replica
-    in
-    let shows =
-    filter-shows S book H turn number due held marks plan.legal c.requires.turn_in within
-    c.epoch-due.ensures is c.filter.ensures
-    in
+    let shows = filter-shows S book H turn number c.open_to-open.result.now marks
+    c.open_to-open.ensures c.filter.ensures in
     read-is S book H turn number due c.args.spot.server marks c.args.follower.now
     c.in_ok-frames.frames.items c.swap_remove.result c.requires.follower c.epoch-due.ensures shows
     c.requires.low c.requires.high c.in_ok-frames.ensures.frames c.swap_remove.ensures.value

@@ -1,21 +1,19 @@
 -- Each part is opened as it is before the first turn.
-use Rattle.std.proofs.Common.{sym, arith}
+use Rattle.std.proofs.Common.{sym}
 use Rattle.tk_words.specs.Words.{words_of}
 use Rattle.tk_report.proofs.SayOrder.{said-none}
 use Rattle.tk_report.proofs.ClientsLaws.{followers-first}
-use Rattle.tk_report.proofs.PlacingLaws.{stands-first}
+use Rattle.tk_report.proofs.LedgerLaws.{keeps-first}
 use Rattle.tk_report.proofs.folding.open_fold.Goals as goal
 
 pub returns : goal.returns
 returns c b H =
     let S = c.args.script.now in
     let words = words_of S.shape b in
-    let floor = c.in_ok-open.ensures.floor in
     record {
       said = sym (said-none S);
       clients = c.in_ok-open_clients.ensures;
       followers = followers-first S words H c.in_ok-open_followers.field-0.items
           c.in_ok-open_followers.ensures;
-      replica = stands-first S words H c.in_ok-open.field-0 c.in_ok-open.ensures.stands;
-      floor = omega (arith, floor);
+      ledger = keeps-first S words H c.in_ok-open.field-0 c.in_ok-open.ensures;
     }

@@ -1,5 +1,5 @@
 -- When all have read, the run stands before the next turn, and the servers saw what they see.
-use Rattle.std.proofs.Common.{◌+◌, ◌++◌, ◌∙◌, List, All, arith, refl, sym, subst}
+use Rattle.std.proofs.Common.{◌++◌, ◌∙◌, List, All, arith, refl, sym, subst}
 use Rattle.std.specs.Prelude.{flat_map}
 use Rattle.tk_schedule.specs.declared.history.History.{History}
 use Rattle.tk_words.specs.Words.{words_of}

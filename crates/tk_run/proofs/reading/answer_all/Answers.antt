@@ -3,7 +3,6 @@ use Rattle.std.proofs.Common.{◌≡◌, ◌∙◌, ◌+◌, ◌<◌, ◌≤◌,
 use Rattle.std.proofs.Common.{length, length-set}
 use Rattle.std.proofs.lemmas.List.{with_items_is}
 use Rattle.std.proofs.lemmas.List.FromFn.{length-map-range_with_len}
-use Rattle.tk_schedule.specs.Schedule.{order_at}
 use Rattle.tk_shape.specs.declared.shape.Shape.{Shape}
 use Rattle.tk_words.specs.Words.{IsBook, words_of}
 use Rattle.tk_run.specs.Rows.{AreRows, no_frames}
@@ -24,7 +23,6 @@ answering-init g c =
     let H = c.args.plan.now.history.now in
     let turn = c.args.turn in
     let E = placed_before S words H (turn + 1) in
-    let all = length (order_at H turn) in
     record {
       counted = refl;
       rows =
@@ -32,7 +30,7 @@ answering-init g c =
           (λ k. replied-none S book H turn k) c.in_ok-rows.ensures;
       servers =
           split-none (λ k s. IsServer S.shape E (turn_seen S book H turn (k + 1)) s)
-          (λ k s. IsServer S.shape E (entries_seen S words H turn all (k + 1)) s)
+          (λ k s. IsServer S.shape E (entries_seen S words H turn (k + 1)) s)
           c.args.servers.now c.requires.servers.each;
     }
 
@@ -44,7 +42,6 @@ answer-requires g c =
     let H = c.args.plan.now.history.now in
     let turn = c.args.turn in
     let E = placed_before S words H (turn + 1) in
-    let all = length (order_at H turn) in
     let i = c.answering.i in
     let servers = c.answering.servers in
     let d = c.index-servers-i.result in
@@ -69,7 +66,7 @@ answer-requires g c =
     record {
       shape = S.shape;
       E = E;
-      bytes = entries_seen S words H turn all (i + 1);
+      bytes = entries_seen S words H turn (i + 1);
       reads = reads;
       is = here;
       are = asked;
@@ -83,7 +80,6 @@ deal-requires g c =
     let H = c.args.plan.now.history.now in
     let turn = c.args.turn in
     let E = placed_before S words H (turn + 1) in
-    let all = length (order_at H turn) in
     let i = c.answering.i in
     let servers = c.answering.servers in
     let d = c.index-servers-i.result in
@@ -107,7 +103,7 @@ deal-requires g c =
     in
     let made = all-made S book H turn c.args.plan.now.legal c.requires.turn_in in
     let replied =
-    c.in_ok-replies.ensures.replies S.shape E (entries_seen S words H turn all (i + 1)) reads here
+    c.in_ok-replies.ensures.replies S.shape E (entries_seen S words H turn (i + 1)) reads here
     asked
     in
     ap length (replied ∙ replies-by_client S book H turn (i + 1) made)
@@ -123,7 +119,6 @@ answering-preserved g c =
     let H = c.args.plan.now.history.now in
     let turn = c.args.turn in
     let E = placed_before S words H (turn + 1) in
-    let all = length (order_at H turn) in
     let i = c.answering.i in
     let servers = c.answering.servers in
     let d = c.index-servers-i.result in
@@ -146,7 +141,7 @@ answering-preserved g c =
     (c.as_slice.ensures ∙ c.index-asked-i.is)
     in
     let made = all-made S book H turn c.args.plan.now.legal c.requires.turn_in in
-    let saw = entries_seen S words H turn all (i + 1) in
+    let saw = entries_seen S words H turn (i + 1) in
     let replies = c.in_ok-replies.replies.items in
     let told = c.in_ok-replies.ensures.replies S.shape E saw reads here asked in
     let stands = c.in_ok-replies.ensures.server S.shape E saw reads here asked in
@@ -166,7 +161,7 @@ answering-preserved g c =
           (sym (with_items_is c.answering.rows c.deal.new.rows counted)) dealt;
       servers =
           split-next i (λ k s. IsServer S.shape E (turn_seen S book H turn (k + 1)) s)
-          (λ k s. IsServer S.shape E (entries_seen S words H turn all (k + 1)) s) servers
+          (λ k s. IsServer S.shape E (entries_seen S words H turn (k + 1)) s) servers
           c.answer.new.self within
           (subst (λ (bytes : List ℕ). IsServer S.shape E bytes c.answer.new.self)
           (seen-answered S book H turn (i + 1) made) stands)
@@ -195,7 +190,6 @@ returns-clause-servers g c =
     let H = c.args.plan.now.history.now in
     let turn = c.args.turn in
     let E = placed_before S words H (turn + 1) in
-    let all = length (order_at H turn) in
     let so_far = c.answering.invariant in
     let ended : length c.answering.servers ≤ c.answering.i =
     omega (arith, c.answering-test.false, so_far.counted)
@@ -204,6 +198,6 @@ returns-clause-servers g c =
       counted = so_far.counted ∙ c.requires.servers.counted;
       each =
           split-all c.answering.i (λ k s. IsServer S.shape E (turn_seen S book H turn (k + 1)) s)
-          (λ k s. IsServer S.shape E (entries_seen S words H turn all (k + 1)) s)
+          (λ k s. IsServer S.shape E (entries_seen S words H turn (k + 1)) s)
           c.answering.servers ended so_far.servers;
     }

@@ -1,6 +1,5 @@
 -- The servers so far have answered, and their replies lie in the lists of the clients.
 use Rattle.std.proofs.Common.{◌≡◌, ◌+◌, length}
-use Rattle.tk_schedule.specs.Schedule.{order_at}
 use Rattle.tk_words.specs.Words.{words_of}
 use Rattle.tk_run.specs.Rows.{AreRows}
 use Rattle.tk_run.specs.Servers.{IsServer}
@@ -15,10 +14,9 @@ invariant-answering g l =
     let words = words_of S.shape book in
     let H = l.plan.history.now in
     let E = placed_before S words H (l.turn + 1) in
-    let all = length (order_at H l.turn) in
     record {
       counted : length l.servers ≡ length l.fn.servers;
       rows : AreRows S.shape.clients (replied S book H l.turn l.i) l.rows.items;
       servers : IsSplit l.i (λ k s. IsServer S.shape E (turn_seen S book H l.turn (k + 1)) s)
-          (λ k s. IsServer S.shape E (entries_seen S words H l.turn all (k + 1)) s) l.servers;
+          (λ k s. IsServer S.shape E (entries_seen S words H l.turn (k + 1)) s) l.servers;
     }

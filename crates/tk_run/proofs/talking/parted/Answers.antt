@@ -1,5 +1,5 @@
 -- One reading more is taken apart.
-use Rattle.std.proofs.Common.{◌+◌, ◌++◌, ◌∷◌, [], ap, sym, ◌∙◌, List}
+use Rattle.std.proofs.Common.{◌++◌, ◌∷◌, [], ap, sym, ◌∙◌, List}
 use Rattle.std.proofs.lemmas.List.{map-append}
 use Rattle.tk_client.specs.Client.{ClientState}
 use Rattle.tk_run.specs.declared.talking.Talk.{Talk}

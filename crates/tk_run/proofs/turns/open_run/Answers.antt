@@ -14,5 +14,5 @@ returns c b H =
       clients = clients-first S words H c.in_ok-open_clients.field-0.items
           c.in_ok-open_clients.ensures;
       servers =
-          servers-first S words H c.in_ok-open_servers.field-0.items c.in_ok-open_servers.ensures;
+          servers-first S words H c.in_ok-open_servers.field-0.list.items c.in_ok-open_servers.ensures;
     }

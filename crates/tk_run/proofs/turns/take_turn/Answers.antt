@@ -45,7 +45,7 @@ returns-clause-run g c =
     let E = placed_before S (words_of S.shape book) H (c.args.turn + 1) in
     let seen = turn_seen S book H c.args.turn in
     let met = c.in_ok-meet.ensures.run in
-    let servers = c.meet.new.run.servers in
+    let servers = c.meet.new.run.servers.list in
     let given = c.give_all.new.servers in
     let counted : length given ≡ servers.len =
     omega (arith, c.give_all.auto.servers, c.as_mut_slice.ensures.len)
