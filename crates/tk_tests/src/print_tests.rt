@@ -1,4 +1,4 @@
-use crate::script_tests::{Parts, join, parsed};
+use crate::script_tests::{Parts, SEEDED, join, parsed};
 use std::alloc::Global;
 use std::test::Fail;
 use tk_script::{
@@ -51,6 +51,9 @@ const HEAD: &[u8] = b"talek 1\nshape 2 8 4 4 24 64 1 0 2 2 1 1\ndrawn\n";
 
 const TAPE: &[u8] = b"tape\nfill 0F 256\nend";
 
+/// A tape in format 2.
+const SEEDED_TAPE: &[u8] = b"tape\nfill 0F 512\nend";
+
 /// Two texts and no follower, one text and a follower, and no text and two followers.
 const QUIET: &[u8] = b"log 1\nsay 1 1 0 \nsay 2 1 0  a \nend\n";
 
@@ -59,10 +62,11 @@ const ONE: &[u8] = b"log 0 1\nsay 1 1 0 hi you\nend\n";
 const FOLLOWED: &[u8] = b"log 1 0 1\nend\n";
 
 /// The text of an input, and what is printed of its script.
-const PRINTS: [(Parts, Parts); 5] = [
+const PRINTS: [(Parts, Parts); 6] = [
     (&[HEAD, ONE, TAPE], &[HEAD, ONE]),
     (&[HEAD, QUIET, TAPE], &[HEAD, QUIET]),
     (&[HEAD, FOLLOWED, TAPE], &[HEAD, FOLLOWED]),
+    (&[SEEDED, FOLLOWED, SEEDED_TAPE], &[SEEDED, FOLLOWED]),
     (KEYED, KEYED),
     (SPELLED, KEYED),
 ];

@@ -1,5 +1,3 @@
-ghost use Rattle.std.specs.Prelude.{◌≡◌, IfOk};
-
 use std::alloc::Global;
 use std::test::Fail;
 use tk_schedule::{Item, RawKind, RawLine};
@@ -8,6 +6,9 @@ use tk_shape::{Field, Memory};
 
 /// The front of a script of drawn words, and the rest of it.
 const HEAD: &[u8] = b"talek 1\nshape 2 8 4 4 24 64 1 0 2 2 1 1\ndrawn\n";
+
+/// The same front in format 2.
+pub(crate) const SEEDED: &[u8] = b"talek 2\nshape 2 8 4 4 24 64 1 0 2 2 1 1\ndrawn\n";
 
 const SCRIPT: &[u8] = b"log 0 1\nsay 1 1 0 hi you\nend\n";
 
@@ -33,18 +34,14 @@ pub(crate) fn join(parts: &[&[u8]], text: &mut Vec<u8>) -> Result<(), Memory> {
 }
 
 /// The input of a form that parts of a text spell.
-fn parsed_as(alloc: Global, parts: &[&[u8]], form: Form) -> Result<Input, ScriptError>
-    ensures { IfOk result (λ input. input.first.shape.format ≡ 1) }
-{
+fn parsed_as(alloc: Global, parts: &[&[u8]], form: Form) -> Result<Input, ScriptError> {
     let mut text = Vec::new(alloc);
     join(parts, &mut text)?;
     parse(alloc, &text, form)
 }
 
 /// The input that parts of a text spell.
-pub(crate) fn parsed(alloc: Global, parts: &[&[u8]]) -> Result<Input, ScriptError>
-    ensures { IfOk result (λ input. input.first.shape.format ≡ 1) }
-{
+pub(crate) fn parsed(alloc: Global, parts: &[&[u8]]) -> Result<Input, ScriptError> {
     parsed_as(alloc, parts, Form::Run)
 }
 
@@ -75,6 +72,19 @@ fn drawn_input(rt: HostRuntime) -> Result<(), Fail> {
     assert!(rt;
         tape.bytes.as_slice().get(251..) == Some([0x11, 0xab, 0x0c, 0xff, 0xff].as_slice())
     );
+    Ok(())
+}
+
+/// A tape in format 2 has seeds too.
+const SEEDED_INPUT: Parts = &[SEEDED, SCRIPT, b"tape\nfill 11 512\nend\n"];
+
+#[test]
+fn drawn_input_of_format_2(rt: HostRuntime) -> Result<(), Fail> {
+    let Input { first, tape, .. } = parsed(rt.alloc(), SEEDED_INPUT)?;
+    assert!(rt; is_drawn(&first));
+    assert!(rt; first.shape.format == 2);
+    let tape = tape.expect(&rt, "a tape");
+    assert!(rt; tape.got == 512 && tape.bytes.as_slice().len() == 512);
     Ok(())
 }
 
@@ -131,7 +141,7 @@ fn tapes_counted(rt: HostRuntime) -> Result<(), Fail> {
 }
 
 /// The parts of a text, the line that is refused, and why.
-const REFUSED: [(Parts, u64, Cause); 27] = [
+const REFUSED: [(Parts, u64, Cause); 31] = [
     (&[HEAD, SCRIPT], 7, Cause::Early),
     (&[HEAD, SCRIPT, b"tape\nfill 11 256\n"], 9, Cause::Early),
     (
@@ -220,6 +230,41 @@ const REFUSED: [(Parts, u64, Cause); 27] = [
         &[KEYED, b"handle ", FOUR, FOUR, FOUR, SEED, b"\n"],
         7,
         Cause::Early,
+    ),
+    (
+        &[b"talek 3\nshape ", b"2 8 4 4 24 64 1 0 2 2 1 1\ndrawn\n"],
+        1,
+        Cause::Form,
+    ),
+    (
+        &[
+            b"talek 1\nshape ",
+            b"2 16384 1 4 24 64 1 0 2 2 1 1\nkeyed\n",
+        ],
+        2,
+        Cause::Shape {
+            field: Field::Buckets,
+            value: 16384,
+        },
+    ),
+    (
+        &[
+            b"talek 2\nshape ",
+            b"2 16384 1 4 24 64 1 0 2 2 1 1\nkeyed\n",
+        ],
+        4,
+        Cause::Early,
+    ),
+    (
+        &[
+            b"talek 2\nshape ",
+            b"2 32768 1 4 24 64 1 0 2 2 1 1\nkeyed\n",
+        ],
+        2,
+        Cause::Shape {
+            field: Field::Buckets,
+            value: 32768,
+        },
     ),
     (
         &[b"talek 1\nshape ", b"2 8 4 4 24 64 1 0 2 2 1\ndrawn\n"],
@@ -314,11 +359,12 @@ fn view_input(rt: HostRuntime) -> Result<(), Fail> {
 
 #[test]
 fn mirror_input(rt: HostRuntime) -> Result<(), Fail> {
-    let parts = [HEAD, b"log 1\nend\n", HEAD, SCRIPT, HISTORY, TAPE];
+    let parts = [HEAD, b"log 1\nend\n", SEEDED, SCRIPT, HISTORY, TAPE];
     let read = parsed_as(rt.alloc(), &parts, Form::Mirror)?;
     let second = read.second.expect(&rt, "a script");
     assert!(rt; read.first.says.as_slice().is_empty());
     assert!(rt; is_drawn(&second));
+    assert!(rt; (read.first.shape.format, second.shape.format) == (1, 2));
     let history = read.history.expect(&rt, "a history");
     assert!(rt; are_lines(history.as_slice(), [13, 14, 15, 16]));
     assert!(rt; read.tape.is_some());
