@@ -43,3 +43,4 @@ pub mod ListingLaws
 pub mod SendingsLaws
 pub mod PairLaws
 pub mod examples
+pub mod LiftedLaws

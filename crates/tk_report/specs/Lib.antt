@@ -20,3 +20,4 @@ pub mod Counts
 pub mod Listings
 pub mod Rooms
 pub mod Blanks
+pub mod Lifted

@@ -10,6 +10,7 @@ ghost use Rattle.tk_report.specs.Delivered.{EpochsStorable, BytesGiveLookup};
 ghost use Rattle.tk_report.specs.Histories.{ReportsShow, ShowsOne, OrdersAndEpochsTell};
 ghost use Rattle.tk_report.specs.Histories.{EntriesTellOrders, TurnsReadOff};
 ghost use Rattle.tk_report.specs.Leaving.{EndsLeave, EndsReport, EndsCountSaid, EndsUnsent};
+ghost use Rattle.tk_report.specs.Lifted.{LiftedReports};
 ghost use Rattle.tk_report.specs.Outcomes.{OutcomesReport};
 ghost use Rattle.tk_report.specs.PassingOver.{HonestPassingOver, RecordsAreShown};
 ghost use Rattle.tk_report.specs.Queues.{QueuesSend};
@@ -97,4 +98,9 @@ pub fn ends()
     ensures said { EndsCountSaid }
     ensures unsent { EndsUnsent }
     ensures outcome { OutcomesReport }
+{}
+
+/// A script in format 2 has the report that it has in its own format.
+pub fn lifted()
+    ensures { LiftedReports }
 {}

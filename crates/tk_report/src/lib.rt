@@ -35,7 +35,7 @@ mod writing;
 pub use clients::Clients;
 pub use displacing::displaced;
 pub use laws::{
-    agreement, clear, delivered, ends, honest_passing_over, laid_out, marks, one_history,
+    agreement, clear, delivered, ends, honest_passing_over, laid_out, lifted, marks, one_history,
     queues_send, records_are_shown, told,
 };
 pub use ledger::Ledger;
