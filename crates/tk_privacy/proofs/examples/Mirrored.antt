@@ -5,7 +5,8 @@ use Rattle.tk_shape.specs.declared.shape.Shape.{Shape}
 use Rattle.tk_script.specs.declared.script.Script.{Script}
 use Rattle.tk_script.specs.declared.role.Role.{Role}
 use Rattle.tk_script.specs.declared.say.Say.{Say}
-use Rattle.tk_shape.specs.Ranges.{IsShape}
+use Rattle.tk_shape.specs.Limits.{numbers_in}
+use Rattle.tk_shape.proofs.Offers.{shape_of}
 use Rattle.tk_script.specs.SoundScript.{IsScript}
 use Rattle.tk_schedule.specs.Schedule.{serial_history}
 use Rattle.tk_words.specs.Words.{drawn}
@@ -15,60 +16,9 @@ use Rattle.tk_schedule.proofs.Offers.{serial-IsLegal}
 use Rattle.tk_privacy.specs.Privacy.{mirror, normal, cells_view}
 use Rattle.tk_privacy.specs.Laws.{AreMirrored}
 
-pub shape_ranges : IsShape 1 3 8 4 4 24 64 1 0 2 1 1 1
-unfolding computing
-shape_ranges =
-    record {
-      format_low = lit≤ tt;
-      format_high = lit≤ tt;
-      servers_low = lit≤ tt;
-      servers_high = lit≤ tt;
-      buckets_power = refl;
-      buckets_low = lit≤ tt;
-      buckets_high = lit≤ tt;
-      depth_low = lit≤ tt;
-      depth_high = lit≤ tt;
-      retained_low = lit≤ tt;
-      retained_high = lit≤ tt;
-      block_low = lit≤ tt;
-      block_high = lit≤ tt;
-      filter_power = refl;
-      filter_low = lit≤ tt;
-      filter_high = lit≤ tt;
-      hits_low = lit≤ tt;
-      hits_high = lit≤ tt;
-      ahead_high = lit≤ tt;
-      clients_low = lit≤ tt;
-      clients_high = lit≤ tt;
-      phases_low = lit≤ tt;
-      phases_high = lit≤ tt;
-      ticks_low = lit≤ tt;
-      ticks_high = lit≤ tt;
-      logs_low = lit≤ tt;
-      logs_high = lit≤ tt;
-      schedule = lit≤ tt;
-      table = lit≤ tt;
-      work = lit≤ tt;
-    }
-
 abbrev pub shape : Shape
-shape =
-    record {
-      format = 1;
-      servers = 3;
-      buckets = 8;
-      depth = 4;
-      retained = 4;
-      block = 24;
-      filter_bits = 64;
-      hits = 1;
-      ahead = 0;
-      clients = 2;
-      phases = 1;
-      ticks = 1;
-      logs = 1;
-      in_range = shape_ranges;
-    }
+unfolding computing
+shape = shape_of (numbers_in 1 (3 ∷ 8 ∷ 4 ∷ 4 ∷ 24 ∷ 64 ∷ 1 ∷ 0 ∷ 2 ∷ 1 ∷ 1 ∷ 1 ∷ [])) refl refl
 
 abbrev pub roles : List Role
 roles = record { writer = 0; followers = 1 ∷ [] } ∷ []

@@ -1,53 +1,19 @@
 -- Three texts of which the window keeps one, computed.
 use Rattle.std.specs.Prelude.{◌≡◌, ℕ, List, [], ◌∷◌, ◌++◌, replicate, codes, None}
-use Rattle.std.proofs.Common.{refl, lit≤}
+use Rattle.std.proofs.Common.{refl}
 use Rattle.tk_shape.specs.declared.shape.Shape.{Shape}
 use Rattle.tk_script.specs.declared.script.Script.{Script}
-use Rattle.tk_shape.specs.Ranges.{IsShape}
+use Rattle.tk_shape.specs.Limits.{numbers_in}
+use Rattle.tk_shape.proofs.Offers.{shape_of}
 use Rattle.tk_script.specs.SoundScript.{IsScript}
 use Rattle.tk_schedule.specs.Schedule.{serial_history}
 use Rattle.tk_words.specs.Words.{drawn}
 use Rattle.tk_report.specs.Report.{report}
 use Rattle.tk_report.proofs.Computing.{computing}
 
-pub shape_ranges : IsShape 1 2 8 1 1 24 64 1 4 2 2 3 1
-unfolding computing
-shape_ranges =
-    record {
-      format_low = lit≤ tt;
-      format_high = lit≤ tt;
-      servers_low = lit≤ tt;
-      servers_high = lit≤ tt;
-      buckets_power = refl;
-      buckets_low = lit≤ tt;
-      buckets_high = lit≤ tt;
-      depth_low = lit≤ tt;
-      depth_high = lit≤ tt;
-      retained_low = lit≤ tt;
-      retained_high = lit≤ tt;
-      block_low = lit≤ tt;
-      block_high = lit≤ tt;
-      filter_power = refl;
-      filter_low = lit≤ tt;
-      filter_high = lit≤ tt;
-      hits_low = lit≤ tt;
-      hits_high = lit≤ tt;
-      ahead_high = lit≤ tt;
-      clients_low = lit≤ tt;
-      clients_high = lit≤ tt;
-      phases_low = lit≤ tt;
-      phases_high = lit≤ tt;
-      ticks_low = lit≤ tt;
-      ticks_high = lit≤ tt;
-      logs_low = lit≤ tt;
-      logs_high = lit≤ tt;
-      schedule = lit≤ tt;
-      table = lit≤ tt;
-      work = lit≤ tt;
-    }
-
 abbrev pub shape : Shape
-shape = record { format = 1; servers = 2; buckets = 8; depth = 1; retained = 1; block = 24; filter_bits = 64; hits = 1; ahead = 4; clients = 2; phases = 2; ticks = 3; logs = 1; in_range = shape_ranges }
+unfolding computing
+shape = shape_of (numbers_in 1 (2 ∷ 8 ∷ 1 ∷ 1 ∷ 24 ∷ 64 ∷ 1 ∷ 4 ∷ 2 ∷ 2 ∷ 3 ∷ 1 ∷ [])) refl refl
 
 pub script_sound : IsScript shape None (record { writer = 1; followers = 0 ∷ [] } ∷ []) (record { phase = 1; tick = 1; log = 0; text = codes "a" } ∷ record { phase = 1; tick = 1; log = 0; text = codes "b" } ∷ record { phase = 1; tick = 1; log = 0; text = codes "c" } ∷ [])
 unfolding computing
