@@ -47,6 +47,25 @@ fn made_groups(rt: HostRuntime) -> Result<(), Fail> {
     Ok(())
 }
 
+/// In format 2 a group's keys stay, and so does its report.
+#[test]
+fn lifted_group(rt: HostRuntime) -> Result<(), Fail> {
+    let (_, script) = tried(&rt, &["make", "1"], b"")?;
+    let ((status, left, seen), lifted) = tried(&rt, &["lift"], script.as_slice())?;
+    assert_eq!(rt; (status, left, seen), (Status::Done, 0, 0));
+    assert!(rt; lifted.starts_with(b"talek 2\n"));
+    if script.len() < 8 {
+        return Err(Fail::from("a first line"));
+    }
+    assert!(rt; lifted.ends_with(&script[8..]));
+    assert_eq!(rt; lifted.len(), script.len());
+    let (_, written) = tried(&rt, &["serial"], script.as_slice())?;
+    let ((status, _, _), again) = tried(&rt, &["serial"], lifted.as_slice())?;
+    assert_eq!(rt; status, Status::Done);
+    assert_eq!(rt; again, written);
+    Ok(())
+}
+
 #[test]
 fn made_group_twice(rt: HostRuntime) -> Result<(), Fail> {
     let (_, script) = tried(&rt, &["make", "1"], b"")?;

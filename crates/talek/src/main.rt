@@ -11,6 +11,8 @@ mod each_fault_tests;
 #[cfg(test)]
 mod fault_tests;
 #[cfg(test)]
+mod format_tests;
+#[cfg(test)]
 mod gate_tests;
 #[cfg(test)]
 mod group_tests;

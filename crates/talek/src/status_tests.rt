@@ -70,6 +70,11 @@ fn status_lines(rt: HostRuntime) -> Result<(), Fail> {
             "talek: server 4 of 3",
             10,
         ),
+        (
+            Status::Wide { want: 4528640 },
+            "talek: tape over 4528640",
+            12,
+        ),
     ] {
         assert!(rt; is_told(alloc, &status, line, code)?, "at {line}");
     }

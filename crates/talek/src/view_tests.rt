@@ -111,7 +111,7 @@ end
 
 /// Whether it is a view, else a mirrored tape; a line of its input, from 1 on, what stands in its
 /// place, a server, and how the input is refused then.
-const REFUSED: [(bool, usize, &str, &str, Status); 9] = [
+const REFUSED: [(bool, usize, &str, &str, Status); 10] = [
     (true, 0, "", "3", Status::Hidden { got: 3, servers: 2 }),
     (true, 0, "", "0", Status::Hidden { got: 0, servers: 2 }),
     (true, 9, "reads 1 1 0 2", "3", Status::History { at: 9 }),
@@ -140,6 +140,17 @@ const REFUSED: [(bool, usize, &str, &str, Status); 9] = [
         "4",
         Status::Shapes {
             field: Field::Phases,
+            a: 1,
+            b: 2,
+        },
+    ),
+    (
+        false,
+        7,
+        "talek 2",
+        "4",
+        Status::Shapes {
+            field: Field::Format,
             a: 1,
             b: 2,
         },

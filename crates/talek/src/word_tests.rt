@@ -41,6 +41,8 @@ fn words(rt: HostRuntime) -> Result<(), Fail> {
         &["handle", "00", ZERO_ROOT],
         &["handle", ZERO_ROOT, "0"],
         &["Serial"],
+        &["lift", "1"],
+        &["lift", "2"],
         &["serial", "1"],
     ] {
         let (end, written) = tried(&rt, words, ONE_TEXT)?;

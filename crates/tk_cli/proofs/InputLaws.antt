@@ -25,7 +25,7 @@ use Rattle.tk_cli.specs.declared.status.Status.{Status}
 use Rattle.tk_cli.specs.declared.status.Status.TheVariants as status
 use Rattle.tk_cli.specs.Errors.{book_status, history_status}
 use Rattle.tk_cli.specs.Inputs.{Reads, IsOfRuns, Refuses, Stops}
-use Rattle.tk_cli.specs.Inputs.{form_of, tape_refusal, shapes_refusal, history_refusal}
+use Rattle.tk_cli.specs.Inputs.{form_of, tape_refusal, wide_refusal, shapes_refusal, history_refusal}
 use Rattle.tk_cli.specs.Inputs.{server_refusal, difference, bad_history_line, refusal_of}
 use Rattle.tk_cli.specs.Endings.{IsAnswer, IsMade}
 
@@ -126,6 +126,9 @@ refusal-tape (request.Mirror h) input want got other =
     other-refused S input.tape (shapes_refusal (difference S input.second)
     (history_refusal (bad_history_line S input.history) (server_refusal h S.servers)))
     want got other
+refusal-tape request.Lift input want got other =
+    let S = input.first.shape in
+    other-refused S input.tape (wide_refusal S input.tape None) want got other
 refusal-tape r input want got other =
     other-refused input.first.shape input.tape None want got other
 

@@ -3,4 +3,5 @@ pub mod InputLaws
 pub mod RequestLaws
 pub mod EndingLaws
 pub mod WordLaws
+pub mod LiftLaws
 pub mod CompleteLaws

@@ -3,7 +3,7 @@ use Rattle.std.proofs.Common.{◌≡◌, ◌∙◌, ◌+◌, ◌≤◌, refl, ap
 use Rattle.std.proofs.Common.{length, codes, arith, rules}
 use Rattle.std.proofs.lemmas.Fmt.{decimal_injective}
 use Rattle.tk_cli.specs.declared.request.Request.{Request}
-use Rattle.tk_cli.specs.declared.request.Request.TheVariants.{Serial, Run, View, Mirror, Handle, Make, Tally, Nothing}
+use Rattle.tk_cli.specs.declared.request.Request.TheVariants.{Serial, Run, View, Mirror, Handle, Make, Tally, Lift, Nothing}
 use Rattle.tk_cli.specs.Requests.{Words, Asks, AsksNothing, AsksRun, IsCrew, IsLong, IsSmall, SpellsRoot}
 
 -- a run has 1 to 64 workers
@@ -25,7 +25,9 @@ nothing-alone words (Handle id root) nothing asks =
 nothing-alone words (Make n) nothing asks =
     absurd (nothing (inr (inr (inr (inr (inr (inl (n, asks))))))))
 nothing-alone words (Tally n) nothing asks =
-    absurd (nothing (inr (inr (inr (inr (inr (inr (n, asks))))))))
+    absurd (nothing (inr (inr (inr (inr (inr (inr (inl (n, asks)))))))))
+nothing-alone words Lift nothing asks =
+    absurd (nothing (inr (inr (inr (inr (inr (inr (inr asks))))))))
 nothing-alone words Nothing nothing asks = refl
 
 -- ---- words that differ
@@ -63,6 +65,7 @@ no_words (Mirror h) r a b = absurd a
 no_words (Handle id root) r a b = absurd a
 no_words (Make n) r a b = absurd a
 no_words (Tally n) r a b = absurd a
+no_words Lift r a b = absurd a
 
 one_word : (w : List ℕ) (q r : Request) → Asks (w ∷ []) q → Asks (w ∷ []) r → q ≡ r
 unfolding weight
@@ -72,6 +75,15 @@ one_word w Serial (Run n) a b =
     apart (codes "serial") (codes "run") 120 116 refl refl (λ e. omega (arith, e)) w a b.0
 one_word w (Run n) Serial a b =
     apart (codes "run") (codes "serial") 116 120 refl refl (λ e. omega (arith, e)) w a.0 b
+one_word w Serial Lift a b =
+    apart (codes "serial") (codes "lift") 120 111 refl refl (λ e. omega (arith, e)) w a b
+one_word w (Run n) Lift a b =
+    apart (codes "run") (codes "lift") 116 111 refl refl (λ e. omega (arith, e)) w a.0 b
+one_word w Lift Serial a b =
+    apart (codes "lift") (codes "serial") 111 120 refl refl (λ e. omega (arith, e)) w a b
+one_word w Lift (Run n) a b =
+    apart (codes "lift") (codes "run") 111 116 refl refl (λ e. omega (arith, e)) w a b.0
+one_word w Lift Lift a b = refl
 one_word w (Run m) (Run n) a b = ap (λ k. Run k) (a.1 ∙ sym b.1)
 one_word w (View j) r a b = absurd a
 one_word w (Mirror h) r a b = absurd a
@@ -134,9 +146,11 @@ two_words w n (Tally j) (Make k) a b =
     apart (codes "tally") (codes "make") 120 112 refl refl (λ e. omega (arith, e)) w a.0 b.0
 two_words w n (Tally j) (Tally k) a b = ap (λ m. Tally m) (one_long j k n a.1 b.1)
 two_words w n Serial r a b = absurd a
+two_words w n Lift r a b = absurd a
 two_words w n (Handle id root) r a b = absurd a
 two_words w n q Nothing a b = sym (nothing-alone (w ∷ n ∷ []) q b a)
 two_words w n q Serial a b = absurd b
+two_words w n q Lift a b = absurd b
 two_words w n q (Handle id root) a b = absurd b
 
 one_root : (digits x y : List ℕ) → SpellsRoot digits x → SpellsRoot digits y → x ≡ y
@@ -149,6 +163,7 @@ three_words w n d (Handle i x) (Handle k y) a b =
     ap (λ m. Handle m x) (one_long i k n a.1 b.1)
     ∙ ap (λ z. Handle k z) (one_root d x y a.2 b.2)
 three_words w n d Serial r a b = absurd a
+three_words w n d Lift r a b = absurd a
 three_words w n d (Run m) r a b = absurd a
 three_words w n d (View j) r a b = absurd a
 three_words w n d (Mirror h) r a b = absurd a
@@ -156,6 +171,7 @@ three_words w n d (Make m) r a b = absurd a
 three_words w n d (Tally m) r a b = absurd a
 three_words w n d q Nothing a b = sym (nothing-alone (w ∷ n ∷ d ∷ []) q b a)
 three_words w n d q Serial a b = absurd b
+three_words w n d q Lift a b = absurd b
 three_words w n d q (Run m) a b = absurd b
 three_words w n d q (View j) a b = absurd b
 three_words w n d q (Mirror h) a b = absurd b
@@ -166,6 +182,7 @@ more_words : (w n d m : List ℕ) (ws : Words) (q r : Request) →
     Asks (w ∷ n ∷ d ∷ m ∷ ws) q → Asks (w ∷ n ∷ d ∷ m ∷ ws) r → q ≡ r
 more_words w n d m ws Nothing r a b = nothing-alone (w ∷ n ∷ d ∷ m ∷ ws) r a b
 more_words w n d m ws Serial r a b = absurd a
+more_words w n d m ws Lift r a b = absurd a
 more_words w n d m ws (Run k) r a b = absurd a
 more_words w n d m ws (View j) r a b = absurd a
 more_words w n d m ws (Mirror h) r a b = absurd a

@@ -46,6 +46,9 @@ view-reads j = record { source = λ no. no; how = λ e old new how. how }
 pub mirror-reads : (h : ℕ) → ReadsInput (request.Mirror h)
 mirror-reads h = record { source = λ no. no; how = λ e old new how. how }
 
+pub lift-reads : ReadsInput request.Lift
+lift-reads = record { source = λ no. no; how = λ e old new how. how }
+
 -- ---- how much was taken
 
 abbrev Taken : Type 0 → Option (List ℕ) → Option (List ℕ) → Type 0
@@ -166,6 +169,9 @@ plain-view j old new = record { taps = λ input H. tt; back = λ input H e nothi
 
 pub plain-mirror : (h : ℕ) (old new : Outside) → IsPlain (request.Mirror h) old new
 plain-mirror h old new = record { taps = λ input H. tt; back = λ input H e nothing. nothing }
+
+pub plain-lift : (old new : Outside) → IsPlain request.Lift old new
+plain-lift old new = record { taps = λ input H. tt; back = λ input H e nothing. nothing }
 
 pub text-ends : {X : Type 0} (r : Request) → ReadsInput r → (items : X → List ℕ) (e : Ended)
     (old new : Outside) → NoCountFalls old new → IsPlain r old new → HandsNothing e →

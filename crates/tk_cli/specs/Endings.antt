@@ -1,13 +1,15 @@
 -- How the top call ends.
-use Rattle.std.specs.Prelude.{◌≡◌, ◌⊎◌, ℕ, List, [], take, Option, None, Some}
+use Rattle.std.specs.Prelude.{◌≡◌, ◌⊎◌, ℕ, List, [], ◌++◌, take, Option, None, Some}
 use Rattle.tk_io.specs.Content.{Rose, gained, TakesUpTo}
 use Rattle.tk_io.specs.Tapped.{TapsGain, TapsGainFronts, TapsKeep, TapsKeepBut}
 use Rattle.tk_schedule.specs.declared.history.History.{History}
 use Rattle.tk_script.specs.declared.input.Input.{Input}
 use Rattle.tk_script.specs.declared.script.Script.{Script}
 use Rattle.tk_script.specs.Book.{book_of}
-use Rattle.tk_script.specs.Printing.{printed_tape}
-use Rattle.tk_words.specs.Words.{words_of}
+use Rattle.tk_script.specs.Lifting.{lifted_script}
+use Rattle.tk_script.specs.Printing.{printed, printed_tape}
+use Rattle.tk_words.specs.Words.{WordBook, keyed, drawn, words_of}
+use Rattle.tk_words.specs.Lifting.{lifted_book}
 use Rattle.tk_report.specs.Report.{report}
 use Rattle.tk_report.specs.Exchange.{exchange, view, bytes_of}
 use Rattle.tk_privacy.specs.Privacy.{mirror}
@@ -46,6 +48,25 @@ abbrev pub mirror_of : ℕ → Script → Option Script → History → List ℕ
 mirror_of hidden A None H tape = []
 mirror_of hidden A (Some B) H tape = printed_tape (mirror A B H hidden tape)
 
+-- a script, and the tape of a drawn one
+abbrev pub tape_section : WordBook → List ℕ
+tape_section (keyed handles seeds) = []
+tape_section (drawn tape) = printed_tape tape
+
+abbrev pub sections_of : Option Script → WordBook → List ℕ
+sections_of None b = []
+sections_of (Some S) b = printed S ++ tape_section b
+
+-- the sections of a script in format 2 and of its book
+abbrev pub lifted_in : Input → List ℕ
+lifted_in input = sections_of (lifted_script input.first) (lifted_book input.first.shape (book_of input))
+
+-- the text is the section of a script in format 2
+pub record IsLiftedText (S : Script) (text : List ℕ) : Type 0 where
+  pub script : Script
+  pub lifted : lifted_script S ≡ Some script
+  pub is : text ≡ printed script
+
 -- what the sink gains
 abbrev pub output_of : Request → Input → History → List ℕ
 output_of request.Serial input H = report_in input H
@@ -53,6 +74,7 @@ output_of (request.Run workers) input H = report_in input H
 output_of (request.View server) input H = view_in server input H
 output_of (request.Mirror hidden) input H =
     mirror_of hidden input.first input.second H (kept_in input.tape)
+output_of request.Lift input H = lifted_in input
 output_of _ input H = []
 
 -- nothing refuses the input, and this text is what a request gives of it

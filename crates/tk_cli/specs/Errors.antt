@@ -7,6 +7,8 @@ use Rattle.tk_script.specs.declared.book.BookError.{BookError}
 use Rattle.tk_script.specs.declared.book.BookError.TheVariants as book_error
 use Rattle.tk_script.specs.declared.error.ScriptError.{ScriptError}
 use Rattle.tk_script.specs.declared.error.ScriptError.TheVariants as script_error
+use Rattle.tk_words.specs.declared.lifting.LiftError.{LiftError}
+use Rattle.tk_words.specs.declared.lifting.LiftError.TheVariants as lift_error
 use Rattle.tk_run.specs.declared.run_error.RunError.{RunError}
 use Rattle.tk_run.specs.declared.run_error.RunError.TheVariants as run_error
 use Rattle.tk_cli.specs.declared.status.Status.{Status}
@@ -24,6 +26,10 @@ script_status script_error.Memory = status.Memory
 abbrev pub book_status : BookError → Status
 book_status (book_error.Tape want got) = status.Tape want got
 book_status book_error.Memory = status.Memory
+
+abbrev pub lift_status : LiftError → Status
+lift_status (lift_error.Wide want) = status.Wide want
+lift_status lift_error.Memory = status.Memory
 
 abbrev pub history_status : HistoryError → Status
 history_status (history_error.Line at) = status.History at

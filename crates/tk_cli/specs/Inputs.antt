@@ -4,6 +4,7 @@ use Rattle.tk_io.specs.Content.{Rose, before_taking, emptied}
 use Rattle.tk_shape.specs.declared.shape.Shape.{Shape}
 use Rattle.tk_shape.specs.declared.differs.Differs.{Differs}
 use Rattle.tk_shape.specs.Lengths.{tape_len}
+use Rattle.tk_shape.specs.Lifting.{lifted_shape}
 use Rattle.tk_shape.specs.Differences.{first_difference}
 use Rattle.tk_schedule.specs.declared.history.History.{History}
 use Rattle.tk_schedule.specs.declared.raw.RawLine.{RawLine}
@@ -67,6 +68,13 @@ tape_refusal shape None behind = behind
 tape_refusal shape (Some tape) behind =
     cond (tape.got == tape_len shape) behind (Some (status.Tape (tape_len shape) tape.got))
 
+-- the tape of drawn words would be longer in format 2 than a tape may be
+abbrev pub wide_refusal : Shape → Option RawTape → Option Status → Option Status
+wide_refusal shape None behind = behind
+wide_refusal shape (Some tape) behind =
+    let want = tape_len (lifted_shape shape) in
+    cond (nat_lt 2097152 want) (Some (status.Wide want)) behind
+
 -- the scripts' shapes differ
 abbrev pub difference : Shape → Option Script → Option Differs
 difference shape None = None
@@ -103,6 +111,9 @@ refusal_of (request.Mirror hidden) input =
     (shapes_refusal (difference shape input.second)
     (history_refusal (bad_history_line shape input.history)
     (server_refusal hidden shape.servers)))
+refusal_of request.Lift input =
+    let shape = input.first.shape in
+    tape_refusal shape input.tape (wide_refusal shape input.tape None)
 refusal_of _ input = tape_refusal input.first.shape input.tape None
 
 -- all was taken, and what it spells is refused with this status
@@ -164,12 +175,13 @@ abbrev pub TellsIn : Shape → Option (List RawLine) → History → Type 0
 TellsIn shape None H = ⊥
 TellsIn shape (Some raw) H = Tells shape raw H
 
--- a request is done for this history of the input
+-- a request is done for this history of the input; a script is lifted whatever the history
 abbrev pub IsHistoryFor : Request → Input → History → Type 0
 IsHistoryFor request.Serial input H = H ≡ serial_history input.first.shape
 IsHistoryFor (request.Run workers) input H = IsLegal input.first.shape H
 IsHistoryFor (request.View server) input H = TellsIn input.first.shape input.history H
 IsHistoryFor (request.Mirror hidden) input H = TellsIn input.first.shape input.history H
+IsHistoryFor request.Lift input H = Unit {0}
 IsHistoryFor _ input H = ⊥
 
 -- All was taken, and it spells this input, which nothing refuses; and this is a history for which

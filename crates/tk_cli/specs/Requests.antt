@@ -12,6 +12,11 @@ abbrev pub AsksSerial : Words → Type 0
 AsksSerial (word ∷ []) = word ≡ codes "serial"
 AsksSerial _ = ⊥
 
+-- the script in format 2
+abbrev pub AsksLift : Words → Type 0
+AsksLift (word ∷ []) = word ≡ codes "lift"
+AsksLift _ = ⊥
+
 -- the plain decimal of a number of 32 bits, and of one of 64
 abbrev pub IsSmall : ℕ → List ℕ → Type 0
 IsSmall n text = (n < 2 ^ 32) × (text ≡ decimal n)
@@ -82,7 +87,7 @@ AsksSomeTally words = (n : ℕ) × AsksTally words n
 abbrev pub AsksNothing : Words → Type 0
 AsksNothing words =
     ¬ (AsksSerial words ⊎ AsksSomeRun words ⊎ AsksSomeView words ⊎ AsksSomeMirror words
-    ⊎ AsksSomeHandle words ⊎ AsksSomeMake words ⊎ AsksSomeTally words)
+    ⊎ AsksSomeHandle words ⊎ AsksSomeMake words ⊎ AsksSomeTally words ⊎ AsksLift words)
 
 abbrev pub Asks : Words → Request → Type 0
 Asks words request.Serial = AsksSerial words
@@ -92,4 +97,5 @@ Asks words (request.Mirror hidden) = AsksMirror words hidden
 Asks words (request.Handle id root) = AsksHandle words id root
 Asks words (request.Make n) = AsksMake words n
 Asks words (request.Tally n) = AsksTally words n
+Asks words request.Lift = AsksLift words
 Asks words request.Nothing = AsksNothing words

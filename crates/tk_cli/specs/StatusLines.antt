@@ -4,7 +4,7 @@ use Rattle.tk_shape.specs.declared.field.Field.{Field}
 use Rattle.tk_shape.specs.Names.{field_name}
 use Rattle.tk_script.specs.CauseText.{cause_text, spaced}
 use Rattle.tk_cli.specs.declared.status.Status.{Status}
-use Rattle.tk_cli.specs.declared.status.Status.TheVariants.{Done, Memory, Usage, Script, Read, Write, TooLong, History, Shapes, Tape, Hidden}
+use Rattle.tk_cli.specs.declared.status.Status.TheVariants.{Done, Memory, Usage, Script, Read, Write, TooLong, History, Shapes, Tape, Hidden, Wide}
 
 abbrev pub code_of : Status → ℕ
 code_of Done = 0
@@ -18,6 +18,7 @@ code_of (History at) = 7
 code_of (Shapes field a b) = 8
 code_of (Tape want got) = 9
 code_of (Hidden got servers) = 10
+code_of (Wide want) = 12
 
 abbrev pub differing_text : Field → List ℕ
 differing_text field = codes "talek: shapes " ++ field_name field
@@ -40,3 +41,4 @@ status_text (History at) = codes "talek: history line" ++ spaced at
 status_text (Shapes field a b) = shapes_text field a b
 status_text (Tape want got) = codes "talek: tape" ++ spaced want ++ spaced got
 status_text (Hidden got servers) = hidden_text got servers
+status_text (Wide want) = codes "talek: tape over" ++ spaced want

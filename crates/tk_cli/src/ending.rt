@@ -7,6 +7,7 @@ use tk_run::RunError;
 use tk_schedule::HistoryError;
 use tk_script::{BookError, ScriptError};
 use tk_shape::Memory;
+use tk_words::LiftError;
 
 impl From<ReadError> for Status {
     ghost use Rattle.tk_cli.specs.Errors.{read_status};
@@ -44,6 +45,19 @@ impl From<BookError> for Status {
         match error {
             BookError::Tape { want, got } => Status::Tape { want, got },
             BookError::Memory => Status::Memory,
+        }
+    }
+}
+
+impl From<LiftError> for Status {
+    ghost use Rattle.tk_cli.specs.Errors.{lift_status};
+
+    ghost from_gives = { λ e s. s ≡ lift_status e };
+
+    fn from(error: LiftError) -> Status {
+        match error {
+            LiftError::Wide { want } => Status::Wide { want },
+            LiftError::Memory => Status::Memory,
         }
     }
 }

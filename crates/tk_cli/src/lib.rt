@@ -7,6 +7,7 @@ mod exit;
 mod handle_word;
 mod input;
 mod laws;
+mod lift_word;
 mod make_word;
 mod mirror_word;
 mod request;

@@ -22,6 +22,8 @@ pub(crate) enum Request {
     Make { number: u64 },
     /// What comes of its serial run.
     Tally { number: u64 },
+    /// The script in format 2.
+    Lift,
     /// None of the forms.
     Nothing,
 }
@@ -46,6 +48,9 @@ fn asked_alone(word: &[u8]) -> Request
     }
     if word == b"run".as_slice() {
         return Request::Run { workers: 1 };
+    }
+    if word == b"lift".as_slice() {
+        return Request::Lift;
     }
     Request::Nothing
 }

@@ -6,7 +6,7 @@ use tk_script::{Cause, push_cause, push_field, push_number};
 use tk_shape::{Field, Memory};
 
 /// How the top call ended. In order: the words are asked first, then what is read, then what is written. What
-/// is read is asked for its first line that is refused, for its tape, for the shapes of its scripts, for its
+/// is read is asked for its first line that is refused, for its tape and what that becomes, for the shapes of its scripts, for its
 /// history, and then for the server that the words name.
 #[derive(Clone, Copy, Debug, PartialEq, Eq)]
 pub enum Status {
@@ -32,6 +32,8 @@ pub enum Status {
     Tape { want: u64, got: u64 },
     /// The words name a server that isn't one of the shape's, which are numbered from 1.
     Hidden { got: u32, servers: u32 },
+    /// In format 2 the tape would have this many bytes, more than 2,097,152.
+    Wide { want: u64 },
 }
 
 impl Status {
@@ -51,6 +53,7 @@ impl Status {
             Status::Shapes { .. } => 8,
             Status::Tape { .. } => 9,
             Status::Hidden { .. } => 10,
+            Status::Wide { .. } => 12,
         }
     }
 }
@@ -94,6 +97,10 @@ fn push_text(alloc: Global, status: &Status, out: &mut Vec<u8>) -> Result<(), Me
             push_field(alloc, *got, out)?;
         }
         Status::Hidden { got, servers } => push_hidden(alloc, *got, *servers, out)?,
+        Status::Wide { want } => {
+            out.extend_from_slice(b"talek: tape over")?;
+            push_field(alloc, *want, out)?;
+        }
     }
     Ok(())
 }

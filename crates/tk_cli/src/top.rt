@@ -6,6 +6,7 @@ ghost use Rattle.tk_cli.specs.Requests.{Asks, AsksNothing};
 
 use crate::ended::Ended;
 use crate::handle_word::handle_line;
+use crate::lift_word::lift_text;
 use crate::make_word::make_text;
 use crate::mirror_word::mirror_text;
 use crate::request::{Request, request_of};
@@ -48,6 +49,7 @@ pub fn talek<R: Threads + Wait + Sync + AllocGlobal, S: Source, K: Sink, T: Taps
         Request::Handle { id, root } => answer(handle_line(alloc, id, &root), sink),
         Request::Make { number } => answer(make_text(alloc, number), sink),
         Request::Tally { number } => answer(tally_text(alloc, number), sink),
+        Request::Lift => answer(lift_text(alloc, source), sink),
         Request::Nothing => Ended::without(Status::Usage),
     }
 }

@@ -5,9 +5,10 @@ use Rattle.tk_script.specs.declared.form.Form.TheVariants as form
 use Rattle.tk_cli.specs.declared.request.Request.{Request}
 use Rattle.tk_cli.specs.declared.status.Status.{Status}
 use Rattle.tk_cli.specs.Errors.{book_status}
+use Rattle.tk_cli.specs.Limits.{input_limit}
 use Rattle.tk_cli.specs.Inputs.{IsOfRuns, Refuses, Stops}
 use Rattle.tk_cli.proofs.ErrorLaws.{err_then}
-use Rattle.tk_cli.proofs.InputLaws.{book-accepts, book-refuses, run-stops}
+use Rattle.tk_cli.proofs.InputLaws.{book-accepts, book-refuses, run-stops, not_over, ok_long}
 use Rattle.tk_cli.proofs.input.ready.Goals as goal
 
 pub returns-in_err-book-clause-stopped : goal.returns-in_err-book-clause-stopped
@@ -38,3 +39,14 @@ returns-clause-ready g c =
       shape = got.shape;
       words = got.words;
     }
+
+pub returns-clause-taken : goal.returns-clause-taken
+returns-clause-taken g c =
+    let left = g.S.Source.left c.args.source.now in
+    let left' = g.S.Source.left c.input_from.new.source in
+    let taken = c.in_ok-first.ensures.taken in
+    let input = c.in_ok-first.field-0 in (
+      taken.0,
+      not_over input_limit left left' taken.0 taken.1 (ok_long input)
+          (ok_long (input.first, c.in_ok-book.book)),
+    )

@@ -4,7 +4,8 @@ use Rattle.tk_cli.specs.declared.request.Request.TheVariants as request
 use Rattle.tk_cli.specs.Endings.{Ends}
 use Rattle.tk_cli.specs.Outside.{outside}
 use Rattle.tk_cli.proofs.EndingLaws.{usage-is, ends-as}
-use Rattle.tk_cli.proofs.WordLaws.{text-ends, view-reads, mirror-reads, plain-view, plain-mirror}
+use Rattle.tk_cli.proofs.WordLaws.{text-ends, view-reads, mirror-reads, lift-reads}
+use Rattle.tk_cli.proofs.WordLaws.{plain-view, plain-mirror, plain-lift}
 use Rattle.tk_cli.proofs.WordLaws.{text-written, usage-ends}
 use Rattle.tk_cli.proofs.WordLaws.{handle-reads_nothing, make-reads_nothing, tally-reads_nothing}
 use Rattle.tk_cli.proofs.RequestLaws.{crew-of}
@@ -142,6 +143,34 @@ returns-in-Tally g c =
     record {
       usage = usage-is words q e _ _ c.in-Tally.ensures ends;
       ends = ends-as words q e _ _ c.in-Tally.ensures ends;
+    }
+
+pub returns-in-Lift : goal.returns-in-Lift
+returns-in-Lift g c =
+    let words = c.args.words.now in
+    let e = c.answer-in-Lift.result in
+    let told = c.answer-in-Lift.ensures in
+    let old = outside (g.S.Source.left c.args.source.now) (g.S.Source.faults c.args.source.now)
+    (g.K.Sink.held c.args.sink.now) (g.K.Sink.faults c.args.sink.now)
+    (g.T.Taps.tap c.args.taps.now) (g.T.Taps.faults c.args.taps.now) in
+    let new = outside (g.S.Source.left c.lift_text.new.source)
+    (g.S.Source.faults c.lift_text.new.source) (g.K.Sink.held c.answer-in-Lift.new.sink)
+    (g.K.Sink.faults c.answer-in-Lift.new.sink) (g.T.Taps.tap c.args.taps.now)
+    (g.T.Taps.faults c.args.taps.now) in
+    let ends : Ends request.Lift e old new =
+    text-ends request.Lift lift-reads (λ text. text.items) e old new
+    (record {
+      source = c.lift_text.ensures.counts;
+      sink = told.counts;
+      taps = omega arith;
+    })
+    (plain-lift old new) told.nothing
+    (record { tap = λ j. refl; faults = refl }) c.lift_text.result
+    c.lift_text.ensures.made c.lift_text.ensures.stopped c.lift_text.ensures.taken
+    told.puts told.status told.quiet in
+    record {
+      usage = usage-is words request.Lift e old new c.in-Lift.ensures ends;
+      ends = ends-as words request.Lift e old new c.in-Lift.ensures ends;
     }
 
 pub returns-in-Nothing : goal.returns-in-Nothing
