@@ -17,11 +17,12 @@ use Rattle.tk_frames.proofs.Offers.{order-push, order-none}
 use Rattle.tk_report.specs.Entries.{write_at, entries_at, entries_before}
 use Rattle.tk_report.specs.Exchange.{turn_frames, frames_before, read_seen}
 use Rattle.tk_report.specs.Turns.{placed_before}
+use Rattle.tk_report.proofs.Offers.{flat_map-next}
 use Rattle.tk_privacy.specs.Hiding.{read_in}
 use Rattle.tk_privacy.specs.Reads.{all_reads}
 use Rattle.tk_privacy.specs.Views.{HasCounted, HasEntered, frame_in}
 use Rattle.tk_privacy.specs.declared.watching.Seen.{Seen}
-use Rattle.tk_privacy.proofs.ReadsLaws.{flat_map-more, read-in}
+use Rattle.tk_privacy.proofs.ReadsLaws.{read-in}
 use Rattle.tk_privacy.proofs.Seen.{same-flat}
 
 -- ---- the entries of a turn
@@ -80,7 +81,7 @@ frames-next S w H reads g old now new before entered asked =
     ∙ ap (λ (xs : List (List ℕ)). xs ++ back) entered
     ∙ append_assoc old front back
     ∙ ap (λ (xs : List (List ℕ)). xs ++ (front ++ back)) before
-    ∙ sym (flat_map-more (turn_frames S.shape H (write_at S w) (frame_in S.shape reads)) g)
+    ∙ sym (flat_map-next (turn_frames S.shape H (write_at S w) (frame_in S.shape reads)) g)
 
 -- ---- all
 

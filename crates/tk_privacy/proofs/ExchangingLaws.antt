@@ -3,20 +3,13 @@ use Rattle.std.proofs.Common.{◌≡◌, ◌∙◌, ap, ap₂, sym, ℕ, ◌+◌
 use Rattle.std.proofs.Common.{flat_map, length}
 use Rattle.std.proofs.Common.{zero-add, append_assoc, take, drop, ◌-◌, ◌*◌}
 use Rattle.std.specs.List.{range_with_len}
-use Rattle.std.proofs.lemmas.List.{flat_map_more, map-id}
-use Rattle.std.proofs.lemmas.List.FromFn.{map-range_with_len_more}
+use Rattle.std.proofs.lemmas.List.{flat_map_more}
 use Rattle.tk_shape.specs.declared.shape.Shape.{Shape}
 use Rattle.tk_kernel.specs.Xor.{xor_bytes}
 use Rattle.tk_seal.specs.Seal.{plain}
 use Rattle.tk_words.specs.Words.{cell_pad, cell_tag}
+use Rattle.tk_report.proofs.Offers.{range-next}
 use Rattle.tk_privacy.specs.Privacy.{masked_cell, cells}
-
--- the numbers up to one are those below it and itself
-pub numbers-more : (n : ℕ) → range_with_len 0 (n + 1) ≡ range_with_len 0 n ++ n ∷ []
-numbers-more n =
-    sym (map-id (range_with_len 0 (n + 1)))
-    ∙ map-range_with_len_more {X = ℕ} (λ k. k) 0 n n (zero-add n)
-    ∙ ap (λ numbers. numbers ++ n ∷ []) (map-id (range_with_len 0 n))
 
 -- one cell more, after what was there and those before it
 pub next_cell : (f : ℕ → List ℕ) (n : ℕ) (old before new : List ℕ) → before ≡ old ++ cells n f →
@@ -25,7 +18,7 @@ next_cell f n old before new before_is new_is =
     new_is
     ∙ ap (λ (front : List ℕ). front ++ f n) before_is
     ∙ flat_map_more f old (range_with_len 0 n) n
-    ∙ ap (λ numbers. old ++ flat_map f numbers) (sym (numbers-more n))
+    ∙ ap (λ numbers. old ++ flat_map f numbers) (sym (range-next n))
 
 -- ---- a write cell
 

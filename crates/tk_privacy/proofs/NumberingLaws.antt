@@ -15,6 +15,7 @@ use Rattle.tk_script.specs.declared.script.Script.{Script}
 use Rattle.tk_script.specs.Sent.{Sending, sendings_from, in_run, is_numbered, sent_as, writer_of}
 use Rattle.tk_script.proofs.Offers.{of_log, of_log-cons}
 use Rattle.tk_report.specs.Listings.{sent_by}
+use Rattle.tk_report.proofs.Offers.{none-late}
 
 -- what is lent of a list at a place is what stands there
 pub got-at : {X : Type 0} (xs : List X) (i : ℕ) (r : Option (Bor X)) → IsItemAt xs i r →
@@ -25,20 +26,6 @@ got-at xs i (Some x) h = sym (slice_get_read xs (length xs) i x.now refl h.3.0 h
 -- whether it is of this log
 abbrev is_of : ℕ → Sending → Bool
 is_of log y = y.log == log
-
--- after the last turn nothing is sent
-none-late : (shape : Shape) (free : ℕ) (earlier says : List Say) → turn_count shape ≤ free →
-    filter (in_run shape) (sendings_from shape free earlier says) ≡ []
-unfolding sendings_from
-none-late shape free earlier [] late = refl
-none-late shape free earlier (y ∷ says) late =
-    let turn = max (turn_at shape y.phase y.tick) free in
-    let rest = filter (in_run shape) (sendings_from shape (turn + 1) (y ∷ earlier) says) in
-    let x : Sending =
-    record { turn = turn; log = y.log; number = of_log y.log earlier; text = y.text }
-    in
-    ap (λ b. cond b (x ∷ rest) rest) (le-ltb turn (turn_count shape) (omega (arith, late)))
-    ∙ none-late shape (turn + 1) (y ∷ earlier) says (omega (arith, late))
 
 -- one that is of the log, and has the number of those of the log before it, comes first
 own-first : (log n k : ℕ) (x : Sending) (ys : List Sending) → x.log ≡ log → x.number ≡ n →

@@ -7,24 +7,19 @@ use Rattle.std.specs.Prelude.{slice_index_or, Result, Ok, Err, IfOk}
 use Rattle.std.specs.List.{range_with_len}
 use Rattle.std.proofs.lemmas.List.{get_or_append_left, get_or-append-add}
 use Rattle.std.proofs.lemmas.List.FromFn.{length-map-range_with_len, get_or-map-range_with_len}
-use Rattle.std.proofs.lemmas.Grind.{flat_map-append}
 use Rattle.tk_shape.specs.Lengths.{turn_count}
 use Rattle.tk_schedule.specs.declared.history.History.{History}
 use Rattle.tk_schedule.specs.Schedule.{epoch_at}
 use Rattle.tk_script.specs.declared.script.Script.{Script}
 use Rattle.tk_words.specs.Words.{WordBook, drawn, IsBook, words_of}
 use Rattle.tk_frames.specs.declared.read_frame.ReadFrame.{ReadFrame}
-use Rattle.tk_client.specs.Looking.{FollowerState, new_follower}
-use Rattle.tk_words.specs.Words.{BookWords}
-use Rattle.tk_report.specs.Clients.{AreFollowers, follower_before}
 use Rattle.tk_client.specs.Framing.{AreAllTold}
 use Rattle.tk_client.proofs.Offers.{frame-told}
 use Rattle.tk_report.specs.Exchange.{read_pair, read_at}
-use Rattle.tk_report.specs.Report.{follows_of, reader_before}
+use Rattle.tk_report.proofs.Offers.{flat_map-next}
 use Rattle.tk_privacy.specs.Hiding.{read_in, blank_read}
 use Rattle.tk_privacy.specs.Reads.{reads_at, reads_before, all_reads}
 use Rattle.tk_privacy.specs.Steps.{AreLastReads}
-use Rattle.tk_privacy.proofs.ExchangingLaws.{numbers-more}
 
 -- ---- rows of one length
 
@@ -109,38 +104,14 @@ found-counted items (Err e) S b H j are = tt
 
 -- ---- turn after turn
 
--- what one more number gives
-pub flat_map-more : {A : Type 0} (f : ℕ → List A) (n : ℕ) →
-    flat_map f (range_with_len 0 (n + 1)) ≡ flat_map f (range_with_len 0 n) ++ f n
-flat_map-more f n =
-    ap (flat_map f) (numbers-more n)
-    ∙ flat_map-append f (range_with_len 0 n) (n ∷ [])
-    ∙ ap (λ (xs : List _). flat_map f (range_with_len 0 n) ++ xs) (append-nil (f n))
-
 pub reads-next : (S : Script) (b : WordBook) (H : History) (j g : ℕ) →
     reads_before S b H j (g + 1) ≡ reads_before S b H j g ++ reads_at S b H j g
 unfolding reads_before
-reads-next S b H j g = flat_map-more (reads_at S b H j) g
+reads-next S b H j g = flat_map-next (reads_at S b H j) g
 
 pub reads-none : (S : Script) (b : WordBook) (H : History) (j : ℕ) → [] ≡ reads_before S b H j 0
 unfolding reads_before
 reads-none S b H j = refl
-
--- ---- before the first turn
-
-first-look : (S : Script) (w : BookWords) (H : History) (c : ℕ) →
-    new_follower S.shape (follows_of S c) ≡ follower_before S w H 0 c
-unfolding reader_before
-first-look S w H c = refl
-
-pub followers-first : (S : Script) (w : BookWords) (H : History) (followers : List FollowerState) →
-    AreFollowers S.shape.clients (λ c. new_follower S.shape (follows_of S c)) followers →
-    AreFollowers S.shape.clients (follower_before S w H 0) followers
-followers-first S w H followers are =
-    record {
-      counted = are.counted;
-      each = λ c d low. are.each c d low ∙ first-look S w H c;
-    }
 
 -- ---- vectors that seeds alone tell
 

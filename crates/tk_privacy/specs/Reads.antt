@@ -6,11 +6,10 @@ use Rattle.tk_schedule.specs.declared.history.History.{History}
 use Rattle.tk_script.specs.declared.script.Script.{Script}
 use Rattle.tk_words.specs.Words.{WordBook, words_of}
 use Rattle.tk_frames.specs.declared.read_frame.ReadFrame.{ReadFrame}
-use Rattle.tk_report.specs.Clients.{AreClients, client_knowing, known_first}
-use Rattle.tk_report.specs.Clients.{AreFollowers, follower_before}
+use Rattle.tk_report.specs.Clients.{known_first, AreFollowers, follower_before}
 use Rattle.tk_report.specs.Exchange.{read_at}
 use Rattle.tk_report.specs.Ledgers.{Keeps}
-use Rattle.tk_report.specs.Queues.{said_before}
+use Rattle.tk_report.specs.Groups.{IsGroup}
 use Rattle.tk_report.specs.Turns.{placed_before}
 use Rattle.tk_privacy.specs.declared.reads.Fold.{Fold}
 
@@ -29,8 +28,7 @@ all_reads S b H j = reads_before S b H j (turn_count S.shape)
 -- before turn g all is as the definitions say of it, and the reads so far are those of server j
 pub record IsFoldBefore (S : Script) (b : WordBook) (H : History) (j g : ℕ) (f : Fold)
     : Type 0 where
-  pub said : f.said ≡ said_before S g
-  pub clients : AreClients S.shape.clients (client_knowing S (known_first S) g) f.clients.items
+  pub group : IsGroup S (known_first S) g f.group
   pub followers : AreFollowers S.shape.clients (follower_before S (words_of S.shape b) H g)
       f.followers.items
   pub ledger : Keeps S.shape (placed_before S (words_of S.shape b) H g) f.ledger

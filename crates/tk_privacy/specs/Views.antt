@@ -8,10 +8,10 @@ use Rattle.tk_frames.specs.declared.entry.Placed.{Placed}
 use Rattle.tk_frames.specs.declared.read_frame.ReadFrame.{ReadFrame}
 use Rattle.tk_frames.specs.InOrder.{IsOrder}
 use Rattle.tk_frames.specs.Spelling.{placed_frame, read_frame}
-use Rattle.tk_report.specs.Clients.{AreClients, client_knowing, known_first}
+use Rattle.tk_report.specs.Clients.{known_first}
 use Rattle.tk_report.specs.Entries.{write_at}
 use Rattle.tk_report.specs.Exchange.{frames_before}
-use Rattle.tk_report.specs.Queues.{said_before}
+use Rattle.tk_report.specs.Groups.{IsGroup}
 use Rattle.tk_report.specs.Turns.{placed_before}
 use Rattle.tk_privacy.specs.declared.watching.Seen.{Seen}
 use Rattle.tk_privacy.specs.declared.viewing.Viewed.{Viewed}
@@ -36,8 +36,7 @@ pub record HasEntered (was : Seen) (shape : Shape) (E F : List Placed) (is : See
 -- and of these reads
 pub record IsViewBefore (S : Script) (b : WordBook) (H : History) (reads : List ReadFrame) (g : ℕ)
     (v : Viewed) : Type 0 where
-  pub said : v.said ≡ said_before S g
-  pub clients : AreClients S.shape.clients (client_knowing S (known_first S) g) v.clients.items
+  pub group : IsGroup S (known_first S) g v.group
   pub entered : HasCounted S.shape (placed_before S (words_of S.shape b) H g) v.seen
   pub frames : v.seen.frames.items
       ≡ frames_before S.shape H (write_at S (words_of S.shape b)) (frame_in S.shape reads) g

@@ -6,20 +6,18 @@ ghost use Rattle.tk_privacy.specs.Reads as reads;
 
 use crate::asking::{Spot, ask_turn};
 use std::alloc::Global;
-use tk_client::{Client, Follower};
+use tk_client::Follower;
 use tk_frames::ReadFrame;
-use tk_report::{Ledger, Plan, open_clients, open_followers, read_turn, say_turn, write_turn};
+use tk_report::{Group, Ledger, Plan, open_followers, read_turn};
 use tk_script::Script;
 use tk_shape::Memory;
 use tk_words::Draws;
 
-/// A history as far as it was gone through: how many texts were said, the clients that write, one
-/// for each who reads in its place, what the entries leave for reads, and the read frames that one
-/// server sees.
+/// A history as far as it was gone through: the clients that write, one for each who reads in its
+/// place, what the entries leave for reads, and the read frames that one server sees.
 #[derive(Drop)]
 pub(crate) struct Fold {
-    pub said: usize,
-    pub clients: Vec<Client>,
+    pub group: Group,
     pub followers: Vec<Follower>,
     pub ledger: Ledger,
     pub reads: Vec<ReadFrame>,
@@ -49,8 +47,7 @@ fn open_fold(alloc: Global, script: &Script) -> Result<Fold, Memory>
         → IfOk result (reads.IsFoldBefore script.now b H j 0) }
 {
     Ok(Fold {
-        said: 0,
-        clients: open_clients(alloc, script)?,
+        group: Group::open(alloc, script)?,
         followers: open_followers(alloc, script)?,
         ledger: Ledger::open(alloc, &script.shape)?,
         reads: Vec::new(alloc),
@@ -73,9 +70,7 @@ fn take_turn<D: Draws>(
     ensures { OnOk result (reads.IsFoldBefore plan.now.script.now (D.book plan.now.draws.now)
         plan.now.history.now spot.server (spot.turn + 1) fold.new) }
 {
-    let clients = fold.clients.as_mut_slice();
-    fold.said = say_turn(alloc, plan.script, spot.turn, fold.said, clients)?;
-    write_turn(alloc, plan, spot.turn, clients, &mut fold.ledger)?;
+    fold.group.write(alloc, plan, spot.turn, &mut fold.ledger)?;
     let followers = fold.followers.as_mut_slice();
     let mut asked = ask_turn(alloc, plan, spot, &fold.ledger, followers)?;
     read_turn(alloc, plan, spot.turn, &fold.ledger, followers)?;

@@ -12,19 +12,17 @@ ghost use Rattle.tk_privacy.specs.Views.{IsViewBefore, frame_in};
 use crate::reads::all_reads;
 use crate::watching::Seen;
 use std::alloc::Global;
-use tk_client::Client;
 use tk_frames::ReadFrame;
-use tk_report::{Plan, open_clients, say_turn, write_turn};
+use tk_report::{Group, Plan};
 use tk_schedule::History;
 use tk_script::Script;
 use tk_shape::{Bytes, Memory};
 use tk_words::Draws;
 
-/// A run as far as it was seen: how many texts were said, the clients that write, and the frames.
+/// A run as far as it was seen: the clients that write, and the frames.
 #[derive(Drop)]
 pub(crate) struct Viewed {
-    pub said: usize,
-    pub clients: Vec<Client>,
+    pub group: Group,
     pub seen: Seen,
 }
 
@@ -85,8 +83,7 @@ fn open_view(alloc: Global, script: &Script) -> Result<Viewed, Memory>
         → IfOk result (IsViewBefore script.now b H reads 0) }
 {
     Ok(Viewed {
-        said: 0,
-        clients: open_clients(alloc, script)?,
+        group: Group::open(alloc, script)?,
         seen: Seen {
             entries: 0,
             frames: Vec::new(alloc),
@@ -111,9 +108,7 @@ fn view_turn<D: Draws>(
     ensures { OnOk result (IsViewBefore plan.now.script.now (D.book plan.now.draws.now)
         plan.now.history.now reads.now (turn + 1) viewed.new) }
 {
-    let clients = viewed.clients.as_mut_slice();
-    viewed.said = say_turn(alloc, plan.script, turn, viewed.said, clients)?;
-    write_turn(alloc, plan, turn, clients, &mut viewed.seen)?;
+    viewed.group.write(alloc, plan, turn, &mut viewed.seen)?;
     viewed.seen.ask(alloc, &plan.script.shape, turn, reads)?;
     Ok(())
 }

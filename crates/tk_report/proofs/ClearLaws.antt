@@ -17,6 +17,7 @@ use Rattle.tk_frames.specs.Order.{Record, records}
 use Rattle.tk_frames.specs.Slots.{text_in}
 use Rattle.tk_frames.specs.Lists.{IsIn}
 use Rattle.tk_frames.proofs.Offers.{in_from_contains, contains_from_in}
+use Rattle.tk_table.proofs.Offers.{all_true}
 use Rattle.tk_report.specs.Entries.{entries}
 use Rattle.tk_report.specs.PassingOver.{IsRecordOf}
 use Rattle.tk_report.specs.Delivered.{IsClear, is_number, is_clear_at, is_clear, ClearIsTested}
@@ -28,14 +29,6 @@ use Rattle.tk_report.proofs.WrittenLaws.{write_at-turn, write_at-client, each-is
 both : (a b : Bool) → a ≡ true → b ≡ true → (a && b) ≡ true
 both true b p q = q
 both false b p q = absurd (cc p)
-
-all-at : {X : Type 0} (test : X → Bool) (xs : List X) (x : X) → list_all test xs ≡ true →
-    IsIn xs x → test x ≡ true
-all-at test [] x all there = absurd there
-all-at test (y ∷ xs) x all (inl e) =
-    ap test (sym e) ∙ (parts (test y) (list_all test xs) all).0
-all-at test (y ∷ xs) x all (inr there) =
-    all-at test xs x (parts (test y) (list_all test xs) all).1 there
 
 all-from : {X : Type 0} (test : X → Bool) (xs : List X) → ((x : X) → IsIn xs x → test x ≡ true) →
     list_all test xs ≡ true
@@ -115,17 +108,17 @@ clear-from_test S w H test =
     let all = records (entries S w H) in
     record {
       own = λ r log s text there number gives.
-          let by_record = all-at
+          let by_record = all_true
           (λ (q : Record). list_all
           (λ l. list_all (is_clear_at S w q l) (range_with_len 0 (turn_count S.shape)))
           (range_with_len 0 S.shape.logs)) all r test (in_from_contains all r there)
           in
-          let by_log = all-at
+          let by_log = all_true
           (λ l. list_all (is_clear_at S w r l) (range_with_len 0 (turn_count S.shape)))
           (range_with_len 0 S.shape.logs) log by_record
           (in-range 0 S.shape.logs log (omega arith) (omega (arith, number.log_in)))
           in
-          let by_number = all-at (is_clear_at S w r log) (range_with_len 0 (turn_count S.shape)) s
+          let by_number = all_true (is_clear_at S w r log) (range_with_len 0 (turn_count S.shape)) s
           by_log
           (in-range 0 (turn_count S.shape) s (omega arith) (omega (arith, number.number_in)))
           in

@@ -2,7 +2,8 @@
 use Rattle.std.proofs.Common.{◌≡◌, ◌∙◌, refl, ap, ap₂, sym, subst, arith}
 use Rattle.std.proofs.Common.{ℕ, zero, suc, ◌+◌, ◌<◌, ◌≤◌, add-one, append-nil}
 use Rattle.std.proofs.Common.{Bool, true, false, cond, List, [], ◌∷◌, ◌++◌, length, filter}
-use Rattle.std.proofs.Common.{inl, inr, length-append}
+use Rattle.std.proofs.Common.{inl, inr, length-append, flat_map}
+use Rattle.std.proofs.lemmas.Grind.{flat_map-append}
 use Rattle.std.proofs.Math.ListN.{get_or-append}
 use Rattle.std.proofs.lemmas.Bool.{cases_lt}
 use Rattle.std.specs.Prelude.{All, slice_index, slice_index_or}
@@ -18,9 +19,12 @@ use Rattle.tk_client.specs.Client.{ClientState, new_client}
 use Rattle.tk_client.specs.Looking.{FollowerState, new_follower}
 use Rattle.tk_report.specs.Clients.{AreClients, client_before, client_knowing}
 use Rattle.tk_report.specs.Clients.{known_first, known_before, AreFollowers, follower_before, joined}
+use Rattle.tk_report.specs.Groups.{IsGroup}
 use Rattle.tk_report.specs.Leaving.{got_by, unsent_by}
 use Rattle.tk_report.specs.Queues.{writes_of, writing_before}
 use Rattle.tk_report.specs.Report.{follows_of, reader_before}
+use Rattle.tk_report.specs.declared.group.Group.{Group}
+use Rattle.tk_report.proofs.SayOrder.{said-none}
 
 -- ---- the logs that pass a test
 
@@ -36,14 +40,22 @@ range-more a (suc n) =
     there : a + 1 + n ≡ a + suc n
     there = omega arith
 
--- the logs below one and the log itself
-range-next : (log : ℕ) → range_with_len 0 (log + 1) ≡ range_with_len 0 log ++ log ∷ []
+-- the numbers up to one are those below it and itself
+pub range-next : (log : ℕ) → range_with_len 0 (log + 1) ≡ range_with_len 0 log ++ log ∷ []
 range-next log =
     ap (range_with_len 0) (add-one log) ∙ range-more 0 log
     ∙ ap (λ k. range_with_len 0 log ++ k ∷ []) here
   where
     here : 0 + log ≡ log
     here = omega arith
+
+-- what one more number gives
+pub flat_map-next : {A : Type 0} (f : ℕ → List A) (n : ℕ) →
+    flat_map f (range_with_len 0 (n + 1)) ≡ flat_map f (range_with_len 0 n) ++ f n
+flat_map-next f n =
+    ap (flat_map f) (range-next n)
+    ∙ flat_map-append f (range_with_len 0 n) (n ∷ [])
+    ∙ ap (λ (xs : List _). flat_map f (range_with_len 0 n) ++ xs) (append-nil (f n))
 
 one-more : (p : ℕ → Bool) (log : ℕ) (b : Bool) → p log ≡ b →
     filter p (range_with_len 0 (log + 1))
@@ -210,6 +222,12 @@ clients-know S w H g clients are =
       counted = are.counted;
       each = λ c d low. are.each c d low ∙ knowing-before S w H g c;
     }
+
+-- clients that are so, of whose texts none was said, are the group before the first turn
+pub group-first : (S : Script) (group : Group) → group.said ≡ 0 →
+    AreClients S.shape.clients (client_knowing S (known_first S) 0) group.clients.items →
+    IsGroup S (known_first S) 0 group
+group-first S group none are = record { said = none ∙ sym (said-none S); clients = are }
 
 -- ---- those who look in their place
 

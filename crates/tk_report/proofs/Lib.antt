@@ -34,6 +34,7 @@ pub mod ComingLaws
 pub mod WritingLaws
 pub mod PlacingLaws
 pub mod LedgerLaws
+pub mod Splits
 pub mod ReadingLaws
 pub mod DisplacedLaws
 pub mod SaidLaws

@@ -51,7 +51,8 @@ writer-of S log role at =
 -- ---- what a text brings
 
 -- after the last turn nothing is sent
-none-late : (shape : Shape) (free : ℕ) (earlier says : List Say) → turn_count shape ≤ free →
+-- after the last turn nothing is sent
+pub none-late : (shape : Shape) (free : ℕ) (earlier says : List Say) → turn_count shape ≤ free →
     filter (in_run shape) (sendings_from shape free earlier says) ≡ []
 unfolding sendings_from
 none-late shape free earlier [] late = refl

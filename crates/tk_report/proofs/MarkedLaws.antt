@@ -3,7 +3,7 @@ use Rattle.std.proofs.Common.{◌≡◌, refl, ap, ap₂, sym, ◌∙◌, arith,
 use Rattle.std.proofs.Common.{ℕ, zero, suc, ◌+◌, ◌-◌, ◌<◌, ◌≤◌, Bool, true, false, cond, ◌||◌}
 use Rattle.std.proofs.Common.{List, [], ◌∷◌, ◌++◌, length, count_by, append-nil, append_assoc}
 use Rattle.std.specs.Prelude.{◌==◌}
-use Rattle.std.proofs.lemmas.Bool.{cases_lt}
+use Rattle.std.proofs.lemmas.Bool.{cases_lt, or_right}
 use Rattle.std.proofs.lemmas.List.Sums.{sum_by-append, sum_by-cons}
 use Rattle.tk_shape.specs.declared.shape.Shape.{Shape}
 use Rattle.tk_shape.specs.Lengths.{turn_count}
@@ -49,13 +49,9 @@ any-front e (p ∷ E) F h =
     elim (is_mark_of e p) as (λ b. (b || has_mark e E) ≡ true → (b || has_mark e (E ++ F)) ≡ true)
     [ true ↦ λ _. refl | false ↦ λ rest. any-front e E F rest ] h
 
-or-right : (a b : Bool) → b ≡ true → (a || b) ≡ true
-or-right true b h = refl
-or-right false b h = h
-
 any-behind : (e : ℕ) (E F : List Placed) → has_mark e F ≡ true → has_mark e (E ++ F) ≡ true
 any-behind e [] F h = h
-any-behind e (p ∷ E) F h = or-right (is_mark_of e p) (has_mark e (E ++ F)) (any-behind e E F h)
+any-behind e (p ∷ E) F h = or_right (is_mark_of e p) (has_mark e (E ++ F)) (any-behind e E F h)
 
 -- the marks of a turn, of which the first has number n
 items-marked : (write : ℕ → WriteFrame) (p n e : ℕ) (items : List Item) → n ≤ e →
@@ -68,7 +64,7 @@ items-marked write p n e (Client c ∷ items) low high =
 items-marked write p n e (Publish ∷ items) low high =
     let later = placed_from write (p + 1) (n + 1) items in
     elim (cases_lt n e) [
-      | inl less ↦ or-right (n == e) (has_mark e later)
+      | inl less ↦ or_right (n == e) (has_mark e later)
           (items-marked write (p + 1) (n + 1) e items (omega (arith, less))
           (omega (arith, high, sum_by-cons (λ y. cond (is_mark y) 1 0) Publish items)))
       | inr not_less ↦

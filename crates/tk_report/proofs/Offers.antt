@@ -38,7 +38,14 @@ pub use Rattle.tk_report.proofs.ComingLaws.{IsDue, item-due, in-none, in-past}
 pub use Rattle.tk_report.proofs.ComingLaws.{so_far-none, so_far-all, turn-done}
 pub use Rattle.tk_report.proofs.ListTests.{list_all-at}
 -- what clients know before a run, and in it
-pub use Rattle.tk_report.proofs.ClientsLaws.{clients-first, clients-know}
+pub use Rattle.tk_report.proofs.ClientsLaws.{clients-first, clients-know, group-first}
+pub use Rattle.tk_report.proofs.ClientsLaws.{followers-first}
+-- lists that are changed from the first element on
+pub use Rattle.tk_report.proofs.Splits.{IsSplit, split-none, split-next, split-all}
+pub use Rattle.tk_report.proofs.ClientsLaws.{length-next}
+pub use Rattle.tk_report.proofs.ReadingLaws.{before-next}
+-- numbers, one after the other
+pub use Rattle.tk_report.proofs.ClientsLaws.{range-next, flat_map-next}
 -- what each client sends, listed, and who writes a log
 pub use Rattle.tk_report.proofs.SendingsLaws.{sent_of, sent_each, finds}
-pub use Rattle.tk_report.proofs.ListingLaws.{writer-of}
+pub use Rattle.tk_report.proofs.ListingLaws.{writer-of, none-late}

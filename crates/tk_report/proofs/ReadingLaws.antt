@@ -1,8 +1,7 @@
 -- What a read over an epoch gives.
-use Rattle.std.proofs.Common.{◌≡◌, ◌≢◌, refl, ap, sym, ◌∙◌, subst, arith, add-one}
-use Rattle.std.proofs.Common.{ℕ, ◌+◌, ◌<◌, ◌≤◌, Bool, List, Option, Some, None, length, set}
-use Rattle.std.proofs.Common.{get_or-set_other, get_or-set_same, below_more, length-set}
-use Rattle.std.specs.Prelude.{slice_index_or, Result, Ok, Err, OnOk}
+use Rattle.std.proofs.Common.{◌≡◌, refl, ap, sym, ◌∙◌, subst, arith, add-one}
+use Rattle.std.proofs.Common.{ℕ, ◌+◌, ◌<◌, ◌≤◌, Bool, List, Option, Some, None}
+use Rattle.std.specs.Prelude.{Result, Ok, Err, OnOk}
 use Rattle.tk_shape.specs.declared.shape.Shape.{Shape}
 use Rattle.tk_shape.specs.Lengths.{turn_count}
 use Rattle.tk_schedule.specs.declared.history.History.{History}
@@ -39,7 +38,7 @@ text-answered S b H e (Some t) served legal = bytes-give-lookup S b H e t.log t.
 
 -- ---- a reader
 
-before-next : (S : Script) (w : BookWords) (H : History) (c g : ℕ) →
+pub before-next : (S : Script) (w : BookWords) (H : History) (c g : ℕ) →
     reader_before S w H c (g + 1) ≡ reader_step S w H g c (reader_before S w H c g)
 unfolding reader_before
 before-next S w H c g = ap (reader_before S w H c) (add-one g)
@@ -125,29 +124,6 @@ follower-next S b H g c e held old new served legal is epoch was looks =
   where
     looked : Script → Reader → FollowerState
     looked T r = record { shape = T.shape; reader = r }
-
--- ---- lists of which each element has something of its place
-
--- a new one at a place, after those below it
-pub below-set : {X : Type 0} (P : ℕ → X → Type 0) (xs : List X) (i : ℕ) (x : X) → i < length xs →
-    ((k : ℕ) (d : X) → k < i → P k (slice_index_or xs k d)) → P i x →
-    (k : ℕ) (d : X) → k < i + 1 → P k (slice_index_or (set xs i x) k d)
-below-set {X} P xs i x within below is k d before =
-    below_more (λ n. (e : X) → P n (slice_index_or (set xs i x) n e)) i
-    (λ n less e.
-    let other : n ≢ i = omega (arith, less) in
-    subst (P n) (sym (get_or-set_other xs i n x e other)) (below n e less))
-    (λ e. subst (P i) (sym (get_or-set_same xs i x e within)) is)
-    k before d
-
--- those past the place are as they were
-pub past-set : {X : Type 0} (P : ℕ → X → Type 0) (xs : List X) (i : ℕ) (x : X) →
-    ((k : ℕ) (d : X) → i ≤ k → k < length xs → P k (slice_index_or xs k d)) →
-    (k : ℕ) (d : X) → i + 1 ≤ k → k < length (set xs i x) → P k (slice_index_or (set xs i x) k d)
-past-set P xs i x past k d from within =
-    let other : k ≢ i = omega (arith, from) in
-    subst (P k) (sym (get_or-set_other xs i k x d other))
-    (past k d (omega (arith, from)) (omega (arith, within, length-set xs i x)))
 
 -- ---- what holds where a call goes well
 

@@ -9,6 +9,7 @@ use Rattle.tk_frames.specs.declared.entry.Entry.{Entry}
 use Rattle.tk_frames.specs.declared.entry.Entry.TheVariants.{Write, Mark}
 use Rattle.tk_frames.specs.Order.{Record, record_at, record_in, records}
 use Rattle.tk_table.specs.Ordered.{AscendFrom, HasBuckets, AreOrdered}
+use Rattle.tk_table.proofs.Offers.{ascend-lower}
 use Rattle.tk_report.proofs.EachLaws.{each-front}
 
 -- positions count from a number on
@@ -16,15 +17,11 @@ abbrev pub ArePlacedFrom : ℕ → List Placed → Type 0
 ArePlacedFrom p [] = Unit {0}
 ArePlacedFrom p (x ∷ xs) = (x.position ≡ p) × ArePlacedFrom (p + 1) xs
 
-ascend_from_less : (p q : ℕ) (R : List Record) → p ≤ q → AscendFrom q R → AscendFrom p R
-ascend_from_less p q [] less ascend = tt
-ascend_from_less p q (r ∷ R) less ascend = (omega (arith, less, ascend.0), ascend.1)
-
 pub ascend-entry : (p position : ℕ) (e : Entry) (R : List Record) → position ≡ p →
     AscendFrom (p + 1) R → AscendFrom p (cons_option (record_at position e) R)
 ascend-entry p position (Write w) R here later =
     (omega (arith, here), subst (λ (n : ℕ). AscendFrom (n + 1) R) (sym here) later)
-ascend-entry p position (Mark e) R here later = ascend_from_less p (p + 1) R (omega arith) later
+ascend-entry p position (Mark e) R here later = ascend-lower p (p + 1) R (omega arith) later
 
 pub records-ascend : (p : ℕ) (E : List Placed) → ArePlacedFrom p E → AscendFrom p (records E)
 records-ascend p [] are = tt

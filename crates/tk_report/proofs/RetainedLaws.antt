@@ -20,7 +20,7 @@ use Rattle.tk_frames.specs.Order.{Record, is_mark_of, records, up_to_mark, befor
 use Rattle.tk_frames.specs.Lists.{first_some}
 use Rattle.tk_table.specs.Ordered.{AscendFrom}
 use Rattle.tk_table.specs.Table.{window, has_position, retained}
-use Rattle.tk_table.proofs.Offers.{ascend-above}
+use Rattle.tk_table.proofs.Offers.{ascend-above, all_true}
 use Rattle.tk_table.proofs.Offers.{retained-in_window}
 use Rattle.tk_frames.specs.Lists.{IsIn}
 use Rattle.tk_frames.proofs.Offers.{in_from_contains, contains_from_in, each-in, in_map}
@@ -88,14 +88,6 @@ retained-own shape R r there =
     each-in (IsIn R) (retained shape R) r
     (retained-each (IsIn R) shape R (each-own R R (λ x h. h))) there
 
-test-each : {X : Type 0} (test : X → Bool) (xs : List X) (x : X) → list_all test xs ≡ true →
-    IsIn xs x → test x ≡ true
-test-each test [] x all there = absurd there
-test-each test (y ∷ xs) x all (inl e) =
-    ap test (sym e) ∙ (parts (test y) (list_all test xs) all).0
-test-each test (y ∷ xs) x all (inr there) =
-    test-each test xs x (parts (test y) (list_all test xs) all).1 there
-
 -- one of the records has this position
 record HasPosition (R : List Record) (position : ℕ) : Type 0 where
   found : Record
@@ -124,7 +116,7 @@ in_drop (suc n) (y ∷ xs) x there = inr (in_drop n xs x there)
 retained-inside : (shape : Shape) (R : List Record) (r : Record) → AscendFrom 1 R →
     IsIn (retained shape R) r → IsIn (window shape R) r
 retained-inside shape R r ascend there =
-    let has = test-each (λ (q : Record). has_position (window shape R) q.position)
+    let has = all_true (λ (q : Record). has_position (window shape R) q.position)
     (retained shape R) r (retained-in_window shape R) there
     in
     let here = position-found (window shape R) r.position has in

@@ -7,6 +7,7 @@ use Rattle.std.specs.Prelude.{drop, length}
 use Rattle.std.proofs.lemmas.Slice.Eq.{starts_is}
 use Rattle.std.proofs.lemmas.Bool.Decides.{Decides-eqb}
 use Rattle.std.specs.List.{onto_first}
+use Rattle.std.proofs.lemmas.Bool.{or_right}
 use Rattle.tk_script.specs.Grammar.{Line, lines_of}
 use Rattle.tk_report.specs.Shown.{begins_with}
 use Rattle.tk_report.specs.ReportLines.{stops}
@@ -155,16 +156,12 @@ stops-at text e =
       }
     ] refl e
 
-or-right : (a b : Bool) → b ≡ true → (a || b) ≡ true
-or-right true b h = refl
-or-right false b h = h
-
 pub at-stops : (text rest : List ℕ) →
     (text ≡ codes "log" ++ rest) ⊎ (text ≡ codes "unsent" ++ rest) → stops text ≡ true
 at-stops text rest (inl e) =
     ap (λ b. b || begins_with (codes "unsent") text) (begins-front (codes "log") text rest e)
 at-stops text rest (inr e) =
-    or-right (begins_with (codes "log") text) (begins_with (codes "unsent") text)
+    or_right (begins_with (codes "log") text) (begins_with (codes "unsent") text)
     (begins-front (codes "unsent") text rest e)
 
 -- the text has a first line, and it stops

@@ -14,6 +14,7 @@ pub mod Delivered
 pub mod Turns
 pub mod Taking
 pub mod Ledgers
+pub mod Groups
 pub mod Folds
 pub mod Displaced
 pub mod Counts

@@ -5,24 +5,22 @@ ghost use Rattle.tk_words.specs.Words.{WordBook, words_of};
 ghost use Rattle.tk_report.specs.Clients.{AreClientsAtEnd, joined};
 ghost use Rattle.tk_report.specs.Folds.{IsFoldBefore};
 
+use crate::group::Group;
 use crate::ledger::Ledger;
-use crate::opening::{open_clients, open_followers};
+use crate::opening::open_followers;
 use crate::plan::Plan;
 use crate::reading::read_turn;
-use crate::saying::say_turn;
-use crate::writing::write_turn;
 use std::alloc::Global;
-use tk_client::{Client, Follower};
+use tk_client::Follower;
 use tk_script::Script;
 use tk_shape::Memory;
 use tk_words::Draws;
 
-/// A history as far as it was gone through: how many texts were said, the clients that write, one
-/// for each who reads in its place, and what the entries leave for reads.
+/// A history as far as it was gone through: the clients that write, one for each who reads in its
+/// place, and what the entries leave for reads.
 #[derive(Drop)]
 pub(crate) struct Fold {
-    pub said: usize,
-    pub clients: Vec<Client>,
+    pub group: Group,
     pub followers: Vec<Follower>,
     pub ledger: Ledger,
 }
@@ -32,7 +30,7 @@ pub(crate) fn fold_all<D: Draws>(alloc: Global, plan: &Plan<D>) -> Result<Fold, 
     ensures { let S = plan.now.script.now in
         let words = words_of S.shape (D.book plan.now.draws.now) in
         IfOk result (λ fold. AreClientsAtEnd S words plan.now.history.now
-        (joined fold.clients.items fold.followers.items)) }
+        (joined fold.group.clients.items fold.followers.items)) }
 {
     let mut fold = open_fold(alloc, plan.script)?;
     'turns: for turn in 0..plan.script.shape.turns() {
@@ -46,8 +44,7 @@ fn open_fold(alloc: Global, script: &Script) -> Result<Fold, Memory>
     ensures { (b : WordBook) (H : History) → IfOk result (IsFoldBefore script.now b H 0) }
 {
     Ok(Fold {
-        said: 0,
-        clients: open_clients(alloc, script)?,
+        group: Group::open(alloc, script)?,
         followers: open_followers(alloc, script)?,
         ledger: Ledger::open(alloc, &script.shape)?,
     })
@@ -67,9 +64,7 @@ fn take_turn<D: Draws>(
     ensures { OnOk result (IsFoldBefore plan.now.script.now (D.book plan.now.draws.now)
         plan.now.history.now (turn + 1) fold.new) }
 {
-    let clients = fold.clients.as_mut_slice();
-    fold.said = say_turn(alloc, plan.script, turn, fold.said, clients)?;
-    write_turn(alloc, plan, turn, clients, &mut fold.ledger)?;
+    fold.group.write(alloc, plan, turn, &mut fold.ledger)?;
     let followers = fold.followers.as_mut_slice();
     read_turn(alloc, plan, turn, &fold.ledger, followers)?;
     Ok(())

@@ -36,13 +36,13 @@ impl Left for Clients {
 }
 
 impl Left for Fold {
-    ghost clients = { λ f. joined f.clients.items f.followers.items };
+    ghost clients = { λ f. joined f.group.clients.items f.followers.items };
 
     fn got(&self, client: u32, log: u32) -> &[Got] {
         self.followers[client as usize].log(log)
     }
 
     fn unsent(&self, client: u32) -> u32 {
-        self.clients[client as usize].unsent()
+        self.group.clients[client as usize].unsent()
     }
 }

@@ -6,6 +6,7 @@ mod clients;
 mod count;
 mod displacing;
 mod folding;
+mod group;
 mod history_text;
 mod laws;
 mod ledger;
@@ -34,6 +35,7 @@ mod writing;
 
 pub use clients::Clients;
 pub use displacing::displaced;
+pub use group::Group;
 pub use laws::{
     agreement, clear, delivered, ends, honest_passing_over, laid_out, lifted, marks, one_history,
     queues_send, records_are_shown, told,
@@ -41,19 +43,18 @@ pub use laws::{
 pub use ledger::Ledger;
 pub use listing::all_sent;
 pub use marked::Marked;
-pub use opening::{open_clients, open_followers};
+pub use opening::open_followers;
 pub use outcome::Outcome;
 pub use outcome_text::print_outcome;
 pub use parsing::parse_history;
 pub use plan::Plan;
 pub use reading::{open_to, read_turn};
 pub use reporting::report;
-pub use saying::{count_said, say_turn};
+pub use saying::count_said;
 pub use sendings::Sendings;
 pub use sent::Sent;
 pub use taking::Takes;
 pub use tk_shape::Memory;
-pub use writing::write_turn;
 
 #[cfg(test)]
 mod displaced_tests;

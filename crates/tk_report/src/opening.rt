@@ -12,7 +12,7 @@ use tk_script::Script;
 use tk_shape::Memory;
 
 /// Each client of a script, by number, before the first turn.
-pub fn open_clients(alloc: Global, script: &Script) -> Result<Vec<Client>, Memory>
+pub(crate) fn open_clients(alloc: Global, script: &Script) -> Result<Vec<Client>, Memory>
     ensures { let S = script.now in IfOk result (λ clients.
         AreClients S.shape.clients (client_knowing S (known_first S) 0) clients.items) }
 {

@@ -21,7 +21,7 @@ pub fn count_said(script: &Script) -> Result<u32, Memory>
 /// The texts that are said in a turn, from this place on in the script, join the queues of their
 /// logs' writers. Answers the place after them. Where memory runs out some of them may have joined,
 /// and nothing is promised of the clients.
-pub fn say_turn(
+pub(crate) fn say_turn(
     alloc: Global,
     script: &Script,
     now: u32,

@@ -27,7 +27,7 @@ use tk_words::Draws;
 /// Places each entry of a turn in the order of the history: what each client writes, and the mark
 /// where the turn closes a phase. What clients know as readers stays. Where memory runs out nothing
 /// is promised of clients and taker.
-pub fn write_turn<D: Draws, T: Takes>(
+pub(crate) fn write_turn<D: Draws, T: Takes>(
     alloc: Global,
     plan: &Plan<D>,
     turn: u32,

@@ -1,8 +1,8 @@
 -- What a client takes from the replies to its read.
 use Rattle.std.proofs.Common.{◌≡◌, refl, None, ap, ap₂, sym, subst, ◌∙◌, arith}
-use Rattle.std.proofs.Common.{add-one, ℕ, ◌+◌, ◌<◌, List, [], ◌∷◌, ◌++◌, length, map, Option, Some}
+use Rattle.std.proofs.Common.{ℕ, ◌+◌, ◌<◌, List, [], ◌∷◌, ◌++◌, length, map, Option, Some}
 use Rattle.std.proofs.Common.{zero, suc, ◌≤◌, inl, inr}
-use Rattle.std.specs.Prelude.{slice_index_or, IsSome}
+use Rattle.std.specs.Prelude.{IsSome}
 use Rattle.std.proofs.lemmas.Bool.{cases_lt}
 use Rattle.std.proofs.lemmas.List.FromFn.{length-map-range_with_len}
 use Rattle.std.specs.List.{AllByRecursion, range_with_len}
@@ -38,15 +38,14 @@ use Rattle.tk_schedule.specs.Schedule.{IsLegal, epoch_at}
 use Rattle.tk_shape.specs.Lengths.{turn_count}
 use Rattle.tk_words.specs.Words.{IsBook}
 use Rattle.tk_client.proofs.Offers.{asked-in_range, pair-in_range, fresh-whole}
-use Rattle.tk_report.proofs.Offers.{epochs-ordered, epochs-storable}
+use Rattle.tk_report.proofs.Offers.{before-next, epochs-ordered, epochs-storable}
 use Rattle.tk_script.specs.declared.script.Script.{Script}
 use Rattle.tk_report.specs.Queues.{writing_before}
 use Rattle.tk_report.specs.Report.{lookup, answered, read_over, target_at, reader_before}
-use Rattle.tk_report.specs.Report.{reader_step}
 use Rattle.tk_table.specs.Replies.{reply_to}
 use Rattle.tk_report.specs.Exchange.{read_at}
 use Rattle.tk_run.specs.Clients.{idle, client_before, client_knowing, client_asked}
-use Rattle.tk_run.specs.Rows.{Frame, AreRows}
+use Rattle.tk_run.specs.Rows.{Frame}
 use Rattle.tk_run.specs.Servers.{AreReads}
 use Rattle.tk_run.specs.Turns.{reads_for, posed, reply_at, replies_to, replied}
 use Rattle.tk_run.proofs.ReadingLaws.{map-map, epoch-most}
@@ -189,11 +188,6 @@ replies-in_range S b H g c sound =
     sound.storable
     (subst (AllByRecursion (IsRead S.shape)) (sym (asked-read_at S b H g c)) sound.reads)
 
-reader-next : (S : Script) (w : BookWords) (H : History) (c g : ℕ) →
-    reader_before S w H c (g + 1) ≡ reader_step S w H g c (reader_before S w H c g)
-unfolding reader_before
-reader-next S w H c g = ap (reader_before S w H c) (add-one g)
-
 -- from which it takes what is looked up for its target
 pub client-took : (S : Script) (b : WordBook) (H : History) (g c : ℕ) (old new : ClientState)
     (replies : List (List ℕ)) → let w = words_of S.shape b in
@@ -216,7 +210,7 @@ client-took S b H g c old new replies sound asked_is replies_are is =
     ∙ ap (λ (s : ClientState). after_replies (words_of s.shape b) replies s) asked_is
     ∙ ap (λ (o : Option (List ℕ)). idle S.shape c (writing_before S c (g + 1))
     (after_read S.shape (at_epoch e r) t o)) answer
-    ∙ ap (idle S.shape c (writing_before S c (g + 1))) (sym (reader-next S w H c g))
+    ∙ ap (idle S.shape c (writing_before S c (g + 1))) (sym (before-next S w H c g))
 
 -- every read of a legal history is sound
 pub all-sound : (S : Script) (b : WordBook) (H : History) (g c : ℕ) → IsBook S.shape b →
@@ -270,16 +264,15 @@ reads-in_range S b H g j serves legal turn_in low high =
     (omega (arith, high)))
 
 -- so what lies for a server are the frames of reads in range
-pub posed-are : (S : Script) (b : WordBook) (H : History) (g i : ℕ) (rows : List (List Frame))
-    (frames d : List Frame) → IsBook S.shape b → IsLegal S.shape H → g < turn_count S.shape →
-    i < S.shape.servers → AreRows S.shape.servers (posed S b H g S.shape.clients) rows →
-    frames ≡ slice_index_or rows i d →
+pub posed-are : (S : Script) (b : WordBook) (H : History) (g i : ℕ) (frames : List Frame) →
+    IsBook S.shape b → IsLegal S.shape H → g < turn_count S.shape → i < S.shape.servers →
+    frames ≡ posed S b H g S.shape.clients i →
     AreReads S.shape (reads_for S b H g S.shape.clients (i + 1)) frames
-posed-are S b H g i rows frames d serves legal turn_in low are is =
+posed-are S b H g i frames serves legal turn_in low are =
     record {
       in_range =
           reads-in_range S b H g (i + 1) serves legal turn_in (omega arith) (omega (arith, low));
-      spelled = is ∙ are.each i d (omega (arith, low, are.counted));
+      spelled = are;
     }
 
 -- ---- what a client is before it takes replies

@@ -14,7 +14,7 @@ use Rattle.tk_report.specs.Entries.{write_at, entries_before, entries}
 use Rattle.tk_cluster.specs.Passes.{Passing}
 use Rattle.tk_cluster.specs.Tellings.{Telling}
 use Rattle.tk_cluster.specs.Closings.{Ended, AllOnce, Closes}
-use Rattle.tk_run.specs.declared.group.Group.{Group}
+use Rattle.tk_report.specs.declared.group.Group.{Group}
 use Rattle.tk_run.specs.Clients.{AreClients, client_before}
 use Rattle.tk_run.specs.Ran.{epochs_in}
 use Rattle.tk_run.specs.Courses.{GoesOn, IsCourse}

@@ -17,7 +17,7 @@ use Rattle.tk_report.proofs.Offers.{said-none, clients-first, clients-know}
 use Rattle.tk_cluster.specs.Passes.{Passing}
 use Rattle.tk_cluster.specs.Tellings.{Telling}
 use Rattle.tk_cluster.specs.Clusters.{Opened}
-use Rattle.tk_run.specs.declared.group.Group.{Group}
+use Rattle.tk_report.specs.declared.group.Group.{Group}
 use Rattle.tk_run.specs.Ran.{Ran}
 use Rattle.tk_run.specs.Courses.{GoesOn, IsCourse}
 use Rattle.tk_run.proofs.RanEnds.{ran_first}

@@ -1,4 +1,3 @@
-pub mod Splits
 pub mod RowsLaws
 pub mod GivingLaws
 pub mod SeenLaws

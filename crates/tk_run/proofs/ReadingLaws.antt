@@ -5,13 +5,14 @@ use Rattle.std.proofs.Common.{flat_map}
 use Rattle.std.proofs.Common.{add-one}
 use Rattle.std.specs.List.{range_with_len}
 use Rattle.std.proofs.lemmas.List.{map-append}
+use Rattle.std.proofs.lemmas.List.Folds.{flat_map-map}
 use Rattle.std.proofs.lemmas.List.FromFn.{map-range_with_len_more}
 use Rattle.tk_shape.specs.Lengths.{turn_count}
 use Rattle.tk_schedule.specs.declared.history.History.{History}
 use Rattle.tk_schedule.specs.Schedule.{IsLegal, epoch_at, phases_over}
 use Rattle.std.proofs.Common.{le_trans, div-mul-le_self, le_of_mul-le-mul_right}
 use Rattle.tk_report.specs.Entries.{write_at}
-use Rattle.tk_report.proofs.Offers.{before-over}
+use Rattle.tk_report.proofs.Offers.{before-over, flat_map-next}
 use Rattle.tk_run.specs.Rows.{Frame, AreRows, AreAdded}
 use Rattle.tk_run.proofs.RowsLaws.{rows-next, frames-told}
 use Rattle.tk_script.specs.declared.script.Script.{Script}
@@ -27,7 +28,7 @@ use Rattle.tk_replica.specs.Replies.{reply_for}
 use Rattle.tk_run.specs.Servers.{answered}
 use Rattle.tk_run.specs.Turns.{placed_before, entries_seen, reads_for, posed, reply_at, replies_to}
 use Rattle.tk_run.specs.Turns.{replied, turn_seen}
-use Rattle.tk_run.proofs.SeenLaws.{turn_seen-parts, flat_map-numbers_more}
+use Rattle.tk_run.proofs.SeenLaws.{turn_seen-parts}
 
 -- ---- frames, client by client and server by server
 
@@ -83,21 +84,16 @@ reply-at S b H g c j made low =
     ap (λ R. reply_to S.shape R (read_at S b H g c j))
     (ap (before E) (read_at-epoch S b H g c j) ∙ made c low)
 
-flat_map-map : {X Y A : Type 0} (f : Y → List A) (h : X → Y) (xs : List X) →
-    flat_map f (map h xs) ≡ flat_map (λ x. f (h x)) xs
-flat_map-map f h [] = refl
-flat_map-map f h (x ∷ xs) = ap (λ rest. f (h x) ++ rest) (flat_map-map f h xs)
-
 -- what two give alike for the numbers below one
 flat_map-below : {A : Type 0} (f h : ℕ → List A) (n : ℕ) → ((c : ℕ) → c < n → f c ≡ h c) →
     flat_map f (range_with_len 0 n) ≡ flat_map h (range_with_len 0 n)
 flat_map-below f h zero same = refl
 flat_map-below f h (suc n) same =
     ap (λ k. flat_map f (range_with_len 0 k)) (sym (add-one n))
-    ∙ flat_map-numbers_more f n
+    ∙ flat_map-next f n
     ∙ ap₂ (λ front back. front ++ back)
     (flat_map-below f h n (λ c low. same c (omega (arith, low)))) (same n (omega arith))
-    ∙ sym (flat_map-numbers_more h n)
+    ∙ sym (flat_map-next h n)
     ∙ ap (λ k. flat_map h (range_with_len 0 k)) (add-one n)
 
 map-below : {A : Type 0} (f h : ℕ → A) (n : ℕ) → ((c : ℕ) → c < n → f c ≡ h c) →

@@ -3,9 +3,6 @@ use Rattle.std.proofs.Common.{◌≡◌, refl, ap, ap₂, sym, subst, ◌∙◌,
 use Rattle.std.proofs.Common.{ℕ, zero, suc, ◌+◌, ◌-◌, ◌<◌, List, [], ◌∷◌, ◌++◌, map}
 use Rattle.std.proofs.Common.{flat_map, append_assoc, append-nil, zero-add, Option}
 use Rattle.std.specs.List.{range_with_len}
-use Rattle.std.proofs.lemmas.List.{map-id}
-use Rattle.std.proofs.lemmas.List.FromFn.{map-range_with_len_more}
-use Rattle.std.proofs.lemmas.Grind.{flat_map-append}
 use Rattle.tk_shape.specs.Lengths.{turn_count}
 use Rattle.tk_schedule.specs.declared.history.History.{History}
 use Rattle.tk_script.specs.declared.script.Script.{Script}
@@ -14,29 +11,13 @@ use Rattle.tk_frames.specs.Spelling.{placed_frame}
 use Rattle.tk_io.specs.Content.{gained}
 use Rattle.tk_report.specs.Entries.{write_at, entries_at}
 use Rattle.tk_report.specs.Exchange.{turn_frames, frames_before, read_answered, exchange, bytes_of}
+use Rattle.tk_report.proofs.Offers.{flat_map-next}
 use Rattle.tk_io.specs.Tapped.{GainsFront, TapsGain, TapsGainFronts}
 use Rattle.tk_io.proofs.Offers.{gained-nothing, taps-same, taps-twice}
 use Rattle.tk_io.proofs.Offers.{front-of_first, front-of_second}
 use Rattle.tk_run.specs.Turns.{entries_seen, turn_seen, seen_before}
 
 -- ---- lists
-
-pub numbers_more : (n : ℕ) → range_with_len 0 (n + 1) ≡ range_with_len 0 n ++ n ∷ []
-numbers_more n =
-    sym (map-id (range_with_len 0 (n + 1)))
-    ∙ map-range_with_len_more {X = ℕ} (λ k. k) 0 n n (zero-add n)
-    ∙ ap (λ numbers. numbers ++ n ∷ []) (map-id (range_with_len 0 n))
-
-flat_map-one : {X A : Type 0} (f : X → List A) (x : X) → flat_map f (x ∷ []) ≡ f x
-flat_map-one f x = append-nil (f x)
-
--- what one more number gives
-pub flat_map-numbers_more : {A : Type 0} (f : ℕ → List A) (n : ℕ) →
-    flat_map f (range_with_len 0 (n + 1)) ≡ flat_map f (range_with_len 0 n) ++ f n
-flat_map-numbers_more f n =
-    ap (flat_map f) (numbers_more n)
-    ∙ flat_map-append f (range_with_len 0 n) (n ∷ [])
-    ∙ ap (λ (xs : List _). flat_map f (range_with_len 0 n) ++ xs) (flat_map-one f n)
 
 -- frames of one each, joined
 bytes_of-map : {X : Type 0} (f : X → List ℕ) (xs : List X) → bytes_of (map f xs) ≡ flat_map f xs
@@ -63,7 +44,7 @@ pub seen_before-next : (S : Script) (b : WordBook) (H : History) (g j : ℕ) →
 unfolding seen_before frames_before turn_seen
 seen_before-next S b H g j =
     let frames = turn_frames S.shape H (write_at S (words_of S.shape b)) (read_answered S b H j) in
-    ap bytes_of (flat_map-numbers_more frames g)
+    ap bytes_of (flat_map-next frames g)
     ∙ flat_map-append (λ f. f) (flat_map frames (range_with_len 0 g)) (frames g)
 
 -- at the end that is the whole exchange

@@ -1,6 +1,6 @@
 -- What an entry does to a server, and to several.
-use Rattle.std.proofs.Common.{◌≡◌, ℕ, ◌+◌, ◌<◌, ◌≤◌, ◌∙◌, sym, subst, ap, arith}
-use Rattle.std.proofs.Common.{List, [], ◌∷◌, ◌++◌, length, length-append}
+use Rattle.std.proofs.Common.{◌≡◌, ℕ, ◌+◌, ◌<◌, ◌≤◌, ◌∙◌, sym, subst, arith}
+use Rattle.std.proofs.Common.{List, [], ◌∷◌, ◌++◌, length}
 use Rattle.std.specs.Prelude.{slice_index_or}
 use Rattle.tk_shape.specs.declared.shape.Shape.{Shape}
 use Rattle.tk_frames.specs.declared.entry.Placed.{Placed}
@@ -44,11 +44,6 @@ one_may_take Changes p i old new d may low h =
           (may.are.each i d low);
       next = may.next;
     }
-
-pub length-next : {X : Type 0} (xs more : List X) (x : X) (n : ℕ) → more ≡ xs ++ x ∷ [] →
-    length xs ≡ n → length more ≡ n + 1
-length-next xs more x n pushed counted =
-    ap length pushed ∙ length-append xs (x ∷ []) ∙ omega (arith, counted)
 
 -- the first of servers that stand so has applied these entries
 pub first-applied : (shape : Shape) (E : List Placed) (seen : ℕ → List ℕ) (servers : List Server)

@@ -18,7 +18,7 @@ use Rattle.tk_report.specs.Entries.{placed_from}
 use Rattle.tk_report.specs.Queues.{said_before}
 use Rattle.tk_cluster.specs.Passes.{Passing}
 use Rattle.tk_cluster.specs.Tellings.{Telling}
-use Rattle.tk_run.specs.declared.group.Group.{Group}
+use Rattle.tk_report.specs.declared.group.Group.{Group}
 use Rattle.tk_run.specs.declared.slip.Slip.{Slip}
 use Rattle.tk_run.specs.declared.acting.Desk.{Desk}
 use Rattle.tk_run.specs.Clients.{AreClients, client_wrote}

@@ -23,7 +23,7 @@ use Rattle.tk_report.proofs.Offers.{write_at-client}
 use Rattle.tk_cluster.specs.Sets.{Stands}
 use Rattle.tk_cluster.specs.Passes.{Passing}
 use Rattle.tk_cluster.specs.Tellings.{Telling}
-use Rattle.tk_run.specs.declared.group.Group.{Group}
+use Rattle.tk_report.specs.declared.group.Group.{Group}
 use Rattle.tk_run.specs.declared.slip.Slip.{Slip}
 use Rattle.tk_run.specs.Clients.{AreClients, client_wrote}
 use Rattle.tk_run.specs.Turns.{placed_before}

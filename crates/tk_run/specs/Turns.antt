@@ -63,8 +63,8 @@ seen_before S b H g j =
 -- was last given away
 pub record IsRunBefore (S : Script) (b : WordBook) (H : History) (g : ℕ) (seen : ℕ → List ℕ)
     (run : Run) : Type 0 where
-  pub said : run.said ≡ said_before S g
+  pub said : run.group.said ≡ said_before S g
   pub clients : AreClients S.shape.clients (client_before S (words_of S.shape b) H g)
-      run.clients.items
+      run.group.clients.items
   pub servers : AreServers S.shape (placed_before S (words_of S.shape b) H g) seen
       run.servers.list.items

@@ -11,6 +11,7 @@ ghost use Rattle.tk_run.specs.Turns.{placed_before, posed};
 
 use crate::frames::{Frames, deal, empty_rows};
 use crate::server::Server;
+use crate::spot::Spot;
 use std::alloc::Global;
 use tk_client::Client;
 use tk_report::Plan;
@@ -44,8 +45,12 @@ pub(crate) fn ask_all<D: Draws>(
         (posed S book plan.now.history.now turn S.shape.clients) rows.items) }
 {
     let mut rows = empty_rows(alloc, plan.script.shape.servers)?;
-    'asking: for client in clients.iter_mut() {
-        let frames = ask(alloc, plan, turn, client, server)?;
+    'asking: for (i, client) in clients.iter_mut().enumerate() {
+        let spot = Spot {
+            turn,
+            place: i as u32,
+        };
+        let frames = ask(alloc, plan, spot, client, server)?;
         deal(rows.as_mut_slice(), frames)?;
     }
     Ok(rows)
@@ -55,34 +60,42 @@ pub(crate) fn ask_all<D: Draws>(
 fn ask<D: Draws>(
     alloc: Global,
     plan: &Plan<D>,
-    turn: u32,
+    spot: Spot,
     client: &mut Client,
     server: &Server,
 ) -> Result<Vec<Bytes>, Memory>
-    requires turn_in { turn < turn_count plan.now.script.now.shape }
+    requires turn_in { spot.turn < turn_count plan.now.script.now.shape }
+    requires client_in { spot.place < plan.now.script.now.shape.clients }
     requires client { let S = plan.now.script.now in
         let words = words_of S.shape (D.book plan.now.draws.now) in
-        client.old ≡ client_wrote S words plan.now.history.now turn client.old.number }
+        client.old ≡ client_wrote S words plan.now.history.now spot.turn spot.place }
     requires server { let S = plan.now.script.now in
         let words = words_of S.shape (D.book plan.now.draws.now) in
-        StandsFor S.shape (placed_before S words plan.now.history.now (turn + 1))
+        StandsFor S.shape (placed_before S words plan.now.history.now (spot.turn + 1))
         server.now.state }
     ensures client { let S = plan.now.script.now in
         let words = words_of S.shape (D.book plan.now.draws.now) in
         OnOk result (client.new
-        ≡ client_asked S words plan.now.history.now turn client.old.number) }
+        ≡ client_asked S words plan.now.history.now spot.turn spot.place) }
     ensures frames { let S = plan.now.script.now in
         let book = D.book plan.now.draws.now in
         IfOk result (λ frames. frames.items
-        ≡ map (λ j. read_frame (read_at S book plan.now.history.now turn client.old.number j))
+        ≡ map (λ j. read_frame (read_at S book plan.now.history.now spot.turn spot.place j))
         (range_with_len 1 S.shape.servers)) }
 {
-    let epoch = plan.history.epoch(turn, client.number());
+    let epoch = plan.history.epoch(spot.turn, spot.place);
     // a server keeps the last epoch and the one before it, so that only memory may be wanting
     let Ok(shown) = server.state.pin(epoch) else {
         return Err(Memory);
     };
     let mut frames = Vec::new(alloc);
-    client.read_frames(alloc, plan.draws, turn, epoch, shown.filter(), &mut frames)?;
+    client.read_frames(
+        alloc,
+        plan.draws,
+        spot.turn,
+        epoch,
+        shown.filter(),
+        &mut frames,
+    )?;
     Ok(frames)
 }

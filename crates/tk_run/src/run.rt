@@ -1,13 +1,11 @@
 use crate::servers::Servers;
-use tk_client::Client;
+use tk_report::Group;
 
 /// A run as it stands between two steps of it.
 #[derive(Drop)]
 pub(crate) struct Run {
-    /// How many of the script's texts were said.
-    pub said: usize,
-    /// The clients, by number.
-    pub clients: Vec<Client>,
+    /// The clients.
+    pub group: Group,
     /// The servers.
     pub servers: Servers,
 }

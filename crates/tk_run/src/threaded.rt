@@ -4,7 +4,6 @@ ghost use Rattle.tk_run.specs.Threads.{CameAbout};
 
 use crate::acting::Herald;
 use crate::course::{Course, Stage, run_turns};
-use crate::group::Group;
 use crate::leaving::outcome_of;
 use crate::run_error::RunError;
 use crate::telling::history_of;
@@ -15,7 +14,7 @@ use std::thread::Threads;
 use tk_cluster::{Closed, Cluster};
 use tk_io::{Gate, Taps};
 use tk_order::{Blank, Naming};
-use tk_report::Outcome;
+use tk_report::{Group, Outcome};
 use tk_script::Script;
 use tk_words::Draws;
 

@@ -17,7 +17,7 @@ use crate::tapping::give_all;
 use std::alloc::Global;
 use tk_client::Client;
 use tk_io::Taps;
-use tk_report::{Plan, open_clients, say_turn, write_turn};
+use tk_report::{Group, Plan};
 use tk_script::Script;
 use tk_shape::Memory;
 use tk_words::Draws;
@@ -49,7 +49,7 @@ pub(crate) fn take_turns<D: Draws, T: Taps>(
 {
     let mut run = open_run(alloc, plan.script)?;
     take_all_turns(alloc, plan, &mut run, taps)?;
-    Ok(run.clients)
+    Ok(run.group.clients)
 }
 
 /// A run before its first turn.
@@ -58,8 +58,7 @@ fn open_run(alloc: Global, script: &Script) -> Result<Run, Memory>
         → IfOk result (IsRunBefore script.now b H 0 nothing_seen) }
 {
     Ok(Run {
-        said: 0,
-        clients: open_clients(alloc, script)?,
+        group: Group::open(alloc, script)?,
         servers: open_servers(alloc, &script.shape)?,
     })
 }
@@ -138,9 +137,8 @@ fn meet<D: Draws>(alloc: Global, plan: &Plan<D>, turn: u32, run: &mut Run) -> Re
         OnOk result (IsRunBefore S (D.book plan.now.draws.now)
         plan.now.history.now (turn + 1) seen run.new) }
 {
-    let clients = run.clients.as_mut_slice();
-    run.said = say_turn(alloc, plan.script, turn, run.said, clients)?;
-    write_turn(alloc, plan, turn, clients, &mut run.servers)?;
+    run.group.write(alloc, plan, turn, &mut run.servers)?;
+    let clients = run.group.clients.as_mut_slice();
     let servers = run.servers.list.as_mut_slice();
     read_turn(alloc, plan, turn, clients, servers)
 }

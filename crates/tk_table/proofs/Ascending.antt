@@ -9,6 +9,7 @@ use Rattle.tk_table.specs.Table.{retained}
 use Rattle.tk_frames.specs.Lists.{IsIn}
 use Rattle.tk_table.proofs.OneMore.{retained-append, retained-none, by_one_more}
 
+-- what ascends from a number ascends from a lower one
 pub ascend-lower : (p q : ℕ) (R : List Record) → p ≤ q → AscendFrom q R → AscendFrom p R
 ascend-lower p q [] lower h = tt
 ascend-lower p q (r ∷ R) lower h = (omega (arith, lower, h.0), h.1)

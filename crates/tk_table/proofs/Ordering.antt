@@ -9,17 +9,14 @@ use Rattle.tk_frames.specs.Order.{Record, record_at, records}
 use Rattle.tk_frames.specs.Ranges.{IsEntry}
 use Rattle.tk_table.specs.Ordered.{AscendFrom, HasBuckets, AreOrdered}
 use Rattle.tk_frames.specs.InOrder.{IsOrderFrom, IsOrder, number_after}
-
-ascend-weaker : (p q : ℕ) (R : List Record) → p ≤ q → AscendFrom q R → AscendFrom p R
-ascend-weaker p q [] less h = tt
-ascend-weaker p q (r ∷ R) less h = let above = h.0 in (omega (arith, above, less), h.1)
+use Rattle.tk_table.proofs.Ascending.{ascend-lower}
 
 ascend-entry : (at place : ℕ) (x : Entry) (R : List Record) → at ≡ place →
     AscendFrom (place + 1) R → AscendFrom place (cons_option (record_at at x) R)
 ascend-entry at place (Write w) R same h =
-    (omega (arith, same), ascend-weaker (at + 1) (place + 1) R (omega (arith, same)) h)
+    (omega (arith, same), ascend-lower (at + 1) (place + 1) R (omega (arith, same)) h)
 ascend-entry at place (Mark e) R same h =
-    ascend-weaker place (place + 1) R (omega arith) h
+    ascend-lower place (place + 1) R (omega arith) h
 
 buckets-entry : (shape : Shape) (at : ℕ) (x : Entry) (R : List Record) → IsEntry shape x →
     AllByRecursion (HasBuckets shape) R →

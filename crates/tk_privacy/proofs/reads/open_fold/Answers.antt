@@ -1,8 +1,8 @@
 -- Each part is opened as it is before the first turn.
-use Rattle.std.proofs.Common.{◌∙◌, sym}
+use Rattle.std.proofs.Common.{◌∙◌}
 use Rattle.tk_words.specs.Words.{words_of}
-use Rattle.tk_report.proofs.Offers.{said-none, keeps-first}
-use Rattle.tk_privacy.proofs.ReadsLaws.{followers-first, reads-none}
+use Rattle.tk_report.proofs.Offers.{followers-first, group-first, keeps-first}
+use Rattle.tk_privacy.proofs.ReadsLaws.{reads-none}
 use Rattle.tk_privacy.proofs.reads.open_fold.Goals as goal
 
 pub returns : goal.returns
@@ -10,10 +10,10 @@ returns c b H j =
     let S = c.args.script.now in
     let words = words_of S.shape b in
     record {
-      said = sym (said-none S);
-      clients = c.in_ok-open_clients.ensures;
+      group = group-first S c.in_ok-open.field-0 c.in_ok-open.ensures.said
+          c.in_ok-open.ensures.clients;
       followers = followers-first S words H c.in_ok-open_followers.field-0.items
           c.in_ok-open_followers.ensures;
-      ledger = keeps-first S words H c.in_ok-open.field-0 c.in_ok-open.ensures;
+      ledger = keeps-first S words H c.in_ok-open-2.field-0 c.in_ok-open-2.ensures;
       reads = c.new.ensures.items ∙ reads-none S b H j;
     }

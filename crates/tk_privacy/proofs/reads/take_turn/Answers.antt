@@ -4,26 +4,19 @@ use Rattle.std.proofs.lemmas.List.{with_items_is}
 use Rattle.tk_words.specs.Words.{words_of}
 use Rattle.tk_frames.specs.declared.read_frame.ReadFrame.{ReadFrame}
 use Rattle.tk_frames.specs.declared.entry.Placed.{Placed}
-use Rattle.tk_report.specs.Clients.{AreClients, AreFollowers, client_knowing, known_first}
-use Rattle.tk_report.specs.Clients.{follower_before}
+use Rattle.tk_report.specs.Clients.{AreFollowers, follower_before, known_first}
 use Rattle.tk_report.specs.Ledgers.{Keeps}
 use Rattle.tk_report.specs.Turns.{placed_before}
 use Rattle.tk_report.proofs.Offers.{turn-done}
 use Rattle.tk_privacy.proofs.ReadsLaws.{reads-next}
 use Rattle.tk_privacy.proofs.reads.take_turn.Goals as goal
 
-pub write_turn-requires-clause-clients : goal.write_turn-requires-clause-clients
-write_turn-requires-clause-clients g c κs within =
-    let S = c.args.plan.now.script.now in
-    record {
-      knows = known_first S;
-      are = c.in_ok-fold.ensures.clients (known_first S)
-          (subst (AreClients S.shape.clients (client_knowing S (known_first S) c.args.spot.turn))
-          (sym c.as_mut_slice-clients.ensures.value) c.requires.fold.clients);
-    }
+pub write-requires-clause-group : goal.write-requires-clause-group
+write-requires-clause-group g c κs within =
+    record { knows = known_first c.args.plan.now.script.now; is = c.requires.fold.group }
 
-pub write_turn-requires-clause-taker : goal.write_turn-requires-clause-taker
-write_turn-requires-clause-taker g c κs within =
+pub write-requires-clause-taker : goal.write-requires-clause-taker
+write-requires-clause-taker g c κs within =
     let S = c.args.plan.now.script.now in
     let words = words_of S.shape (g.D.Draws.book c.args.plan.now.draws.now) in
     let E = placed_before S words c.args.plan.now.history.now c.args.spot.turn in
@@ -35,16 +28,16 @@ read_turn-requires-clause-ledger g c κs within =
     let S = c.args.plan.now.script.now in
     let words = words_of S.shape (g.D.Draws.book c.args.plan.now.draws.now) in
     let H = c.args.plan.now.history.now in
-    subst (λ (ps : List Placed). Keeps S.shape ps c.write_turn.new.taker)
-    (turn-done S words H c.args.spot.turn) c.in_ok-write_turn.ensures.taker
+    subst (λ (ps : List Placed). Keeps S.shape ps c.write.new.taker)
+    (turn-done S words H c.args.spot.turn) c.in_ok-write.ensures.taker
 
 pub ask_turn-requires-clause-ledger : goal.ask_turn-requires-clause-ledger
 ask_turn-requires-clause-ledger g c κs within =
     let S = c.args.plan.now.script.now in
     let words = words_of S.shape (g.D.Draws.book c.args.plan.now.draws.now) in
     let H = c.args.plan.now.history.now in
-    subst (λ (ps : List Placed). Keeps S.shape ps c.write_turn.new.taker)
-    (turn-done S words H c.args.spot.turn) c.in_ok-write_turn.ensures.taker
+    subst (λ (ps : List Placed). Keeps S.shape ps c.write.new.taker)
+    (turn-done S words H c.args.spot.turn) c.in_ok-write.ensures.taker
 
 pub returns : goal.returns
 returns g c =
@@ -55,15 +48,6 @@ returns g c =
     let spot = c.args.spot in
     let next = spot.turn + 1 in
     let was = c.args.fold.now in
-    let clients = c.write_turn.new.clients in
-    let counted : length clients ≡ was.clients.len =
-    omega (
-      arith,
-      c.in_ok-fold.ensures.counted,
-      c.write_turn.auto.clients,
-      c.as_mut_slice-clients.ensures.len,
-    )
-    in
     let followers = c.read_turn.new.followers in
     let looked : length followers ≡ was.followers.len =
     omega (
@@ -73,18 +57,12 @@ returns g c =
       c.as_mut_slice-followers.ensures.len,
     )
     in
-    let told = c.in_ok-fold.ensures.clients (known_first S)
-    (subst (AreClients S.shape.clients (client_knowing S (known_first S) spot.turn))
-    (sym c.as_mut_slice-clients.ensures.value) c.requires.fold.clients) in
     record {
-      said = c.in_ok-fold.ensures.said;
-      clients = subst (AreClients S.shape.clients (client_knowing S (known_first S) next))
-          (sym (with_items_is was.clients clients counted))
-          (c.in_ok-write_turn.ensures.clients (known_first S) told);
+      group = c.in_ok-write.ensures.group (known_first S) c.requires.fold.group;
       followers = subst (AreFollowers S.shape.clients (follower_before S words H next))
           (sym (with_items_is was.followers followers looked)) c.in_ok-read_turn.ensures.followers;
-      ledger = subst (λ (ps : List Placed). Keeps S.shape ps c.write_turn.new.taker)
-          (turn-done S words H spot.turn) c.in_ok-write_turn.ensures.taker;
+      ledger = subst (λ (ps : List Placed). Keeps S.shape ps c.write.new.taker)
+          (turn-done S words H spot.turn) c.in_ok-write.ensures.taker;
       reads =
           c.in_ok-append.ensures.items
           ∙ ap₂ (λ (xs ys : List ReadFrame). xs ++ ys) c.requires.fold.reads

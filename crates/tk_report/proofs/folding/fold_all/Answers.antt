@@ -16,10 +16,10 @@ returns g c =
     let S = c.args.plan.now.script.now in
     let words = words_of S.shape (g.D.Draws.book c.args.plan.now.draws.now) in
     let H = c.args.plan.now.history.now in
-    let clients = c.turns.fold.clients.items in
+    let clients = c.turns.fold.group.clients.items in
     let followers = c.turns.fold.followers.items in
     let all : c.turns.turn ≡ turn_count S.shape = omega arith in
     subst (λ (n : ℕ). AreClients S.shape.clients (client_before S words H n)
     (joined clients followers)) all
-    (joined-are S words H c.turns.turn clients followers c.turns.invariant.clients
+    (joined-are S words H c.turns.turn clients followers c.turns.invariant.group.clients
     c.turns.invariant.followers)

@@ -13,7 +13,7 @@ invariant_of-told g c =
     let words = words_of S.shape (g.D.Draws.book c.args.draws.now) in
     let fold = c.in_ok-fold.fold in
     record {
-      sound = ends-leave S words H (joined fold.clients.items fold.followers.items)
+      sound = ends-leave S words H (joined fold.group.clients.items fold.followers.items)
           c.in_ok-fold.ensures c.requires.legal;
     }
 
@@ -25,5 +25,5 @@ returns-clause-ok g c =
     let fold = c.in_ok-fold.fold in
     subst (λ (text : List ℕ). OnOk c.print_told.result
     (c.print_told.new.out.items ≡ c.args.out.now.items ++ text))
-    (ends-text S words H (joined fold.clients.items fold.followers.items) c.in_ok-fold.ensures)
+    (ends-text S words H (joined fold.group.clients.items fold.followers.items) c.in_ok-fold.ensures)
     c.print_told.ensures.ok

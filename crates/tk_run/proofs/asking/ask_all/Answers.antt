@@ -1,20 +1,15 @@
 -- The client at the place asks, and its frames are dealt to the lists of the servers.
 use Rattle.std.proofs.Common.{◌≡◌, ◌∙◌, ◌+◌, ◌<◌, ◌≤◌, ℕ, refl, arith, ap, sym, subst, length}
-use Rattle.std.proofs.Common.{map, length-set}
-use Rattle.std.specs.Prelude.{slice_index_or}
-use Rattle.std.specs.List.{range_with_len}
+use Rattle.std.proofs.Common.{length-set}
 use Rattle.std.proofs.lemmas.List.{with_items_is}
 use Rattle.std.proofs.lemmas.List.FromFn.{length-map-range_with_len}
 use Rattle.tk_words.specs.Words.{words_of}
-use Rattle.tk_frames.specs.Spelling.{read_frame}
-use Rattle.tk_report.specs.Exchange.{read_at}
 use Rattle.tk_run.specs.Clients.{client_wrote, client_asked}
 use Rattle.tk_run.specs.Rows.{AreRows, no_frames}
 use Rattle.tk_run.specs.Turns.{posed}
-use Rattle.tk_run.proofs.Splits.{split-none, split-next, split-all}
+use Rattle.tk_report.proofs.Offers.{split-none, split-next, split-all}
 use Rattle.tk_run.proofs.RowsLaws.{rows-same}
 use Rattle.tk_run.proofs.ReadingLaws.{posed-none, rows-asked}
-use Rattle.tk_run.proofs.AskingLaws.{wrote-number}
 use Rattle.tk_run.proofs.asking.ask_all.Goals as goal
 
 pub asking-init : goal.asking-init
@@ -35,21 +30,24 @@ asking-init g c =
           c.requires.clients.each;
     }
 
+pub ask-requires-clause-client_in : goal.ask-requires-clause-client_in
+ask-requires-clause-client_in g c κs met =
+    omega (
+      arith,
+      c.asking-test.true,
+      c.asking.invariant.counted,
+      c.requires.clients.counted,
+    )
+
 pub ask-requires-clause-client : goal.ask-requires-clause-client
 ask-requires-clause-client g c κs met =
-    let S = c.args.plan.now.script.now in
-    let words = words_of S.shape (g.D.Draws.book c.args.plan.now.draws.now) in
-    let H = c.args.plan.now.history.now in
-    let i = c.asking.client-index in
+    let i = c.asking.i in
     let clients = c.asking.clients in
-    let d = c.client-item.result in
+    let d = c.index-clients-i.result in
     let within : i < length clients =
     omega (arith, c.asking-test.true, c.asking.invariant.counted)
     in
-    let was = c.asking.invariant.clients.due_are i d (omega arith) within in
-    was
-    ∙ ap (client_wrote S words H c.args.turn)
-    (sym (wrote-number S words H c.args.turn i (slice_index_or clients i d) was))
+    c.asking.invariant.clients.due_are i d (omega arith) within
 
 pub deal-requires : goal.deal-requires
 deal-requires g c =
@@ -67,25 +65,16 @@ asking-preserved g c =
     let words = words_of S.shape book in
     let H = c.args.plan.now.history.now in
     let turn = c.args.turn in
-    let i = c.asking.client-index in
+    let i = c.asking.i in
     let clients = c.asking.clients in
-    let d = c.client-item.result in
     let so_far = c.asking.invariant in
     let within : i < length clients = omega (arith, c.asking-test.true, so_far.counted) in
-    let was = so_far.clients.due_are i d (omega arith) within in
-    let number = wrote-number S words H turn i (slice_index_or clients i d) was in
     let asked = c.in_ok-frames.ensures in
-    let frames : c.in_ok-frames.frames.items
-    ≡ map (λ j. read_frame (read_at S book H turn i j)) (range_with_len 1 S.shape.servers) =
-    asked.frames
-    ∙ ap (λ (n : ℕ). map (λ j. read_frame (read_at S book H turn n j))
-    (range_with_len 1 S.shape.servers)) number
-    in
     let dealt =
     rows-asked S book H turn i c.as_mut_slice.result.now c.deal.new.rows c.in_ok-frames.frames.items
     (subst (AreRows S.shape.servers (posed S book H turn i)) (sym c.as_mut_slice.ensures.value)
     so_far.rows)
-    frames c.in_ok-deal.ensures
+    asked.frames c.in_ok-deal.ensures
     in
     let counted : length c.deal.new.rows ≡ c.asking.rows.len =
     omega (arith, c.deal.auto.rows, c.as_mut_slice.ensures.len)
@@ -98,7 +87,7 @@ asking-preserved g c =
       clients =
           split-next i (λ k s. s ≡ client_asked S words H turn k)
           (λ k s. s ≡ client_wrote S words H turn k) clients c.ask.new.client within
-          (asked.client ∙ ap (client_asked S words H turn) number) so_far.clients;
+          asked.client so_far.clients;
     }
 
 pub returns-clause-clients : goal.returns-clause-clients
@@ -107,13 +96,13 @@ returns-clause-clients g c =
     let words = words_of S.shape (g.D.Draws.book c.args.plan.now.draws.now) in
     let H = c.args.plan.now.history.now in
     let so_far = c.asking.invariant in
-    let ended : length c.asking.clients ≤ c.asking.client-index =
+    let ended : length c.asking.clients ≤ c.asking.i =
     omega (arith, c.asking-test.false, so_far.counted)
     in
     record {
       counted = so_far.counted ∙ c.requires.clients.counted;
       each =
-          split-all c.asking.client-index (λ k s. s ≡ client_asked S words H c.args.turn k)
+          split-all c.asking.i (λ k s. s ≡ client_asked S words H c.args.turn k)
           (λ k s. s ≡ client_wrote S words H c.args.turn k) c.asking.clients ended
           so_far.clients;
     }
@@ -124,7 +113,7 @@ returns-clause-posed g c =
     let book = g.D.Draws.book c.args.plan.now.draws.now in
     let H = c.args.plan.now.history.now in
     let so_far = c.asking.invariant in
-    let all : c.asking.client-index ≡ S.shape.clients =
+    let all : c.asking.i ≡ S.shape.clients =
     omega (arith, c.asking-test.false, so_far.counted, c.requires.clients.counted)
     in
     subst (λ (n : ℕ). AreRows S.shape.servers (posed S book H c.args.turn n) c.asking.rows.items)

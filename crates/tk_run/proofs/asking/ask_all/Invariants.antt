@@ -4,7 +4,7 @@ use Rattle.tk_words.specs.Words.{words_of}
 use Rattle.tk_run.specs.Rows.{AreRows}
 use Rattle.tk_run.specs.Turns.{posed}
 use Rattle.tk_run.specs.Clients.{client_wrote, client_asked}
-use Rattle.tk_run.proofs.Splits.{IsSplit}
+use Rattle.tk_report.proofs.Offers.{IsSplit}
 use Rattle.tk_run.proofs.asking.ask_all.Given as goal
 
 abbrev pub invariant-asking : goal.invariant-asking
@@ -15,7 +15,7 @@ invariant-asking g l =
     let H = l.plan.history.now in
     record {
       counted : length l.clients ≡ length l.fn.clients;
-      rows : AreRows S.shape.servers (posed S book H l.turn l.client-index) l.rows.items;
-      clients : IsSplit l.client-index (λ k s. s ≡ client_asked S words H l.turn k)
+      rows : AreRows S.shape.servers (posed S book H l.turn l.i) l.rows.items;
+      clients : IsSplit l.i (λ k s. s ≡ client_asked S words H l.turn k)
           (λ k s. s ≡ client_wrote S words H l.turn k) l.clients;
     }

@@ -11,7 +11,7 @@ use Rattle.tk_schedule.specs.Schedule.{is_within, is_mark, phase_of}
 use Rattle.tk_words.specs.Words.{words_of}
 use Rattle.tk_report.specs.Entries.{placed_from}
 use Rattle.tk_report.specs.Clients.{known_before, client_told, client_knowing}
-use Rattle.tk_run.specs.declared.group.Group.{Group}
+use Rattle.tk_report.specs.declared.group.Group.{Group}
 use Rattle.tk_run.specs.declared.slip.Slip.{Slip}
 use Rattle.tk_run.specs.declared.acting.Desk.{Desk}
 use Rattle.tk_run.specs.Clients.{AreClients}

@@ -3,7 +3,7 @@ use Rattle.std.proofs.Common.{[], sym, subst}
 use Rattle.std.specs.Prelude.{All}
 use Rattle.std.proofs.lemmas.List.Elements.{All-push}
 use Rattle.tk_run.specs.Servers.{IsServer}
-use Rattle.tk_run.proofs.TakingLaws.{length-next}
+use Rattle.tk_report.proofs.Offers.{length-next}
 use Rattle.tk_run.proofs.servers.open_servers.Goals as goal
 
 pub loop-preserved : goal.loop-preserved

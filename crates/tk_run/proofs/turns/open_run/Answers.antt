@@ -1,5 +1,5 @@
 -- Each part of a run is opened as it is before the first turn.
-use Rattle.std.proofs.Common.{sym}
+use Rattle.std.proofs.Common.{◌∙◌, sym}
 use Rattle.tk_words.specs.Words.{words_of}
 use Rattle.tk_report.proofs.Offers.{said-none, clients-first}
 use Rattle.tk_run.proofs.PlacingLaws.{servers-first}
@@ -10,9 +10,9 @@ returns c b H =
     let S = c.args.script.now in
     let words = words_of S.shape b in
     record {
-      said = sym (said-none S);
-      clients = clients-first S words H c.in_ok-open_clients.field-0.items
-          c.in_ok-open_clients.ensures;
+      said = c.in_ok-open.ensures.said ∙ sym (said-none S);
+      clients = clients-first S words H c.in_ok-open.field-0.clients.items
+          c.in_ok-open.ensures.clients;
       servers =
           servers-first S words H c.in_ok-open_servers.field-0.list.items c.in_ok-open_servers.ensures;
     }

@@ -11,7 +11,7 @@ use Rattle.tk_frames.specs.Ranges.{AreTold}
 use Rattle.tk_words.specs.CellLaws.{place_within}
 use Rattle.tk_privacy.specs.Hiding.{blank_read, read_in}
 use Rattle.tk_privacy.specs.Views.{frame_in}
-use Rattle.tk_privacy.proofs.ReadsLaws.{flat_map-more}
+use Rattle.tk_report.proofs.Offers.{flat_map-next}
 use Rattle.tk_privacy.proofs.watching.Seen.ask.Goals as goal
 
 pub bounds-reads-place : goal.bounds-reads-place
@@ -75,5 +75,5 @@ loop-client-preserved c =
           ∙ ap₂ (λ (xs : List (List ℕ)) (r : ReadFrame). xs ++ read_frame r ∷ []) so_far.frames
           read_is
           ∙ append_assoc old (flat_map frame (range_with_len 0 client)) (frame client)
-          ∙ ap (λ (xs : List (List ℕ)). old ++ xs) (sym (flat_map-more frame client));
+          ∙ ap (λ (xs : List (List ℕ)). old ++ xs) (sym (flat_map-next frame client));
     }

@@ -7,11 +7,11 @@ pub index-requires : goal.index-requires
 index-requires c =
     let fold = c.args.self.now in
     let within =
-    (joined-within fold.clients.items fold.followers.items c.args.client c.requires).1 in
+    (joined-within fold.group.clients.items fold.followers.items c.args.client c.requires).1 in
     omega (arith, within, fold.followers.ok.0)
 
 pub returns : goal.returns
 returns c =
     let fold = c.args.self.now in
-    got-joined fold.clients.items fold.followers.items c.args.log c.args.client c.index.result.now
+    got-joined fold.group.clients.items fold.followers.items c.args.log c.args.client c.index.result.now
     c.log.result.now c.requires c.index.ensures c.log.ensures

@@ -7,11 +7,11 @@ pub index-requires : goal.index-requires
 index-requires c =
     let fold = c.args.self.now in
     let within =
-    (joined-within fold.clients.items fold.followers.items c.args.client c.requires).0 in
-    omega (arith, within, fold.clients.ok.0)
+    (joined-within fold.group.clients.items fold.followers.items c.args.client c.requires).0 in
+    omega (arith, within, fold.group.clients.ok.0)
 
 pub returns : goal.returns
 returns c =
     let fold = c.args.self.now in
-    unsent-joined fold.clients.items fold.followers.items c.args.client c.index.result.now
+    unsent-joined fold.group.clients.items fold.followers.items c.args.client c.index.result.now
     c.unsent.result c.requires c.index.ensures c.unsent.ensures

@@ -2,7 +2,7 @@
 use Rattle.std.proofs.Common.{arith, sym, subst}
 use Rattle.std.proofs.lemmas.List.{with_items_is}
 use Rattle.tk_report.specs.Clients.{AreClients, client_knowing, client_told}
-use Rattle.tk_run.proofs.group.Group.say.Goals as goal
+use Rattle.tk_report.proofs.group.Group.say.Goals as goal
 
 pub returns-clause-clients : goal.returns-clause-clients
 returns-clause-clients c = λ knows are.
