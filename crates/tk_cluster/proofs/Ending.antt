@@ -53,9 +53,3 @@ filled front c (a ∷ xs) at h =
     ∙ (ap (λ ys. by_client ys xs) (set_behind front (replicate (length xs) []) [] a.reads.pinned)
     ∙ (filled (front ++ a.reads.pinned ∷ []) (c + 1) xs next h.1
     ∙ behind front (map (λ a. a.reads.pinned) xs) a.reads.pinned))
-
--- the epochs are those of the passes in turn
-pub by_client_in_order : (n : ℕ) (xs : List Passing) → length xs ≡ n → ByNumber 0 xs →
-    by_client (replicate n []) xs ≡ map (λ a. a.reads.pinned) xs
-by_client_in_order n xs counted h =
-    ap (λ k. by_client (replicate k []) xs) (sym counted) ∙ filled [] 0 xs refl h

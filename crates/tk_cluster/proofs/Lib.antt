@@ -5,8 +5,6 @@ pub mod Standing
 pub mod Telling
 pub mod Opening
 pub mod Staying
-pub mod Turning
 pub mod Ending
-pub mod Numbering
 pub mod Offers
 pub mod Closing

@@ -4,9 +4,5 @@
 pub use Rattle.tk_cluster.proofs.Standing.{stands-more, shows-more}
 -- Whose the passes are, which no call changes: all of them, each once, stay so.
 pub use Rattle.tk_cluster.proofs.Staying.{stays_self, each_self, met_stays, once_stays, opened_once}
--- Where a write stands, and what a pinned set stands for, in the list that all have seen.
-pub use Rattle.tk_cluster.proofs.Turning.{wrote_at, wrote_last, pinned_stands}
--- The marks of an order are numbered from 1.
-pub use Rattle.tk_cluster.proofs.Numbering.{marks_numbered}
--- The epochs of a closed cluster: a list for each client, and those of passes that stand by number.
-pub use Rattle.tk_cluster.proofs.Ending.{ends_counted, ByNumber, by_client_in_order}
+-- The epochs of a closed cluster: a list for each client, of passes that stand by number.
+pub use Rattle.tk_cluster.proofs.Ending.{ends_counted, ByNumber}

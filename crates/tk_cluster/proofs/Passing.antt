@@ -14,9 +14,9 @@ use Rattle.tk_order.specs.Seats.{Seated, own_in, Meets}
 use Rattle.tk_order.specs.Seats as seats
 use Rattle.tk_board.specs.Boards.{Known, AllFit, IsLast, GoesOn}
 use Rattle.tk_board.specs.Boards as boards
-use Rattle.tk_board.proofs.Offers.{prefix_length, prefix_get, prefix_whole}
 use Rattle.tk_cluster.specs.declared.set.EpochSet.{EpochSet}
 use Rattle.tk_cluster.specs.Passes.{Passing, Reading, IsPass, Pins, Knows, Learns, Reads}
+use Rattle.tk_lists.proofs.Offers.{prefix_whole, prefix_length, prefix_get, last-got}
 
 pub on_err : {V E : Type 0} {P : Type 0} (r : Result V E) → P → OnErr r P
 on_err (Ok v) h = tt
@@ -26,10 +26,6 @@ on_err (Err e) h = h
 
 abbrev pub Numbered : List EpochSet → Type 0
 Numbered sets = AllFit (λ k (set : EpochSet). set.number ≡ k) sets
-
-end_get : {A : Type 0} (front : List A) (x : A) → slice_get (front ++ x ∷ []) (length front) ≡ Some x
-end_get [] x = refl
-end_get (y ∷ ys) x = end_get ys x
 
 get_inside : {A : Type 0} (xs : List A) (k : ℕ) (x : A) → slice_get xs k ≡ Some x → k < length xs
 get_inside [] k x h = absurd cc
@@ -41,7 +37,7 @@ pub last_at : (sets : List EpochSet) (set : EpochSet) → Numbered sets → IsLa
 last_at sets set fit last =
     let at : slice_get sets (length last.0) ≡ Some set =
     subst (λ (ys : List EpochSet). slice_get ys (length last.0) ≡ Some set) (sym last.1)
-    (end_get last.0 set) in
+    (last-got last.0 set) in
     let number : set.number ≡ length last.0 = fit (length last.0) set at in
     subst (λ k. slice_get sets k ≡ Some set) (sym number) at
 
@@ -50,7 +46,7 @@ pub last_counts : (sets : List EpochSet) (set : EpochSet) → Numbered sets → 
 last_counts sets set fit last =
     let at : slice_get sets (length last.0) ≡ Some set =
     subst (λ (ys : List EpochSet). slice_get ys (length last.0) ≡ Some set) (sym last.1)
-    (end_get last.0 set) in
+    (last-got last.0 set) in
     let number : set.number ≡ length last.0 = fit (length last.0) set at in
     omega (arith, number, ap length last.1, length-append last.0 (set ∷ []))
 

@@ -9,12 +9,13 @@ use Rattle.tk_frames.specs.declared.entry.Entry.TheVariants.{Mark}
 use Rattle.tk_frames.specs.InOrder.{mark_count, IsOrder}
 use Rattle.tk_order.specs.Legality.{of, placed}
 use Rattle.tk_order.specs.Seats.{Seated, own, own_in, Ordered}
-use Rattle.tk_order.proofs.Offers.{marks_under_zero, prefix_self, prefix_trans, prefix_length}
+use Rattle.tk_order.proofs.Offers.{marks_under_zero}
 use Rattle.tk_board.specs.Boards.{Known}
 use Rattle.tk_cluster.specs.declared.set.EpochSet.{EpochSet}
 use Rattle.tk_cluster.specs.Sets.{Stands, Shows}
 use Rattle.tk_cluster.specs.Tellings.{Telling, IsPublisher, Grows, Published}
 use Rattle.tk_cluster.proofs.Standing.{shows-more, shows-next, among-more}
+use Rattle.tk_lists.proofs.Offers.{prefix_self, prefix_trans, prefix_length}
 
 abbrev pub telling : List Placed → Known EpochSet → Telling
 telling seen board = record { seen = seen; board = board.board; shown = board.list }

@@ -1,7 +1,7 @@
 -- A vector has a bit for each block of an epoch.
 use Rattle.std.proofs.Common.{arith, ap, length}
-use Rattle.tk_cluster.proofs.Replying.{vector_bits}
 use Rattle.tk_cluster.proofs.many.sums.Goals as goal
+use Rattle.tk_shape.proofs.Offers.{vector_bits}
 
 pub answer_all-requires-clause-vectors : goal.answer_all-requires-clause-vectors
 answer_all-requires-clause-vectors g c κs within k d low =
