@@ -8,7 +8,7 @@ use Rattle.std.specs.Prelude.{slice_index, slice_index_or, find, position, optio
 use Rattle.std.specs.Prelude.{None, not, ◌||◌}
 use Rattle.std.specs.List.{range_with_len, prefix_len}
 use Rattle.std.proofs.Math.Seq.{get_or-append_seam}
-use Rattle.std.proofs.lemmas.Bool.{ltb-true}
+use Rattle.std.proofs.lemmas.Bool.{le-ltb}
 use Rattle.tk_shape.specs.declared.shape.Shape.{Shape}
 use Rattle.tk_frames.specs.declared.entry.Placed.{Placed}
 use Rattle.tk_frames.specs.declared.entry.Entry.{Entry}
@@ -123,18 +123,11 @@ find-new e (x ∷ E) p none at =
     cond b (Some x) (find (is_mark_of e) (E ++ p ∷ [])) ≡ Some p)
     [ true ↦ λ h. absurd cc | false ↦ λ rest. find-new e E p rest at ] none
 
-not-less : (a : ℕ) → nat_lt a a ≡ false
-not-less a = by (nat_lt a a) (λ less. let low = ltb-true a a less in omega (arith, low))
-  where
-    by : (t : Bool) → (t ≡ true → ⊥) → t ≡ false
-    by true never = absurd (never refl)
-    by false never = refl
-
 all-reach : (n a : ℕ) → prefix_len (λ k. not (nat_lt k a)) (replicate n a) ≡ n
 all-reach zero a = refl
 all-reach (suc n) a =
     ap (λ (b : Bool). cond (not b) (1 + prefix_len (λ k. not (nat_lt k a)) (replicate n a)) 0)
-    (not-less a)
+    (le-ltb a a (omega arith))
     ∙ omega (arith, all-reach n a)
 
 length-same : (n a : ℕ) → length (replicate n a) ≡ n
@@ -144,7 +137,7 @@ length-same (suc n) a = ap suc (length-same n a)
 none-below : (n a : ℕ) → position (λ k. nat_lt k a) (replicate n a) ≡ None
 none-below n a =
     ap₂ (λ (x y : ℕ). cond (nat_lt x y) (Some x) None) (all-reach n a) (length-same n a)
-    ∙ ap (λ (b : Bool). cond b (Some n) None) (not-less n)
+    ∙ ap (λ (b : Bool). cond b (Some n) None) (le-ltb n n (omega arith))
 
 show-step : (shape : Shape) (E : List Placed) (p : Placed) → IsOrder shape E →
     p.entry ≡ Marks (mark_count E + 1) →

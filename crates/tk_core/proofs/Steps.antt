@@ -8,7 +8,7 @@ use Rattle.std.specs.Prelude.{slice_index_or, slice_index, position, option_map,
 use Rattle.std.specs.Prelude.{Bool, not, find}
 use Rattle.std.specs.List.{concat, prefix_len, position_or_len}
 use Rattle.std.proofs.Math.Seq.{take-append_seam}
-use Rattle.std.proofs.lemmas.Bool.{ltb-true}
+use Rattle.std.proofs.lemmas.Bool.{ltb-true, le-ltb}
 use Rattle.std.proofs.lemmas.List.{get_or-map, map-set, set-get_or, length-map}
 use Rattle.tk_shape.specs.declared.shape.Shape.{Shape}
 use Rattle.tk_answer.specs.Runs.{IsRun}
@@ -88,13 +88,6 @@ applied-at rs i r low at =
     get_or-map (λ (x : ReplicaView). x.applied) rs i r 0 low
     ∙ ap (λ (x : ReplicaView). x.applied) (sym at)
 
-not-less : (a b : ℕ) → b ≤ a → nat_lt a b ≡ false
-not-less a b within = by (nat_lt a b) (λ less. omega (arith, ltb-true a b less, within))
-  where
-    by : (t : Bool) → (t ≡ true → ⊥) → t ≡ false
-    by true never = absurd (never refl)
-    by false never = refl
-
 pub step-up_to_date : (w : WorldView) (server n : ℕ) (r : ReplicaView) →
     server - 1 < length w.replicas → r ≡ slice_index_or w.replicas (server - 1) r →
     n ≡ r.applied → length w.order ≤ n →
@@ -107,7 +100,7 @@ step-up_to_date w server n r low at n_is all =
     let same : set rs i r ≡ rs = ap (set rs i) at ∙ set-get_or rs i r in
     let count : applied_by (machine_of w) server ≡ n = applied-at rs i r low at ∙ sym n_is in
     let test : nat_lt (applied_by (machine_of w) server) (length w.order) ≡ false =
-    not-less (applied_by (machine_of w) server) (length w.order) (omega (arith, count, all))
+    le-ltb (applied_by (machine_of w) server) (length w.order) (omega (arith, count, all))
     in
     ap (λ (xs : List ReplicaView). stays (machine_of (record w {
       replicas =
