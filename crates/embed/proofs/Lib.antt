@@ -1,4 +1,3 @@
-pub mod Changes
 pub mod ServerLaws
 pub mod TurnLaws
 pub mod ReadLaws

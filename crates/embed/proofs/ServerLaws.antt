@@ -1,6 +1,6 @@
 -- What a frame does to a server, and to several.
 use Rattle.std.proofs.Common.{◌≡◌, ℕ, ◌+◌, ◌<◌, ◌≤◌, ◌∙◌, ap, arith}
-use Rattle.std.proofs.Common.{List, [], ◌∷◌, ◌++◌, length, length-append, map, take}
+use Rattle.std.proofs.Common.{List, [], ◌∷◌, ◌++◌, length, map, take}
 use Rattle.std.specs.Prelude.{slice_index_or}
 use Rattle.std.proofs.lemmas.List.{map-append, take_more}
 use Rattle.tk_shape.specs.declared.shape.Shape.{Shape}
@@ -9,7 +9,7 @@ use Rattle.tk_frames.specs.Ranges.{IsPlaced}
 use Rattle.tk_frames.specs.Spelling.{placed_frame}
 use Rattle.tk_replica.specs.Replica.{ReplicaView, StandsFor}
 use Rattle.embed.specs.Servers.{AreServers}
-use Rattle.embed.proofs.Changes.{ChangedUpTo}
+use Rattle.tk_lists.proofs.Offers.{ChangedUpTo}
 
 -- a server has taken the entry that these bytes spell
 abbrev pub Takes : List ℕ → ReplicaView → ReplicaView → Type 0
@@ -30,11 +30,6 @@ all_take bytes i old new shape E p past h are in_range spelled =
           h.done k d (omega (arith, within, past)) low shape E p (are.each k d low) in_range
           spelled;
     }
-
-pub length-next : {X : Type 0} (xs more : List X) (x : X) (n : ℕ) → more ≡ xs ++ x ∷ [] →
-    length xs ≡ n → length more ≡ n + 1
-length-next xs more x n pushed counted =
-    ap length pushed ∙ length-append xs (x ∷ []) ∙ omega (arith, counted)
 
 -- what a function gives for the elements up to a place, and for the one there
 pub map-next : {X Y : Type 0} (f : X → Y) (xs : List X) (i : ℕ) (d : X) → i < length xs →

@@ -4,8 +4,9 @@ use Rattle.std.proofs.Common.{subst, take}
 use Rattle.std.proofs.lemmas.List.{take_all}
 use Rattle.tk_replica.specs.Replica.{StandsFor}
 use Rattle.tk_replica.specs.Replies.{reply_bytes}
-use Rattle.embed.proofs.ServerLaws.{length-next, map-next}
+use Rattle.embed.proofs.ServerLaws.{map-next}
 use Rattle.embed.proofs.servers.answers.Goals as goal
+use Rattle.tk_lists.proofs.Offers.{length-next}
 
 pub loop-i-preserved : goal.loop-i-preserved
 loop-i-preserved c =

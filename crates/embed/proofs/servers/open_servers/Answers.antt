@@ -3,8 +3,8 @@ use Rattle.std.proofs.Common.{[], sym, subst}
 use Rattle.std.specs.Prelude.{All}
 use Rattle.std.proofs.lemmas.List.Elements.{All-push}
 use Rattle.tk_replica.specs.Replica.{StandsFor}
-use Rattle.embed.proofs.ServerLaws.{length-next}
 use Rattle.embed.proofs.servers.open_servers.Goals as goal
+use Rattle.tk_lists.proofs.Offers.{length-next}
 
 pub loop-preserved : goal.loop-preserved
 loop-preserved c =

@@ -1,6 +1,6 @@
 -- Each server takes the entry, and no other changes meanwhile.
 use Rattle.std.proofs.Common.{arith}
-use Rattle.embed.proofs.Changes.{changed-none, changed-next}
+use Rattle.tk_lists.proofs.Offers.{changed-none, changed-next}
 use Rattle.embed.proofs.ServerLaws.{Takes, all_take}
 use Rattle.embed.proofs.servers.take_all.Goals as goal
 

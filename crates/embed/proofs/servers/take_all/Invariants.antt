@@ -1,5 +1,5 @@
 -- The servers so far have taken the entry, and the others not.
-use Rattle.embed.proofs.Changes.{ChangedUpTo}
+use Rattle.tk_lists.proofs.Offers.{ChangedUpTo}
 use Rattle.embed.proofs.ServerLaws.{Takes}
 use Rattle.embed.proofs.servers.take_all.Given as goal
 
