@@ -5,26 +5,11 @@ use Rattle.std.proofs.Common.{arith}
 use Rattle.std.specs.List.{range_with_len}
 use Rattle.std.specs.Prelude.{sum_by}
 use Rattle.std.proofs.lemmas.List.Sums.{sum_by-append, sum_by-cons}
-use Rattle.std.proofs.lemmas.Grind.{flat_map-append}
 use Rattle.std.proofs.Math.Nat.{zero-add}
-use Rattle.std.proofs.lemmas.List.{map-id, map-append}
+use Rattle.std.proofs.lemmas.List.{map-append}
 use Rattle.std.proofs.lemmas.List.Elements.{filter-append}
 use Rattle.std.proofs.lemmas.List.FromFn.{map-range_with_len_more}
-
-pub range_more : (a n j : ℕ) → a + n ≡ j →
-    range_with_len a (n + 1) ≡ range_with_len a n ++ j ∷ []
-range_more a n j is =
-    sym (map-id (range_with_len a (n + 1)))
-    ∙ map-range_with_len_more {X = ℕ} (λ k. k) a n j is
-    ∙ ap (λ (ks : List ℕ). ks ++ j ∷ []) (map-id (range_with_len a n))
-
--- what one more number gives stands after what the ones before it gave
-pub flat_map_range_more : {A : Type 0} (f : ℕ → List A) (a n j : ℕ) → a + n ≡ j →
-    flat_map f (range_with_len a (n + 1)) ≡ flat_map f (range_with_len a n) ++ f j
-flat_map_range_more {A} f a n j is =
-    ap (flat_map f) (range_more a n j is)
-    ∙ flat_map-append f (range_with_len a n) (j ∷ [])
-    ∙ ap (λ (xs : List A). flat_map f (range_with_len a n) ++ xs) (append-nil (f j))
+use Rattle.tk_lists.proofs.Offers.{range-more, flat_map-range_more}
 
 -- and after what was there before
 pub behind_range : {A : Type 0} (f : ℕ → List A) (a j : ℕ) (old : List A)
@@ -34,7 +19,7 @@ pub behind_range : {A : Type 0} (f : ℕ → List A) (a j : ℕ) (old : List A)
 behind_range {A} f a j old low before_is new_is =
     let more : flat_map f (range_with_len a (j - a + 1))
     ≡ flat_map f (range_with_len a (j - a)) ++ f j =
-    flat_map_range_more f a (j - a) j (omega (arith, low)) in
+    flat_map-range_more f a (j - a) j (omega (arith, low)) in
     let count : j - a + 1 ≡ j + 1 - a = omega (arith, low) in
     new_is
     ∙ ap (λ (xs : List A). xs ++ f j) before_is
@@ -56,7 +41,7 @@ map_next {X} f n before_is new_is x_is =
 filter_range_more : (p : ℕ → Bool) (n : ℕ) →
     filter p (range_with_len 0 (n + 1)) ≡ filter p (range_with_len 0 n) ++ filter p (n ∷ [])
 filter_range_more p n =
-    ap (filter p) (range_more 0 n n (zero-add n)) ∙ filter-append p (range_with_len 0 n) (n ∷ [])
+    ap (filter p) (range-more 0 n n (zero-add n)) ∙ filter-append p (range_with_len 0 n) (n ∷ [])
 
 -- one more that passes stands last
 pub passes_next : {X : Type 0} (p : ℕ → Bool) (f : ℕ → X) (n : ℕ) (old : List X)
@@ -95,5 +80,5 @@ pub sum_next : (f : ℕ → ℕ) (n : ℕ) {before new more : ℕ} →
 sum_next f n before_is new_is more_is =
     let front = range_with_len 0 n in
     let parts : sum_by f (range_with_len 0 (n + 1)) ≡ sum_by f front + sum_by f (n ∷ []) =
-    ap (sum_by f) (range_more 0 n n (zero-add n)) ∙ sum_by-append f front (n ∷ []) in
+    ap (sum_by f) (range-more 0 n n (zero-add n)) ∙ sum_by-append f front (n ∷ []) in
     omega (arith, before_is, new_is, more_is, parts, sum_by-cons f n [])
