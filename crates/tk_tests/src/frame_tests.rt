@@ -1,3 +1,4 @@
+use crate::shapes::small;
 use std::alloc::{AllocError, Global};
 use std::test::Fail;
 use tk_frames::{
@@ -7,10 +8,7 @@ use tk_frames::{
 use tk_shape::Shape;
 
 fn small_shape() -> Result<Shape, Fail> {
-    match Shape::new([2, 8, 4, 4, 24, 64, 1, 0, 2, 2, 1, 1]) {
-        Ok(shape) => Ok(shape),
-        Err(_) => Err("shape".into()),
-    }
+    Ok(small(1).ok().ok_or("shape")?)
 }
 
 /// Bytes, with zeros after them up to a length.

@@ -43,6 +43,8 @@ mod seed_tests;
 #[cfg(test)]
 mod shape_tests;
 #[cfg(test)]
+mod shapes;
+#[cfg(test)]
 mod table_tests;
 #[cfg(test)]
 mod told_tests;

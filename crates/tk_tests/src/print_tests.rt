@@ -1,4 +1,5 @@
 use crate::script_tests::{Parts, SEEDED, join, parsed};
+use crate::shapes::SMALL;
 use std::alloc::Global;
 use std::test::Fail;
 use tk_script::{
@@ -121,7 +122,7 @@ const TAPES: [([u32; 12], usize, &[u8]); 2] = [
         2,
         b"x 0f0f0f0f0f0f0f0f0f0f0f0f0f0f0f0f0f0f\n",
     ),
-    ([2, 8, 4, 4, 24, 64, 1, 0, 2, 2, 1, 1], 8, b""),
+    (SMALL, 8, b""),
 ];
 
 /// Whether the tape of a shape is printed after another text in so many full lines and this last one.

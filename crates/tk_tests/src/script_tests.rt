@@ -1,3 +1,4 @@
+use crate::shapes::SMALL;
 use std::alloc::Global;
 use std::test::Fail;
 use tk_schedule::{Item, RawKind, RawLine};
@@ -54,7 +55,7 @@ fn is_drawn(script: &Script) -> bool {
     let [say] = script.says.as_slice() else {
         return false;
     };
-    script.shape.numbers() == [2, 8, 4, 4, 24, 64, 1, 0, 2, 2, 1, 1]
+    script.shape.numbers() == SMALL
         && script.roles.as_slice()[0].writer == 0
         && script.roles.as_slice()[0].followers.as_slice() == [1].as_slice()
         && (say.phase, say.tick, say.log) == (1, 1, 0)

@@ -1,9 +1,10 @@
 //! Reads of format 2, which tell most servers their vectors by seeds.
-ghost use Rattle.std.specs.Prelude.{◌≡◌, ◌<◌, ◌≤◌, IfOk};
+ghost use Rattle.std.specs.Prelude.{◌≡◌, ◌<◌, IfOk};
 ghost use Rattle.tk_shape.specs.Lengths.{turn_count};
 
 use crate::frame_tests::padded;
 use crate::script_tests::{Parts, join};
+use crate::shapes::small;
 use std::alloc::{AllocError, Global};
 use tk_bloom::{Filter, Window};
 use tk_client::Client;
@@ -11,22 +12,6 @@ use tk_frames::{FrameError, Name, Seeds, decode_read, encode_read};
 use tk_handle::Handle;
 use tk_shape::{Memory, Shape};
 use tk_words::{DrawnDraws, Draws, KeyedDraws, Tape};
-
-/// Two servers, eight buckets, two clients and two turns.
-fn small(format: u32) -> Result<Shape, Memory>
-    requires low { 1 ≤ format }
-    requires high { format ≤ 2 }
-    ensures format { IfOk result (λ s. s.format ≡ format) }
-    ensures servers { IfOk result (λ s. s.servers ≡ 2) }
-    ensures buckets { IfOk result (λ s. s.buckets ≡ 8) }
-    ensures clients { IfOk result (λ s. s.clients ≡ 2) }
-    ensures turns { IfOk result (λ s. turn_count s ≡ 2) }
-{
-    match Shape::of(format, [2, 8, 4, 4, 24, 64, 1, 0, 2, 2, 1, 1]) {
-        Ok(shape) => Ok(shape),
-        Err(_) => Err(Memory),
-    }
-}
 
 /// Three servers, sixteen buckets, two clients and two turns, in format 2.
 fn wide() -> Result<Shape, Memory>

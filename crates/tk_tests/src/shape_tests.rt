@@ -1,7 +1,6 @@
+use crate::shapes::SMALL;
 use std::test::Fail;
 use tk_shape::{Bytes, Differs, Field, Shape, ShapeError, Words};
-
-const SMALL: [u32; 12] = [2, 8, 4, 4, 24, 64, 1, 0, 2, 2, 1, 1];
 
 #[test]
 fn lengths_of_a_small_shape(rt: HostRuntime) -> Result<(), Fail> {

@@ -2,28 +2,12 @@ ghost use Rattle.std.specs.Prelude.{◌≡◌, ◌<◌, ◌≤◌, ◌+◌, leng
 ghost use Rattle.tk_shape.specs.Lengths.{turn_count};
 ghost use Rattle.tk_seal.specs.Texts.{is_allowed};
 
+use crate::shapes::small;
 use std::alloc::Global;
 use tk_handle::Handle;
 use tk_seal::allowed;
 use tk_shape::{Memory, Shape};
 use tk_words::{Book, DrawnDraws, Draws, KeyedDraws, LogSeeds, Tape, TapeError};
-
-// Two servers, eight buckets, two clients, two turns and one log.
-fn small() -> Result<Shape, Memory>
-    ensures format { IfOk result (λ s. s.format ≡ 1) }
-    ensures servers { IfOk result (λ s. s.servers ≡ 2) }
-    ensures buckets { IfOk result (λ s. s.buckets ≡ 8) }
-    ensures block { IfOk result (λ s. s.block ≡ 24) }
-    ensures hits { IfOk result (λ s. s.hits ≡ 1) }
-    ensures clients { IfOk result (λ s. s.clients ≡ 2) }
-    ensures logs { IfOk result (λ s. s.logs ≡ 1) }
-    ensures turns { IfOk result (λ s. turn_count s ≡ 2) }
-{
-    match Shape::new([2, 8, 4, 4, 24, 64, 1, 0, 2, 2, 1, 1]) {
-        Ok(shape) => Ok(shape),
-        Err(_) => Err(Memory),
-    }
-}
 
 const SECRET: [u8; 32] = *b"abcdefghijklmnopqrstuvwxyz012345";
 
@@ -169,7 +153,7 @@ const OF_TAPE: Given = Given {
 
 #[test]
 fn words_of_a_tape(rt: HostRuntime) -> Result<(), Memory> {
-    let draws = drawn(rt.alloc(), &small()?)?;
+    let draws = drawn(rt.alloc(), &small(1)?)?;
     assert!(rt; gives_number(&draws, &OF_TAPE));
     assert!(rt; gives_sealed(&draws, &OF_TAPE));
     assert!(rt; gives_fresh(&draws, &OF_TAPE));
@@ -180,7 +164,7 @@ fn words_of_a_tape(rt: HostRuntime) -> Result<(), Memory> {
 
 #[test]
 fn words_of_another_cell(rt: HostRuntime) -> Result<(), Memory> {
-    let draws = drawn(rt.alloc(), &small()?)?;
+    let draws = drawn(rt.alloc(), &small(1)?)?;
     let mut hits = [9; 1];
     let mut block = [9; 24];
     assert!(rt; draws.fresh_write(1, 0, &mut hits, &mut block) == (2, 2));
@@ -209,7 +193,7 @@ const OF_KEYS: Given = Given {
 fn words_of_keys(rt: HostRuntime) -> Result<(), Memory> {
     let handles = vec![in rt.alloc(); Handle::from_root(7, &SECRET)]?;
     let seeds = vec![in rt.alloc(); [0; 32], SECRET]?;
-    let draws = KeyedDraws::new(&small()?, handles, seeds);
+    let draws = KeyedDraws::new(&small(1)?, handles, seeds);
     assert!(rt; gives_number(&draws, &OF_KEYS));
     assert!(rt; gives_sealed(&draws, &OF_KEYS));
     assert!(rt; gives_fresh(&draws, &OF_KEYS));
@@ -225,7 +209,7 @@ fn words_of_keys(rt: HostRuntime) -> Result<(), Memory> {
 
 #[test]
 fn a_tape_of_another_length(rt: HostRuntime) -> Result<(), Memory> {
-    let shape = small()?;
+    let shape = small(1)?;
     let mut bytes = match Tape::from_bytes(&shape, cells(rt.alloc())?) {
         Ok(tape) => Vec::from_slice(rt.alloc(), tape.as_bytes())?,
         Err(_) => return Err(Memory),

@@ -1,5 +1,5 @@
 -- The End stands after lines of which none is one.
-use Rattle.tk_tests.proofs.EndLaws.{end_behind_told}
+use Rattle.tk_schedule.proofs.Offers.{end_behind_told}
 use Rattle.tk_tests.proofs.told_tests.lines_of.Goals as goal
 
 pub from_vec-requires : goal.from_vec-requires
