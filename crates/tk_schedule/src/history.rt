@@ -64,6 +64,14 @@ impl History {
         })
     }
 
+    /// The history of these turns.
+    pub fn from_turns(turns: Vec<TurnOrder>) -> History
+        requires { (shape : Shape) × IsLegal shape turns.items }
+        ensures { result ≡ turns.items }
+    {
+        History { turns }
+    }
+
     /// A turn's order.
     pub fn order(&self, turn: u32) -> &[Item]
         requires { turn < length self.now }
