@@ -1,7 +1,6 @@
 -- Lists of which the elements before a place were changed, and those from it on weren't yet.
-use Rattle.std.proofs.Common.{◌≡◌, ◌≢◌, sym, subst, arith, inl, inr}
-use Rattle.std.proofs.Common.{ℕ, ◌+◌, ◌<◌, ◌≤◌, List, length, set}
-use Rattle.std.proofs.Common.{length-set, get_or-set_same, get_or-set_other}
+use Rattle.std.proofs.Common.{◌≡◌, ◌≢◌, sym, subst, arith, inl, inr, ℕ, ◌+◌, ◌<◌, ◌≤◌, List, length, set, length-set}
+use Rattle.std.proofs.Common.{get_or-set_same, get_or-set_other}
 use Rattle.std.specs.Prelude.{slice_index_or}
 use Rattle.std.proofs.lemmas.Bool.{cases_lt}
 
@@ -11,19 +10,19 @@ pub record IsSplit {X : Type 0} (place : ℕ) (done due : ℕ → X → Type 0) 
   pub done_are : (k : ℕ) (d : X) → k < place → k < length xs → done k (slice_index_or xs k d)
   pub due_are : (k : ℕ) (d : X) → place ≤ k → k < length xs → due k (slice_index_or xs k d)
 
-pub split-none : {X : Type 0} (done due : ℕ → X → Type 0) (xs : List X) →
+pub split-none : {X : Type 0} {done due : ℕ → X → Type 0} {xs : List X} →
     ((k : ℕ) (d : X) → k < length xs → due k (slice_index_or xs k d)) → IsSplit 0 done due xs
-split-none {X} done due xs all =
+split-none all =
     record {
       done_are = λ k d low within. absurd (omega (arith, low));
       due_are = λ k d from within. all k d within;
     }
 
 -- the element at the place is changed
-pub split-next : {X : Type 0} (place : ℕ) (done due : ℕ → X → Type 0) (xs : List X) (x : X) →
-    place < length xs → done place x → IsSplit place done due xs →
+pub split-next : {X : Type 0} {place : ℕ} {done due : ℕ → X → Type 0} {xs : List X} (x : X) →
+    IsSplit place done due xs → place < length xs → done place x →
     IsSplit (place + 1) done due (set xs place x)
-split-next {X} place done due xs x low is split =
+split-next {X} {place} {done} {due} {xs} x split low is =
     let counted = length-set xs place x in
     record {
       done_are = λ k d below within. elim (cases_lt k place) [
@@ -42,8 +41,8 @@ split-next {X} place done due xs x low is split =
     }
 
 -- all are changed
-pub split-all : {X : Type 0} (place : ℕ) (done due : ℕ → X → Type 0) (xs : List X) →
-    length xs ≤ place → IsSplit place done due xs →
+pub split-all : {X : Type 0} {place : ℕ} {done due : ℕ → X → Type 0} {xs : List X} →
+    IsSplit place done due xs → length xs ≤ place →
     (k : ℕ) (d : X) → k < length xs → done k (slice_index_or xs k d)
-split-all place done due xs past split k d within =
+split-all split past k d within =
     split.done_are k d (omega (arith, within, past)) within

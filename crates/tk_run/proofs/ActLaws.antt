@@ -1,6 +1,5 @@
 -- What holds of all passes before they act, and after.
-use Rattle.std.proofs.Common.{◌≡◌, ◌∙◌, refl, ap, arith}
-use Rattle.std.proofs.Common.{ℕ, zero, suc, List, [], ◌∷◌, All, Bool, false}
+use Rattle.std.proofs.Common.{◌≡◌, ◌∙◌, refl, ap, arith, ℕ, zero, suc, List, [], ◌∷◌, All, Bool, false}
 use Rattle.std.specs.Prelude.{Option, Some, None}
 use Rattle.atomic_table.specs.Seated.{TableId}
 use Rattle.tk_shape.specs.declared.shape.Shape.{Shape}
@@ -39,12 +38,7 @@ still_on shape most board (x ∷ xs) (d ∷ ds) (e ∷ es) (y ∷ ys) done on ze
 still_on shape most board (x ∷ xs) (d ∷ ds) (e ∷ es) (y ∷ ys) done on (suc k) a low =
     still_on shape most board xs ds es ys done.1
     (all_rest (λ (b : Passing). b.reads.board ≡ board) x xs on) k a (omega (arith, low))
-still_on shape most board [] [] [] (y ∷ ys) done on k d low = absurd done
-still_on shape most board [] [] (e ∷ es) ys done on k d low = absurd done
-still_on shape most board [] (d ∷ ds) es ys done on k a low = absurd done
-still_on shape most board (x ∷ xs) [] es ys done on k d low = absurd done
-still_on shape most board (x ∷ xs) (d ∷ ds) [] ys done on k a low = absurd done
-still_on shape most board (x ∷ xs) (d ∷ ds) (e ∷ es) [] done on k a low = absurd done
+still_on shape most board _ _ _ _ done on k d low = absurd done
 
 -- where nothing was told the turn closes no phase, and the publisher is as it was
 pub nothing_told : (shape : Shape) (b : Bool) (p q : Telling) (o : Option (Known EpochSet)) →

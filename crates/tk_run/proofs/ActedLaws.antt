@@ -1,7 +1,8 @@
 -- A turn of those who acted in it, told of the slips that lie on their desks.
-use Rattle.std.proofs.Common.{◌≡◌, ℕ, suc, ◌+◌, ◌<◌, List, [], ◌∷◌, length, map}
-use Rattle.std.proofs.Common.{Option, Some, refl, ap, sym, ◌∙◌, subst, arith, append-nil}
+use Rattle.std.proofs.Common.{◌≡◌, ℕ, suc, ◌+◌, ◌<◌, List, [], ◌∷◌, length, map, Option, Some, refl, ap, sym, ◌∙◌}
+use Rattle.std.proofs.Common.{subst, arith, append-nil}
 use Rattle.std.specs.Prelude.{slice_index_or}
+use Rattle.std.proofs.lemmas.List.{length-map}
 use Rattle.tk_shape.specs.declared.shape.Shape.{Shape}
 use Rattle.tk_frames.specs.declared.write_frame.WriteFrame.{WriteFrame}
 use Rattle.tk_frames.specs.Ranges.{IsWrite}
@@ -12,10 +13,10 @@ use Rattle.tk_schedule.specs.Schedule.{phases_over}
 use Rattle.tk_cluster.specs.Refusals.{SpellsWrite}
 use Rattle.tk_cluster.specs.Passes.{Passing, Wrote, Pins, Reads}
 use Rattle.tk_cluster.specs.Tellings.{Telling}
-use Rattle.tk_run.specs.declared.slip.Slip.{Slip}
+use Rattle.tk_run.specs.declared.pinned_write.PinnedWrite.{PinnedWrite}
 use Rattle.tk_run.specs.declared.acting.Desk.{Desk}
 use Rattle.tk_run.specs.Ticks.{Done}
-use Rattle.tk_run.specs.Ran.{ActsOn, EachBy, Turned, PassesAt, set_on}
+use Rattle.tk_run.specs.Ran.{ActsOn, EachBy, Turned, PassesAt, Ran, set_on}
 use Rattle.tk_run.specs.Acting.{WroteAndPinned, Acted, AreFrames, frames_on, slips_on}
 
 -- ---- lists and options that are the same
@@ -46,7 +47,7 @@ module _ (shape : Shape) (write : ℕ → WriteFrame)
       (one v w [] a.in_range b.in_range
       (sym b.spelled ∙ (a.spelled ∙ sym (append-nil (write_frame v))))).0
 
-  acts_one : (a : Passing) (d e : Desk) (b : Passing) (s : Slip) →
+  acts_one : (a : Passing) (d e : Desk) (b : Passing) (s : PinnedWrite) →
       WroteAndPinned shape most a d e b → SpellsWrite shape d.frame.items (write a.client) →
       e.slip ≡ Some s → ActsOn write most a s b
   acts_one a d e b s h spells lies =
@@ -57,8 +58,8 @@ module _ (shape : Shape) (write : ℕ → WriteFrame)
       record {
         mid = h.mid;
         wrote = subst (λ w. Wrote a w h.mid) frame h.wrote.wrote;
-        position = ap (λ (x : Slip). x.position) (sym same) ∙ h.position;
-        pins = subst (λ (x : Slip). Reads (λ r t. Pins r most (set_on x) t) h.mid b) same h.pins;
+        position = ap (λ (x : PinnedWrite). x.position) (sym same) ∙ h.position;
+        pins = subst (λ (x : PinnedWrite). Reads (λ r t. Pins r most (set_on x) t) h.mid b) same h.pins;
       }
 
   -- the frames of the clients from client off on
@@ -81,7 +82,7 @@ module _ (shape : Shape) (write : ℕ → WriteFrame)
       (h (suc k) x (omega (arith, low)))
 
   all_acts : (K : List TurnOrder) (p : Telling) (off : ℕ) (xs : List Passing) (ds es : List Desk)
-      (ys : List Passing) (slips : List Slip) → Done (WroteAndPinned shape most) xs ds es ys →
+      (ys : List Passing) (slips : List PinnedWrite) → Done (WroteAndPinned shape most) xs ds es ys →
       PassesAt shape K p off xs → Spelled off ds → slips_on es ≡ map Some slips →
       EachBy (ActsOn write most) xs slips ys
   all_acts K p off [] [] [] [] [] h at spells lie = tt
@@ -95,58 +96,42 @@ module _ (shape : Shape) (write : ℕ → WriteFrame)
         acts_one a d e b s h.0 (spelled_first off d ds a.client (at.0).client spells) here,
         all_acts K p (off + 1) xs ds es ys slips h.1 at.1 (spelled_rest off d ds spells) rest,
       )
-  all_acts K p off [] (d ∷ ds) es ys slips h at spells lie = absurd h
-  all_acts K p off [] [] (e ∷ es) ys slips h at spells lie = absurd h
-  all_acts K p off [] [] [] (y ∷ ys) slips h at spells lie = absurd h
-  all_acts K p off (a ∷ xs) [] es ys slips h at spells lie = absurd h
-  all_acts K p off (a ∷ xs) (d ∷ ds) [] ys slips h at spells lie = absurd h
-  all_acts K p off (a ∷ xs) (d ∷ ds) (e ∷ es) [] slips h at spells lie = absurd h
+  all_acts K p off _ _ _ _ slips h at spells lie = absurd h
 
-  -- the frames stay on the desks
-  all_frames : (xs : List Passing) (ds es : List Desk) (ys : List Passing) →
-      Done (WroteAndPinned shape most) xs ds es ys → frames_on es ≡ frames_on ds
-  all_frames [] [] [] [] h = refl
-  all_frames (a ∷ xs) (d ∷ ds) (e ∷ es) (b ∷ ys) h =
-      λ i. (h.0).frame i ∷ all_frames xs ds es ys h.1 i
-  all_frames [] (d ∷ ds) es ys h = absurd h
-  all_frames [] [] (e ∷ es) ys h = absurd h
-  all_frames [] [] [] (y ∷ ys) h = absurd h
-  all_frames (a ∷ xs) [] es ys h = absurd h
-  all_frames (a ∷ xs) (d ∷ ds) [] ys h = absurd h
-  all_frames (a ∷ xs) (d ∷ ds) (e ∷ es) [] h = absurd h
+-- the frames stay on the desks
+all_frames : (shape : Shape) (most : ℕ) (xs : List Passing) (ds es : List Desk) (ys : List Passing) →
+    Done (WroteAndPinned shape most) xs ds es ys → frames_on es ≡ frames_on ds
+all_frames shape most [] [] [] [] h = refl
+all_frames shape most (a ∷ xs) (d ∷ ds) (e ∷ es) (b ∷ ys) h =
+    λ i. (h.0).frame i ∷ all_frames shape most xs ds es ys h.1 i
+all_frames shape most _ _ _ _ h = absurd h
 
-pub frames_stay : (shape : Shape) (write : ℕ → WriteFrame)
-    (one : IsOneSpelling (IsWrite shape) write_frame) (g : ℕ) (xs : List Passing) (p : Telling)
-    (ds es : List Desk) (zs : List Passing) (q : Telling) → Acted shape g xs p ds es zs q →
-    frames_on es ≡ frames_on ds
-frames_stay shape write one g xs p ds es zs q h =
-    all_frames shape write one (phases_over shape (g + 1)) xs ds es h.acted h.acts
-
-frames_counted : (ds : List Desk) → length (frames_on ds) ≡ length ds
-frames_counted [] = refl
-frames_counted (d ∷ ds) = ap suc (frames_counted ds)
+pub frames_stay : {shape : Shape} {g : ℕ} {xs : List Passing} {p : Telling} {ds es : List Desk}
+    {zs : List Passing} {q : Telling} → Acted shape g xs p ds es zs q → frames_on es ≡ frames_on ds
+frames_stay {shape} {g} {xs} {p} {ds} {es} h =
+    all_frames shape (phases_over shape (g + 1)) xs ds es h.acted h.acts
 
 -- where the desks had the frames of what the clients write, it is a turn of these writes
-pub acted_turned : (shape : Shape) (write : ℕ → WriteFrame)
-    (one : IsOneSpelling (IsWrite shape) write_frame) (K : List TurnOrder) (g : ℕ)
-    (xs : List Passing) (p : Telling) (ds es : List Desk) (zs : List Passing) (q : Telling)
-    (slips : List Slip) → Acted shape g xs p ds es zs q → PassesAt shape K p 0 xs →
-    AreFrames shape write (frames_on ds) → slips_on es ≡ map Some slips →
-    Turned shape write g xs p slips zs q
-acted_turned shape write one K g xs p ds es zs q slips h at frames lie =
-    let most = phases_over shape (g + 1) in
+pub acted_turned : {shape : Shape} {write : ℕ → WriteFrame} {writes : ℕ → ℕ → WriteFrame}
+    {K : List TurnOrder} {g : ℕ} {xs : List Passing} {p : Telling} {ds es : List Desk}
+    {zs : List Passing} {q : Telling} (slips : List PinnedWrite) →
+    IsOneSpelling (IsWrite shape) write_frame → Ran shape writes K xs p →
+    Acted shape g xs p ds es zs q → AreFrames shape write (frames_on ds) →
+    slips_on es ≡ map Some slips → Turned shape write g xs p slips zs q
+acted_turned {shape} {write} {writes} {K} {g} {xs} {p} {ds} {es} slips one ran h frames lie =
     let spells : (k : ℕ) (d : List ℕ) → k < length ds →
     SpellsWrite shape (slice_index_or (frames_on ds) k d) (write (0 + k)) =
     λ k d low.
     let same : k ≡ 0 + k = omega arith in
     subst (λ n. SpellsWrite shape (slice_index_or (frames_on ds) k d) (write n)) same
-    (frames.each k d (omega (arith, low, frames_counted ds)))
+    (frames.each k d (omega (arith, low, length-map ds (λ (d : Desk). d.frame.items))))
     in
     record {
       acted = h.acted;
       told = h.told;
       learned = h.learned;
-      acts = all_acts shape write one most K p 0 xs ds es h.acted slips h.acts at spells lie;
+      acts = all_acts shape write one (phases_over shape (g + 1)) K p 0 xs ds es h.acted slips h.acts
+          ran.passes spells lie;
       tells = h.tells;
       learns = h.learns;
       met = h.met;

@@ -1,19 +1,18 @@
 -- What a client takes from the replies to its read.
-use Rattle.std.proofs.Common.{◌≡◌, refl, None, ap, ap₂, sym, subst, ◌∙◌, arith}
-use Rattle.std.proofs.Common.{ℕ, ◌+◌, ◌<◌, List, [], ◌∷◌, ◌++◌, length, map, Option, Some}
-use Rattle.std.proofs.Common.{zero, suc, ◌≤◌, inl, inr}
-use Rattle.std.specs.Prelude.{IsSome}
+use Rattle.std.proofs.Common.{◌≡◌, refl, None, ap, ap₂, sym, subst, ◌∙◌, arith, add-one, ℕ, ◌+◌, ◌<◌, List, [], ◌∷◌}
+use Rattle.std.proofs.Common.{◌++◌, length, map, Option, Some, zero, suc, ◌≤◌, inl, inr}
+use Rattle.std.specs.Prelude.{slice_index_or, IsSome}
 use Rattle.std.proofs.lemmas.Bool.{cases_lt}
 use Rattle.std.proofs.lemmas.List.FromFn.{length-map-range_with_len}
 use Rattle.std.specs.List.{AllByRecursion, range_with_len}
 use Rattle.std.proofs.lemmas.List.{length-map}
 use Rattle.std.proofs.lemmas.List.Elements.{recursion_from_All, All-from_get_or}
 use Rattle.tk_shape.specs.declared.shape.Shape.{Shape}
-use Rattle.tk_shape.specs.Lengths.{width}
+use Rattle.tk_shape.specs.Lengths.{width, turn_count}
 use Rattle.tk_kernel.specs.Xor.{xor_all}
 use Rattle.tk_kernel.specs.Chosen.{chosen_sum, chosen_from}
 use Rattle.tk_kernel.proofs.Offers.{length-xor_all, AllSized-chosen_from}
-use Rattle.tk_words.specs.Words.{WordBook, BookWords, words_of, opened as opens_to, fresh_vectors}
+use Rattle.tk_words.specs.Words.{WordBook, BookWords, words_of, opened as opens_to, fresh_vectors, IsBook}
 use Rattle.tk_frames.specs.declared.read_frame.ReadFrame.{ReadFrame}
 use Rattle.tk_frames.specs.declared.reply_frame.ReplyFrame.{ReplyFrame}
 use Rattle.tk_frames.specs.Ranges.{IsRead, IsReply}
@@ -25,23 +24,19 @@ use Rattle.tk_table.specs.Stands.{IsPair}
 use Rattle.tk_table.specs.Table.{layout}
 use Rattle.tk_bucket.specs.Bytes.{blocks_of}
 use Rattle.tk_table.specs.Laws.{IsStorable, block_at}
-use Rattle.tk_table.proofs.Offers.{layout-laid_out}
-use Rattle.tk_table.proofs.Offers.{layout-read_back, layout-as_read}
+use Rattle.tk_table.proofs.Offers.{layout-laid_out, layout-read_back, layout-as_read}
 use Rattle.tk_client.specs.declared.target.Target.{Target}
 use Rattle.tk_client.specs.Reader.{at_epoch, after_read}
 use Rattle.tk_client.specs.Client.{ClientState, after_replies}
 use Rattle.tk_client.specs.Replies.{answer_in, frames_in, first_joined, second_joined}
-use Rattle.tk_client.proofs.Offers.{frames_in-spelled}
+use Rattle.tk_client.proofs.Offers.{frames_in-spelled, asked-in_range, pair-in_range, fresh-whole}
 use Rattle.tk_client.specs.Asked.{asked, AreWhole, pair_for}
 use Rattle.tk_schedule.specs.declared.history.History.{History}
 use Rattle.tk_schedule.specs.Schedule.{IsLegal, epoch_at}
-use Rattle.tk_shape.specs.Lengths.{turn_count}
-use Rattle.tk_words.specs.Words.{IsBook}
-use Rattle.tk_client.proofs.Offers.{asked-in_range, pair-in_range, fresh-whole}
-use Rattle.tk_report.proofs.Offers.{before-next, epochs-ordered, epochs-storable}
+use Rattle.tk_report.proofs.Offers.{epochs-ordered, epochs-storable}
 use Rattle.tk_script.specs.declared.script.Script.{Script}
 use Rattle.tk_report.specs.Queues.{writing_before}
-use Rattle.tk_report.specs.Report.{lookup, answered, read_over, target_at, reader_before}
+use Rattle.tk_report.specs.Report.{lookup, answered, read_over, target_at, reader_before, reader_step}
 use Rattle.tk_table.specs.Replies.{reply_to}
 use Rattle.tk_report.specs.Exchange.{read_at}
 use Rattle.tk_run.specs.Clients.{idle, client_before, client_knowing, client_asked}
@@ -189,13 +184,13 @@ replies-in_range S b H g c sound =
     (subst (AllByRecursion (IsRead S.shape)) (sym (asked-read_at S b H g c)) sound.reads)
 
 -- from which it takes what is looked up for its target
-pub client-took : (S : Script) (b : WordBook) (H : History) (g c : ℕ) (old new : ClientState)
-    (replies : List (List ℕ)) → let w = words_of S.shape b in
+pub client-took : {S : Script} {b : WordBook} {H : History} {g c : ℕ} {old new : ClientState}
+    {replies : List (List ℕ)} → let w = words_of S.shape b in
     IsSound S b H g c → old ≡ client_asked S w H g c →
     replies ≡ replied S b H g S.shape.servers c →
     new ≡ after_replies (words_of old.shape b) replies old → new ≡ client_before S w H (g + 1) c
 unfolding client_asked client_knowing client_before
-client-took S b H g c old new replies sound asked_is replies_are is =
+client-took {S} {b} {H} {g} {c} {old} {new} {replies} sound asked_is replies_are is =
     let w = words_of S.shape b in
     let R = read_over S w H g c in
     let e = epoch_at H g c in

@@ -1,7 +1,6 @@
 -- The reads of a turn of threads, of which some servers have replied.
-use Rattle.std.proofs.Common.{◌≡◌, refl, ap, sym, ◌∙◌, subst, arith}
-use Rattle.std.proofs.Common.{ℕ, ◌+◌, ◌<◌, List, [], ◌∷◌, ◌++◌, length, map, take, take_all, All}
-use Rattle.std.proofs.Common.{length-append}
+use Rattle.std.proofs.Common.{◌≡◌, refl, ap, sym, ◌∙◌, subst, arith, ℕ, ◌+◌, ◌<◌, List, [], ◌∷◌, ◌++◌, length, map}
+use Rattle.std.proofs.Common.{take, take_all, All, length-append}
 use Rattle.std.proofs.lemmas.List.{get_or_default, length-map}
 use Rattle.std.proofs.Math.Seq.{get_or-append_seam}
 use Rattle.std.specs.Prelude.{slice_index_or, Vec, Ok, IfOk}
@@ -13,8 +12,8 @@ use Rattle.tk_cluster.specs.Refusals.{IsAsked}
 use Rattle.tk_run.specs.declared.talking.Reading.{Reading}
 use Rattle.tk_run.specs.Rows.{Frame}
 use Rattle.tk_run.specs.Reading.{EachAt}
-use Rattle.tk_run.specs.Answering.{MayAnswer, IsAnswered, AllStand, MayReply, AreGiven}
-use Rattle.tk_run.specs.Answering.{Replies, AllReply, set_of, frame_of}
+use Rattle.tk_run.specs.Answering.{MayAnswer, IsAnswered, AllStand, MayReply, AreGiven, Replies, AllReply, set_of}
+use Rattle.tk_run.specs.Answering.{frame_of}
 use Rattle.tk_run.proofs.Cuts.{map-next, take_none}
 use Rattle.tk_run.proofs.TalkAll.{map-at}
 

@@ -1,11 +1,10 @@
 -- What a client asks in a turn.
-use Rattle.std.proofs.Common.{◌≡◌, refl, ap, ap₂, ◌∙◌}
-use Rattle.std.proofs.Common.{ℕ, ◌+◌, ◌<◌, Bool, List, [], ◌∷◌, map, Option, None}
+use Rattle.std.proofs.Common.{◌≡◌, refl, ap, ap₂, ◌∙◌, ℕ, ◌+◌, ◌<◌, Bool, List, [], ◌∷◌, map, Option, None}
 use Rattle.std.specs.List.{range_with_len}
 use Rattle.tk_schedule.specs.declared.history.History.{History}
 use Rattle.tk_schedule.specs.Schedule.{epoch_at}
 use Rattle.tk_script.specs.declared.script.Script.{Script}
-use Rattle.tk_words.specs.Words.{WordBook, words_of}
+use Rattle.tk_words.specs.Words.{WordBook, words_of, BookWords}
 use Rattle.tk_frames.specs.Spelling.{read_frame}
 use Rattle.tk_bloom.specs.Filters.{all_marked}
 use Rattle.tk_client.specs.Asked.{frame_for, asked, shown_by}
@@ -19,11 +18,10 @@ use Rattle.tk_run.specs.Clients.{client_knowing, client_wrote, client_asked}
 use Rattle.tk_frames.specs.Order.{Record, before}
 use Rattle.tk_replica.specs.declared.epoch.Epoch.{Epoch}
 use Rattle.tk_replica.specs.Epochs.{IsEpochOf}
-use Rattle.tk_words.specs.Words.{BookWords}
 use Rattle.tk_run.specs.Turns.{placed_before}
 use Rattle.tk_run.proofs.ReadingLaws.{map-map, AreMade}
 
-map_same : {X Y : Type 0} (f g : X → Y) → ((x : X) → f x ≡ g x) → (xs : List X) →
+pub map_same : {X Y : Type 0} (f g : X → Y) → ((x : X) → f x ≡ g x) → (xs : List X) →
     map f xs ≡ map g xs
 map_same f g same [] = refl
 map_same f g same (x ∷ xs) = ap₂ (λ y ys. y ∷ ys) (same x) (map_same f g same xs)

@@ -1,9 +1,7 @@
 -- Frames that a server answers, row after row, and replies that are given to clients.
-use Rattle.std.proofs.Common.{◌≡◌, refl, ap, ap₂, sym, ◌∙◌, subst, arith, inl, inr}
-use Rattle.std.proofs.Common.{ℕ, ◌+◌, ◌-◌, ◌<◌, ◌≤◌, List, [], ◌∷◌, ◌++◌, length}
-use Rattle.std.proofs.Common.{map, take, drop, set}
-use Rattle.std.proofs.Common.{All, append-nil, append_assoc, length-append, length-drop, take-append-drop}
-use Rattle.std.proofs.Common.{length-set, get_or-set_same, get_or-set_other, get_or-drop}
+use Rattle.std.proofs.Common.{◌≡◌, refl, ap, ap₂, sym, ◌∙◌, subst, arith, inl, inr, ℕ, ◌+◌, ◌-◌, ◌<◌, ◌≤◌, List, []}
+use Rattle.std.proofs.Common.{◌∷◌, ◌++◌, length, map, take, drop, set, All, append-nil, append_assoc, length-append}
+use Rattle.std.proofs.Common.{length-drop, take-append-drop, length-set, get_or-set_same, get_or-set_other, get_or-drop}
 use Rattle.std.proofs.Common.{get_or-take, length-take-le}
 use Rattle.std.proofs.lemmas.List.{get_or_default, map-append}
 use Rattle.std.proofs.lemmas.List.Elements.{All-drop}
@@ -20,10 +18,10 @@ use Rattle.tk_run.specs.Answering.{MayReply, IsGiven, AreGiven, set_of, epoch_of
 -- ---- rows
 
 -- what is left of the frames are reads that the server is asked for too
-pub reply-rest : (shape : Shape) (server : ℕ) (rs : List Reading) (frames : List Frame) (n : ℕ) →
+pub reply-rest : {shape : Shape} {server : ℕ} {rs : List Reading} {frames : List Frame} (n : ℕ) →
     n ≤ length frames → MayReply shape server rs frames →
     MayReply shape server (drop n rs) (drop n frames)
-reply-rest shape server rs frames n low may =
+reply-rest {shape} {server} {rs} {frames} n low may =
     record {
       low = may.low;
       high = may.high;
@@ -38,12 +36,12 @@ reply-rest shape server rs frames n low may =
     }
 
 -- the frames of a row are reads of the set of its first client
-pub row-asked : (shape : Shape) (server : ℕ) (rs : List Reading) (frames : List Frame) (n : ℕ)
+pub row-asked : {shape : Shape} {server : ℕ} {rs : List Reading} {frames : List Frame} (n : ℕ)
     (d : Reading) → MayReply shape server rs frames → n ≤ length frames → 0 < n →
     ((k : ℕ) (e : Reading) → k < n →
     epoch_of (slice_index_or rs k e) ≡ epoch_of (slice_index_or rs 0 e)) →
     All (IsAsked (set_of (slice_index_or rs 0 d))) (take n frames)
-row-asked shape server rs frames n d may within some same k f low =
+row-asked {shape} {server} {rs} {frames} n d may within some same k f low =
     let inside : k < n = omega (arith, low, length-take-le n frames within) in
     let first = slice_index_or rs 0 d in
     let asked = may.asked k d f (omega (arith, inside, within)) in
@@ -115,11 +113,11 @@ given-none replies rs same =
     }
 
 -- the last that is left is given
-pub given-next : (left less : List Frame) (x : Frame) (old : List Reading) (replies : List Frame)
-    (new : List Reading) (n : ℕ) (d r : Reading) → length replies ≡ length old →
+pub given-next : {left less : List Frame} {x : Frame} {old : List Reading} {replies : List Frame}
+    {new : List Reading} (n : ℕ) (d r : Reading) → length replies ≡ length old →
     left ≡ less ++ x ∷ [] → length less ≡ n → IsGiven x (slice_index_or new n d) r →
     GivenFrom left old replies new → GivenFrom less old replies (set new n r)
-given-next left less x old replies new n d r same split place is h =
+given-next {left} {less} {x} {old} {replies} {new} n d r same split place is h =
     let long : length left ≡ n + 1 =
     ap length split ∙ length-append less (x ∷ []) ∙ ap (λ m. m + 1) place
     in
@@ -162,8 +160,8 @@ given-next left less x old replies new n d r same split place is h =
     }
 
 -- and at the end all are
-pub given-all : (left : List Frame) (old : List Reading) (replies : List Frame)
-    (new : List Reading) → length left ≡ 0 → length replies ≡ length old →
+pub given-all : {left : List Frame} {old : List Reading} {replies : List Frame}
+    {new : List Reading} → length left ≡ 0 → length replies ≡ length old →
     GivenFrom left old replies new → AreGiven replies old new
-given-all left old replies new none same h k d f low =
+given-all none same h k d f low =
     h.given k d f (omega (arith, none)) (omega (arith, low, same))

@@ -1,6 +1,5 @@
 -- What a turn puts after the entries so far.
-use Rattle.std.proofs.Common.{◌≡◌, ℕ, zero, suc, ◌+◌, ◌<◌, ◌≤◌, List, [], ◌∷◌, length}
-use Rattle.std.proofs.Common.{ap, sym, subst, arith, All}
+use Rattle.std.proofs.Common.{◌≡◌, ℕ, zero, suc, ◌+◌, ◌<◌, ◌≤◌, List, [], ◌∷◌, length, ap, sym, subst, arith, All}
 use Rattle.std.specs.Prelude.{slice_index_or}
 use Rattle.tk_shape.specs.declared.shape.Shape.{Shape}
 use Rattle.tk_frames.specs.declared.write_frame.WriteFrame.{WriteFrame}
@@ -10,19 +9,18 @@ use Rattle.tk_schedule.specs.Schedule.{marks_due}
 use Rattle.tk_order.specs.Legality.{of}
 use Rattle.tk_report.specs.Entries.{placed_from}
 use Rattle.tk_report.specs.Histories.{items_in}
-use Rattle.tk_run.specs.declared.slip.Slip.{Slip}
+use Rattle.tk_run.specs.declared.pinned_write.PinnedWrite.{PinnedWrite}
 use Rattle.tk_run.specs.Ran.{turn_of}
 use Rattle.tk_run.proofs.EntryLists.{from_ranged, Ranged, count_all}
-use Rattle.tk_run.proofs.TurnItems.{AllOwn, OwnUnder, all_own, read_off, AtPlaces, order_built}
-use Rattle.tk_run.proofs.TurnItems.{place_within}
+use Rattle.tk_run.proofs.TurnItems.{AllOwn, OwnUnder, all_own, read_off, AtPlaces, order_built, place_within}
 use Rattle.tk_run.proofs.Steps.{entry_on}
 
 -- ---- the entries of a turn
 
 -- what stands under each client's number
-each_one : (write : ℕ → WriteFrame) (E : List Placed) (off : ℕ) (ds : List Slip) →
+each_one : (write : ℕ → WriteFrame) (E : List Placed) (off : ℕ) (ds : List PinnedWrite) →
     AtPlaces write E off ds → (k : ℕ) → k < length ds → (c : ℕ) → c ≡ off + k →
-    (d : Slip) × (of (c + 1) E ≡ entry_on write c d ∷ [])
+    (d : PinnedWrite) × (of (c + 1) E ≡ entry_on write c d ∷ [])
 each_one write E off [] at k low c is = absurd (omega (arith, low))
 each_one write E off (d ∷ ds) at zero low c is =
     let same : off ≡ c = omega (arith, is) in
@@ -32,20 +30,20 @@ each_one write E off (d ∷ ds) at (suc k) low c is =
 
 -- what a turn with these slips put after a list, in a legal order
 pub record Brings (shape : Shape) (write : ℕ → WriteFrame) (g : ℕ) (E T : List Placed)
-    (ds : List Slip) : Type 0 where
+    (ds : List PinnedWrite) : Type 0 where
   pub order : IsOrderFrom shape (length E + 1) (mark_count E + 1) T
   pub counted : length ds ≡ shape.clients
   pub places : AtPlaces write T 0 ds
   pub marked : length (of 0 T) ≡ marks_due shape g
 
 -- the write of a slip stands among the next so many entries
-abbrev pub StandsIn : ℕ → ℕ → Slip → Type 0
+abbrev pub StandsIn : ℕ → ℕ → PinnedWrite → Type 0
 StandsIn start count d = (start < d.position) × (d.position ≤ start + count)
 
-module _ (shape : Shape) (write : ℕ → WriteFrame) (own_write : (c : ℕ) → (write c).client ≡ c)
-    (g : ℕ) (E T : List Placed) (ds : List Slip) (brings : Brings shape write g E T ds) where
+module _ {shape : Shape} {write : ℕ → WriteFrame} {g : ℕ} {E T : List Placed} {ds : List PinnedWrite}
+    (own_write : (c : ℕ) → (write c).client ≡ c) (brings : Brings shape write g E T ds) where
   abbrev one_under : (c : ℕ) → c < shape.clients →
-      (d : Slip) × (of (c + 1) T ≡ entry_on write c d ∷ [])
+      (d : PinnedWrite) × (of (c + 1) T ≡ entry_on write c d ∷ [])
   one_under c low =
       each_one write T 0 ds brings.places c (omega (arith, low, brings.counted)) c (omega arith)
 
@@ -79,7 +77,7 @@ module _ (shape : Shape) (write : ℕ → WriteFrame) (own_write : (c : ℕ) →
       (shape.clients + marks_due shape g) (sym brings_counted) brings.counted brings.places
 
   -- each write stands among them
-  places_within : (off : ℕ) (es : List Slip) → AtPlaces write T off es → (k : ℕ) (d : Slip) →
+  places_within : (off : ℕ) (es : List PinnedWrite) → AtPlaces write T off es → (k : ℕ) (d : PinnedWrite) →
       k < length es → StandsIn (length E) (length T) (slice_index_or es k d)
   places_within off [] at k d low = absurd (omega (arith, low))
   places_within off (e ∷ es) at zero d low =

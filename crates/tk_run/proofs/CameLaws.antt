@@ -1,8 +1,8 @@
 -- What a run of threads leaves of the history that came about.
-use Rattle.std.proofs.Common.{◌≡◌, ℕ, zero, suc, ◌+◌, ◌<◌, List, [], ◌∷◌, length, map}
-use Rattle.std.proofs.Common.{refl, ap, ap₂, ◌∙◌, arith}
+use Rattle.std.proofs.Common.{◌≡◌, ℕ, zero, suc, ◌+◌, ◌<◌, List, [], ◌∷◌, length, map, refl, ap, ap₂, ◌∙◌, arith}
 use Rattle.std.specs.Prelude.{slice_index, slice_index_or}
 use Rattle.std.specs.List.{range_with_len}
+use Rattle.std.proofs.lemmas.List.{get_or_default}
 use Rattle.tk_shape.specs.declared.shape.Shape.{Shape}
 use Rattle.tk_shape.specs.Lengths.{turn_count}
 use Rattle.tk_schedule.specs.declared.history.TurnOrder.{TurnOrder}
@@ -34,20 +34,13 @@ map-places {X} {Y} f h off (x ∷ xs) same =
     let next : off + suc k ≡ off + 1 + k = omega arith in
     same (suc k) d (omega (arith, low)) ∙ ap h next))
 
--- any default serves inside a list
-default_other : (K : List TurnOrder) (k : ℕ) (d e : TurnOrder) → k < length K →
-    slice_index_or K k d ≡ slice_index_or K k e
-default_other [] k d e low = absurd (omega (arith, low))
-default_other (x ∷ K) zero d e low = refl
-default_other (x ∷ K) (suc k) d e low = default_other K k d e (omega (arith, low))
-
 epochs_told : (shape : Shape) (K : List TurnOrder) (c : ℕ) → length K ≡ turn_count shape →
     epochs_in K c ≡ epochs_of shape K c
 epochs_told shape K c all =
     map-places (λ (turn : TurnOrder). slice_index turn.epochs c) (λ g. epoch_at K g c) 0 K
     (λ k d low.
     let here : k ≡ 0 + k = omega arith in
-    ap (λ (turn : TurnOrder). slice_index turn.epochs c) (default_other K k d blank_turn low)
+    ap (λ (turn : TurnOrder). slice_index turn.epochs c) (get_or_default K k d blank_turn low)
     ∙ ap (λ g. epoch_at K g c) here)
     ∙ ap (λ n. map (λ g. epoch_at K g c) (range_with_len 0 n)) all
 
@@ -58,18 +51,17 @@ all_epochs shape K off (suc n) all =
     ap₂ (λ (x : List ℕ) (xs : List (List ℕ)). x ∷ xs) (epochs_told shape K off all)
     (all_epochs shape K (off + 1) n all)
 
-module _ (S : Script) (b : WordBook) (K : List TurnOrder) (group : Group) (xs : List Passing)
-    (p : Telling) (course : IsCourse S b (turn_count S.shape) K group xs p) where
+module _ {S : Script} {b : WordBook} {K : List TurnOrder} {group : Group} {xs : List Passing}
+    {p : Telling} (course : IsCourse S b (turn_count S.shape) K group xs p) where
   -- the turns are a legal history, which goes on from itself
   pub course_legal : IsLegal S.shape K
-  course_legal =
-      ran_legal S.shape (write_at S (words_of S.shape b)) K xs p course.ran course.counted
+  course_legal = ran_legal course.ran course.counted
 
   pub course_goes_on : GoesOn S.shape K K
   course_goes_on = record { legal = course_legal; begins = prefix_self K }
 
   pub course_once : AllOnce S.shape p.board xs
-  course_once = ran_all S.shape (write_at S (words_of S.shape b)) K xs p course.ran
+  course_once = ran_all course.ran
 
   -- its clients are those of the history
   pub course_clients : AreClients S.shape.clients
@@ -77,14 +69,14 @@ module _ (S : Script) (b : WordBook) (K : List TurnOrder) (group : Group) (xs : 
   course_clients = course.clients K course_goes_on
 
   -- and its closed cluster had the entries and the epochs of the history
-  pub course_order : (c : Ended) → Closes S.shape xs p c →
+  pub course_order : {c : Ended} → Closes S.shape xs p c →
       c.order ≡ entries S (words_of S.shape b) K
-  course_order c closes =
-      (ran_ends S.shape (write_at S (words_of S.shape b)) K xs p course.ran c closes).0
+  course_order {c} closes =
+      (ran_ends course.ran closes).0
       ∙ ap (entries_before (write_at S (words_of S.shape b)) K) course.counted
 
-  pub course_epochs : (c : Ended) → Closes S.shape xs p c →
+  pub course_epochs : {c : Ended} → Closes S.shape xs p c →
       c.epochs ≡ map (epochs_of S.shape K) (range_with_len 0 S.shape.clients)
-  course_epochs c closes =
-      (ran_ends S.shape (write_at S (words_of S.shape b)) K xs p course.ran c closes).1
+  course_epochs {c} closes =
+      (ran_ends course.ran closes).1
       ∙ all_epochs S.shape K 0 S.shape.clients course.counted

@@ -1,11 +1,11 @@
 -- A run of threads before a turn.
-use Rattle.std.proofs.Common.{◌≡◌, ℕ, ◌*◌, ◌/◌, ◌<◌, ◌≤◌, List, [], length}
-use Rattle.std.proofs.Common.{refl, sym, ◌∙◌, arith, inl, inr}
+use Rattle.std.proofs.Common.{◌≡◌, ℕ, ◌*◌, ◌/◌, ◌<◌, ◌≤◌, List, [], length, refl, sym, ◌∙◌, arith, inl, inr}
 use Rattle.std.proofs.lemmas.Bool.{cases_lt}
 use Rattle.std.proofs.Math.Nat.{mul-le-mul_right}
 use Rattle.std.proofs.lemmas.Nat.{div-add-mod'}
 use Rattle.tk_shape.specs.declared.shape.Shape.{Shape}
 use Rattle.tk_shape.specs.Lengths.{turn_count}
+use Rattle.tk_frames.specs.declared.write_frame.WriteFrame.{WriteFrame}
 use Rattle.tk_schedule.specs.declared.history.TurnOrder.{TurnOrder}
 use Rattle.tk_schedule.specs.declared.history.History.{History}
 use Rattle.tk_schedule.specs.Schedule.{phases_over}
@@ -25,26 +25,24 @@ use Rattle.tk_run.proofs.GoesOnLaws.{filled}
 use Rattle.tk_run.proofs.SightLaws.{some_goes_on}
 
 -- all is opened as it is before the first turn
-pub course_first : (S : Script) (b : WordBook) (group : Group) (xs : List Passing)
-    (p : Telling) → Opened S.shape p xs → group.said ≡ 0 →
+pub course_first : (S : Script) (b : WordBook) (group : Group) {xs : List Passing} {p : Telling} →
+    Opened S.shape p xs → group.said ≡ 0 →
     AreClients S.shape.clients (client_knowing S (known_first S) 0) group.clients.items →
     IsCourse S b 0 [] group xs p
-course_first S b group xs p opened said clients =
+course_first S b group {xs} {p} opened said clients =
     record {
       counted = refl;
       said = said ∙ sym (said-none S);
-      ran = ran_first S.shape (write_at S (words_of S.shape b)) p xs opened;
+      ran = ran_first (write_at S (words_of S.shape b)) opened;
       clients = λ H goes. clients-first S (words_of S.shape b) H group.clients.items clients;
     }
 
-module _ (S : Script) (b : WordBook) (g : ℕ) (K : List TurnOrder) (group : Group)
-    (xs : List Passing) (p : Telling) (course : IsCourse S b g K group xs p)
+module _ {S : Script} {b : WordBook} {g : ℕ} {K : List TurnOrder} {group : Group}
+    {xs : List Passing} {p : Telling} (course : IsCourse S b g K group xs p)
     (low : g < turn_count S.shape) where
   -- some legal history goes on from the turns so far
   pub course_goes : GoesOn S.shape K (filled S.shape K)
-  course_goes =
-      some_goes_on S.shape (write_at S (words_of S.shape b)) K xs p course.ran
-      (omega (arith, low, course.counted))
+  course_goes = some_goes_on course.ran (omega (arith, low, course.counted))
 
   pub course_counted : length group.clients.items ≡ S.shape.clients
   course_counted = (course.clients (filled S.shape K) course_goes).counted
@@ -72,9 +70,8 @@ over_below shape g low = less shape.ticks (g / shape.ticks) shape.phases g below
           absurd (omega (arith, more, fits, within))
     ]
 
-pub ran_room : (S : Script) (b : WordBook) (K : List TurnOrder) (xs : List Passing)
-    (p : Telling) → Ran S.shape (write_at S (words_of S.shape b)) K xs p →
-    length K < turn_count S.shape → length p.shown ≤ S.shape.phases
-ran_room S b K xs p ran low =
-    let below = over_below S.shape (length K) low in
+pub ran_room : {shape : Shape} {write : ℕ → ℕ → WriteFrame} {K : List TurnOrder} {xs : List Passing}
+    {p : Telling} → Ran shape write K xs p → length K < turn_count shape → length p.shown ≤ shape.phases
+ran_room {shape} {write} {K} ran low =
+    let below = over_below shape (length K) low in
     omega (arith, ran.shown, below)

@@ -1,11 +1,12 @@
 -- The desks of the clients, with the frames of their writes of a turn.
-use Rattle.std.proofs.Common.{◌≡◌, refl, ap, sym, ◌∙◌, subst, arith, inl, inr, add-one}
-use Rattle.std.proofs.Common.{ℕ, zero, suc, ◌+◌, ◌<◌, ◌≤◌, List, [], ◌∷◌, ◌++◌, length}
-use Rattle.std.proofs.Common.{length-append, set}
+use Rattle.std.proofs.Common.{◌≡◌, refl, ap, sym, ◌∙◌, subst, arith, inl, inr, add-one, ℕ, ◌+◌, ◌<◌, ◌≤◌, List, [], ◌∷◌}
+use Rattle.std.proofs.Common.{◌++◌, length, length-append, set}
 use Rattle.std.specs.Prelude.{slice_index_or}
 use Rattle.std.specs.Option.{ForSome}
 use Rattle.std.proofs.lemmas.Bool.{cases_lt}
-use Rattle.std.proofs.lemmas.List.{map-append}
+use Rattle.std.proofs.lemmas.List.{map-append, length-map}
+use Rattle.std.proofs.Math.ListN.{get_or-append}
+use Rattle.std.proofs.Math.Seq.{get_or-append_seam}
 use Rattle.tk_shape.specs.declared.shape.Shape.{Shape}
 use Rattle.tk_shape.specs.Lengths.{turn_count}
 use Rattle.tk_script.specs.declared.script.Script.{Script}
@@ -103,16 +104,6 @@ desks-told S knows g i write old new desks d are low h =
     h.changed.left i d (omega arith)
     ∙ are.each i d (omega (arith, low, h.changed.counted))
 
-at-end : {X : Type 0} (xs : List X) (x d : X) → slice_index_or (xs ++ x ∷ []) (length xs) d ≡ x
-at-end [] x d = refl
-at-end (y ∷ xs) x d = at-end xs x d
-
-before-end : {X : Type 0} (xs : List X) (x d : X) (k : ℕ) → k < length xs →
-    slice_index_or (xs ++ x ∷ []) k d ≡ slice_index_or xs k d
-before-end [] x d k low = absurd (omega (arith, low))
-before-end (y ∷ xs) x d zero low = refl
-before-end (y ∷ xs) x d (suc k) low = before-end xs x d k (omega (arith, low))
-
 -- one client more writes
 pub desks-next : (shape : Shape) (write : ℕ → WriteFrame) (i : ℕ) (old mid : List ClientState)
     (desks more : List Desk) (desk : Desk) (next d : ClientState) →
@@ -125,7 +116,9 @@ desks-next shape write i old mid desks more desk next d low wrote spells pushed 
     let frames : frames_on more ≡ frames_on desks ++ desk.frame.items ∷ [] =
     ap frames_on pushed ∙ map-append (λ (x : Desk). x.frame.items) desks (desk ∷ [])
     in
-    let long : length (frames_on desks) ≡ i = length-frames desks ∙ h.counted in
+    let long : length (frames_on desks) ≡ i =
+    length-map desks (λ (x : Desk). x.frame.items) ∙ h.counted
+    in
     record {
       changed = changed-next Writes i old mid next d within wrote h.changed;
       within = omega (arith, within);
@@ -135,7 +128,7 @@ desks-next shape write i old mid desks more desk next d low wrote spells pushed 
         | inl earlier ↦
             subst (λ (f : List ℕ). SpellsWrite shape f (write k))
             (sym (ap (λ fs. slice_index_or fs k e) frames
-            ∙ before-end (frames_on desks) desk.frame.items e k (omega (arith, earlier, long))))
+            ∙ get_or-append (frames_on desks) (desk.frame.items ∷ []) e k (omega (arith, earlier, long))))
             (h.each k e earlier)
         | inr later ↦
             let same : length (frames_on desks) ≡ k = omega (arith, below, later, long) in
@@ -143,14 +136,10 @@ desks-next shape write i old mid desks more desk next d low wrote spells pushed 
             subst (λ (f : List ℕ). SpellsWrite shape f (write k))
             (sym (ap (λ fs. slice_index_or fs k e) frames
             ∙ ap (λ n. slice_index_or (frames_on desks ++ desk.frame.items ∷ []) n e) (sym same)
-            ∙ at-end (frames_on desks) desk.frame.items e))
+            ∙ get_or-append_seam (frames_on desks) desk.frame.items [] e))
             (subst (λ n. SpellsWrite shape desk.frame.items (write n)) last spells)
       ];
     }
-  where
-    length-frames : (ds : List Desk) → length (frames_on ds) ≡ length ds
-    length-frames [] = refl
-    length-frames (x ∷ ds) = ap suc (length-frames ds)
 
 -- all have written
 pub desks-frames : (shape : Shape) (write : ℕ → WriteFrame) (i : ℕ) (old new : List ClientState)
@@ -160,15 +149,13 @@ desks-frames shape write i old new desks counted past h =
     let same : i ≡ shape.clients =
     omega (arith, counted, past, h.within, h.changed.counted)
     in
-    let long : length (frames_on desks) ≡ i = length-frames desks ∙ h.counted in
+    let long : length (frames_on desks) ≡ i =
+    length-map desks (λ (x : Desk). x.frame.items) ∙ h.counted
+    in
     record {
       counted = long ∙ same;
       each = λ c d low. h.each c d (omega (arith, low, long));
     }
-  where
-    length-frames : (ds : List Desk) → length (frames_on ds) ≡ length ds
-    length-frames [] = refl
-    length-frames (x ∷ ds) = ap suc (length-frames ds)
 
 pub desks-clients : (S : Script) (knows : ℕ → Reader) (g i : ℕ) (write : ℕ → WriteFrame)
     (old new : List ClientState) (desks : List Desk) →

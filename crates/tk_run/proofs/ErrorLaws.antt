@@ -1,5 +1,5 @@
 -- What holds where a call gave an error, or an answer.
-use Rattle.std.specs.Prelude.{Result, Ok, Err, OnOk, OnErr}
+use Rattle.std.specs.Prelude.{Result, Ok, Err, IfOk, OnOk, OnErr}
 
 pub on_err : {T E : Type 0} (P : Type 0) (r : Result T E) → P → OnErr r P
 on_err P (Ok x) holds = tt
@@ -14,3 +14,9 @@ always (Err e) p = tt
 pub both_ok : {T E P Q R : Type 0} (r : Result T E) → (P → Q → R) → OnOk r P → OnOk r Q → OnOk r R
 both_ok (Ok x) then p q = then p q
 both_ok (Err e) then p q = tt
+
+-- and what follows of each answer
+pub ok-then : {T E : Type 0} (r : Result T E) (P Q : T → Type 0) → ((x : T) → P x → Q x) → IfOk r P →
+    IfOk r Q
+ok-then (Ok x) P Q then p = then x p
+ok-then (Err e) P Q then p = tt

@@ -1,10 +1,8 @@
 -- What taps have where giving ended early.
-use Rattle.std.proofs.Common.{◌≡◌, ◌≢◌, sym, ◌∙◌, subst, arith, inl, inr}
-use Rattle.std.proofs.Common.{ℕ, ◌+◌, ◌<◌, List}
-use Rattle.std.specs.Prelude.{Option}
+use Rattle.std.proofs.Common.{◌≡◌, ◌≢◌, sym, ◌∙◌, subst, arith, inl, inr, ℕ, ◌+◌, ◌<◌, List}
+use Rattle.std.specs.Prelude.{Option, Result, Ok, Err}
 use Rattle.std.proofs.lemmas.Bool.{cases_lt}
 use Rattle.tk_io.specs.Tapped.{GainsFront, TapsGain, TapsGainFronts, TapsKeepBut}
-use Rattle.std.specs.Prelude.{Result, Ok, Err}
 use Rattle.std.specs.Result.{IsErr}
 use Rattle.tk_run.specs.Threads.{TapsAfter}
 use Rattle.tk_io.proofs.Offers.{gained-nothing, front-of_all}

@@ -1,28 +1,25 @@
 -- What servers give to their taps.
-use Rattle.std.proofs.Common.{◌≡◌, ◌≢◌, refl, ap, sym, subst, ◌∙◌, arith, inl, inr}
-use Rattle.std.proofs.Common.{ℕ, zero, suc, ◌+◌, ◌-◌, ◌<◌, ◌≤◌, ◌⊎◌}
-use Rattle.std.proofs.Common.{List, [], ◌∷◌, length, take, set}
+use Rattle.std.proofs.Common.{◌≡◌, ◌≢◌, refl, ap, sym, subst, ◌∙◌, arith, inl, inr, ℕ, zero, suc, ◌+◌, ◌-◌, ◌<◌, ◌≤◌}
+use Rattle.std.proofs.Common.{◌⊎◌, List, [], ◌∷◌, length, take, set}
 use Rattle.std.specs.Prelude.{Option, slice_index_or}
 use Rattle.std.proofs.lemmas.Bool.{cases_lt}
 use Rattle.std.proofs.lemmas.Grind.{get_or-set_at}
-use Rattle.std.proofs.lemmas.List.{get_or-set_other, length-set}
+use Rattle.std.proofs.lemmas.List.{get_or_default, get_or-set_other, length-set}
 use Rattle.tk_shape.specs.declared.shape.Shape.{Shape}
 use Rattle.tk_frames.specs.declared.entry.Placed.{Placed}
 use Rattle.tk_io.specs.Content.{gained}
 use Rattle.tk_run.specs.declared.server.Server.{Server}
 use Rattle.tk_run.specs.Servers.{IsServer, AreServers, nothing_seen}
 use Rattle.tk_io.specs.Tapped.{GainsFront, TapsGain, TapsGainFronts}
-use Rattle.tk_io.proofs.Offers.{gained-nothing, front-of_all}
+use Rattle.tk_io.proofs.Offers.{gained-nothing}
+use Rattle.tk_run.proofs.Cuts.{take_none}
+use Rattle.tk_run.proofs.Fronts.{fronts-here}
 
 abbrev Tap : Type 0
 Tap = Option (List ℕ)
 
 abbrev AllTaps : Type 0
 AllTaps = ℕ → Tap
-
-take_none : (bytes : List ℕ) → take 0 bytes ≡ []
-take_none [] = refl
-take_none (x ∷ bytes) = refl
 
 -- what taps as they were have is a front of whatever they may gain
 pub fronts-none : (n : ℕ) (a : ℕ → List ℕ) (t : AllTaps) → TapsGainFronts n a t t
@@ -45,12 +42,12 @@ pub record GaveTo (n : ℕ) (from to : List Server) (old new : ℕ → Option (L
   pub others : (j : ℕ) → (j ≡ 0) ⊎ (n < j) → new j ≡ old j
 
 -- one more server gives what it saw
-pub gave-more : (n : ℕ) (from to : List Server) (old mid new : AllTaps) (s given : Server) →
+pub gave-more : {n : ℕ} {from to : List Server} {old mid new : AllTaps} {s : Server} (given : Server) →
     GaveTo n from to old mid → n < length to → s ≡ slice_index_or to n s → IsGiven s given →
     new (n + 1) ≡ gained (mid (n + 1)) s.seen.items →
     ((j : ℕ) → j ≢ n + 1 → new j ≡ mid j) →
     GaveTo (n + 1) from (set to n given) old new
-gave-more n from to old mid new s next gave within here is tap stay =
+gave-more {n} {from} {to} {old} {mid} {new} {s} next gave within here is tap stay =
     record {
       counted = length-set to n next ∙ gave.counted;
       given = λ k d below. elim (cases_lt k n) [
@@ -81,16 +78,10 @@ gave-more n from to old mid new s next gave within here is tap stay =
           stay j (not_one j past) ∙ gave.others j (still j past);
     }
   where
-    found_at : (xs : List Server) (i : ℕ) (d x : Server) → i < length xs →
-        x ≡ slice_index_or xs i x → slice_index_or xs i d ≡ x
-    found_at [] i d x inside at = absurd (omega (arith, inside))
-    found_at (y ∷ xs) zero d x inside at = sym at
-    found_at (y ∷ xs) (suc i) d x inside at = found_at xs i d x (omega (arith, inside)) at
-
     was : (k : ℕ) (d : Server) → k ≡ n → slice_index_or from k d ≡ s
     was k d same =
         ap (λ (i : ℕ). slice_index_or from i d) same ∙ sym (gave.left n d (omega arith))
-        ∙ found_at to n d s within here
+        ∙ get_or_default to n d s within ∙ sym here
 
     not_one : (j : ℕ) → (j ≡ 0) ⊎ (n + 1 < j) → j ≢ n + 1
     not_one j (inl e) same = omega (arith, e, same)
@@ -107,11 +98,11 @@ server_at : (shape : Shape) (E : List Placed) (seen : ℕ → List ℕ) (from : 
     (slice_index_or from k d).seen.items ≡ seen (k + 1)
 server_at shape E seen from are k d within = (are.each k d within).seen
 
-pub gave-servers : (n : ℕ) (from to : List Server) (old new : AllTaps) →
+pub gave-servers : {n : ℕ} {from to : List Server} {old new : AllTaps} →
     GaveTo n from to old new → length to ≤ n →
     (shape : Shape) (E : List Placed) (seen : ℕ → List ℕ) →
     AreServers shape E seen from → AreServers shape E nothing_seen to
-gave-servers n from to old new gave all shape E seen are =
+gave-servers gave all shape E seen are =
     record {
       counted = gave.counted ∙ are.counted;
       each = λ k d within.
@@ -120,11 +111,11 @@ gave-servers n from to old new gave all shape E seen are =
     }
 
 -- the tap of a server by its number
-tap_of : (n : ℕ) (from to : List Server) (old new : AllTaps) → GaveTo n from to old new →
+tap_of : {n : ℕ} {from to : List Server} {old new : AllTaps} → GaveTo n from to old new →
     (shape : Shape) (E : List Placed) (seen : ℕ → List ℕ) →
     AreServers shape E seen from → (d : Server) (j : ℕ) → 1 ≤ j → j ≤ n →
     j ≤ length from → new j ≡ gained (old j) (seen j)
-tap_of n from to old new gave shape E seen are d j low below high =
+tap_of {n} {from} {to} {old} {new} gave shape E seen are d j low below high =
     let back : (j - 1) + 1 ≡ j = omega (arith, low) in
     subst (λ (i : ℕ). new i ≡ gained (old i) (seen i)) back
     (gave.taps (j - 1) d (omega (arith, low, below))
@@ -135,43 +126,26 @@ any_server : (from : List Server) (j : ℕ) → 1 ≤ j → j ≤ length from �
 any_server [] j low high = absurd (omega (arith, low, high))
 any_server (s ∷ from) j low high = s
 
-pub gave-taps : (n : ℕ) (from to : List Server) (old new : AllTaps) →
+pub gave-taps : {n : ℕ} {from to : List Server} {old new : AllTaps} →
     GaveTo n from to old new → length to ≤ n →
     (shape : Shape) (E : List Placed) (seen : ℕ → List ℕ) →
     AreServers shape E seen from → TapsGain shape.servers seen old new
-gave-taps n from to old new gave all shape E seen are j low high =
+gave-taps {n} {from} gave all shape E seen are j low high =
     let within : j ≤ length from = omega (arith, high, are.counted) in
-    tap_of n from to old new gave shape E seen are (any_server from j low within) j low
+    tap_of gave shape E seen are (any_server from j low within) j low
     (omega (arith, within, all, gave.counted)) within
 
 -- one of them gave a front, and those after it nothing
-pub gave-fronts : (n : ℕ) (from to : List Server) (old mid new : AllTaps) (s : Server) →
+pub gave-fronts : {n : ℕ} {from to : List Server} {old mid : AllTaps} {s : Server} (new : AllTaps) →
     GaveTo n from to old mid → n < length to → s ≡ slice_index_or to n s →
     GainsFront (mid (n + 1)) (new (n + 1)) s.seen.items →
     ((j : ℕ) → j ≢ n + 1 → new j ≡ mid j) →
     (shape : Shape) (E : List Placed) (seen : ℕ → List ℕ) →
     AreServers shape E seen from → TapsGainFronts shape.servers seen old new
-gave-fronts n from to old mid new s gave within here front stay shape E seen are j low high =
-    elim (cases_lt j (n + 1)) [
-      | inl before ↦
-          front-of_all (old j) (new j) (seen j)
-          (stay j (λ same. omega (arith, same, before))
-          ∙ tap_of n from to old mid gave shape E seen are s j low (omega (arith, before))
-          (omega (arith, high, are.counted)))
-      | inr at ↦ elim (cases_lt (n + 1) j) [
-        | inl past ↦ (
-          0,
-          stay j (λ same. omega (arith, same, past)) ∙ gave.others j (inr (omega (arith, past)))
-              ∙ sym (gained-nothing (old j)),
-        )
-        | inr upto ↦
-            let same : n + 1 ≡ j = omega (arith, at, upto) in
-            subst (λ (i : ℕ). GainsFront (old i) (new i) (seen i)) same
-            (subst (λ (t : Tap). GainsFront t (new (n + 1)) (seen (n + 1)))
-            (gave.others (n + 1) (inr (omega arith)))
-            (subst (GainsFront (mid (n + 1)) (new (n + 1))) saw front))
-      ]
-    ]
+gave-fronts {n} {from} {to} {old} {mid} {s} new gave within here front stay shape E seen are =
+    fronts-here n shape.servers seen old mid new
+    (λ j low high. tap_of gave shape E seen are s j low high (omega (arith, high, within, gave.counted)))
+    gave.others (subst (GainsFront (mid (n + 1)) (new (n + 1))) saw front) stay
   where
     saw : s.seen.items ≡ seen (n + 1)
     saw =

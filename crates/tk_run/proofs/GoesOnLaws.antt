@@ -1,7 +1,6 @@
 -- What the turns of a run so far say of each legal history that begins with them.
-use Rattle.std.proofs.Common.{◌≡◌, ℕ, ◌+◌, ◌-◌, ◌<◌, ◌≤◌, List, [], ◌∷◌, ◌++◌, length}
-use Rattle.std.proofs.Common.{map, refl, ap, sym, ◌∙◌, subst, arith, length-append}
-use Rattle.std.proofs.Common.{append_assoc, inl, inr}
+use Rattle.std.proofs.Common.{◌≡◌, ℕ, ◌+◌, ◌-◌, ◌<◌, ◌≤◌, List, [], ◌∷◌, ◌++◌, length, map, refl, ap, sym, ◌∙◌, subst}
+use Rattle.std.proofs.Common.{arith, length-append, append_assoc, inl, inr}
 use Rattle.std.specs.Prelude.{slice_index_or}
 use Rattle.std.specs.List.{range_with_len}
 use Rattle.std.proofs.lemmas.Bool.{cases_lt}
@@ -13,8 +12,7 @@ use Rattle.tk_shape.specs.Lengths.{turn_count}
 use Rattle.tk_frames.specs.declared.write_frame.WriteFrame.{WriteFrame}
 use Rattle.tk_schedule.specs.declared.history.TurnOrder.{TurnOrder}
 use Rattle.tk_schedule.specs.declared.history.History.{History}
-use Rattle.tk_schedule.specs.Schedule.{blank_turn, IsTurn, IsLegal}
-use Rattle.tk_schedule.specs.Schedule.{serial_turn, serial_history}
+use Rattle.tk_schedule.specs.Schedule.{blank_turn, IsTurn, IsLegal, serial_turn, serial_history}
 use Rattle.tk_schedule.proofs.Offers.{serial-IsLegal}
 use Rattle.tk_report.specs.Entries.{entries_before}
 use Rattle.tk_run.proofs.TurnNumbers.{entries_front, turn_last}

@@ -3,7 +3,6 @@ pub mod GivingLaws
 pub mod SeenLaws
 pub mod ErrorLaws
 pub mod Joins
-pub mod LineLaws
 pub mod TalkAll
 pub mod ActLaws
 pub mod TalkReads
@@ -37,7 +36,6 @@ pub mod CameLaws
 pub mod CourseStarts
 pub mod Stopping
 pub mod SightCalls
-pub mod TurnWrites
 pub mod PosingLaws
 pub mod TalkSteps
 pub mod BatchLaws

@@ -1,9 +1,8 @@
 -- What the passes know after one turn more.
-use Rattle.std.proofs.Common.{◌≡◌, ℕ, zero, suc, ◌+◌, ◌<◌, ◌≤◌, List, [], ◌∷◌, ◌++◌, length, map}
-use Rattle.std.proofs.Common.{Some, slice_get, refl, ap, sym, ◌∙◌, subst, arith}
-use Rattle.std.proofs.Common.{length-append, append_assoc}
+use Rattle.std.proofs.Common.{◌≡◌, ℕ, zero, suc, ◌+◌, ◌<◌, ◌≤◌, List, [], ◌∷◌, ◌++◌, length, map, Some, slice_get, refl}
+use Rattle.std.proofs.Common.{ap, sym, ◌∙◌, subst, arith, length-append, append_assoc}
 use Rattle.std.specs.Prelude.{slice_index, slice_index_or}
-use Rattle.std.proofs.lemmas.List.{append_cancel_left}
+use Rattle.std.proofs.lemmas.List.{append_cancel_left, length-map}
 use mathlib.Core.List.{IsPrefix}
 use Rattle.tk_shape.specs.declared.shape.Shape.{Shape}
 use Rattle.tk_frames.specs.declared.write_frame.WriteFrame.{WriteFrame}
@@ -16,7 +15,7 @@ use Rattle.tk_cluster.specs.declared.set.EpochSet.{EpochSet}
 use Rattle.tk_cluster.specs.Sets.{Stands, Shows}
 use Rattle.tk_cluster.specs.Passes.{Passing, own}
 use Rattle.tk_cluster.specs.Tellings.{Telling}
-use Rattle.tk_run.specs.declared.slip.Slip.{Slip}
+use Rattle.tk_run.specs.declared.pinned_write.PinnedWrite.{PinnedWrite}
 use Rattle.tk_run.specs.Ran.{EachBy, set_on, PassAt, PassesAt}
 use Rattle.tk_run.proofs.TurnItems.{AtPlaces}
 use Rattle.tk_run.proofs.Steps.{Stepped, entry_on}
@@ -33,29 +32,25 @@ prefix_back (y ∷ xs) (z ∷ ys) (suc k) x p low h =
 
 module _ (shape : Shape) (write : ℕ → ℕ → WriteFrame) (K : List TurnOrder) (p q : Telling)
     (shown : List EpochSet) where
-  abbrev pub Step : Passing → Slip → Passing → Type 0
+  abbrev pub Step : Passing → PinnedWrite → Passing → Type 0
   Step a d z =
       Stepped (write (length K)) (phases_over shape (length K + 1)) q.seen p.shown shown a d z
 
-  pub same_length : (xs : List Passing) (ds : List Slip) (zs : List Passing) →
+  pub same_length : (xs : List Passing) (ds : List PinnedWrite) (zs : List Passing) →
       EachBy Step xs ds zs → (length ds ≡ length xs) × (length zs ≡ length xs)
   same_length [] [] [] h = (refl, refl)
   same_length (a ∷ xs) (d ∷ ds) (z ∷ zs) h =
       let rest = same_length xs ds zs h.1 in (ap suc rest.0, ap suc rest.1)
-  same_length [] [] (z ∷ zs) h = absurd h
-  same_length [] (d ∷ ds) zs h = absurd h
-  same_length (a ∷ xs) [] zs h = absurd h
-  same_length (a ∷ xs) (d ∷ ds) [] h = absurd h
+  same_length _ _ _ h = absurd h
 
   -- the epochs that were pinned
-  abbrev numbers : List Slip → List ℕ
-  numbers ds = map (λ (d : Slip). (set_on d).number) ds
+  abbrev numbers : List PinnedWrite → List ℕ
+  numbers ds = map (λ (d : PinnedWrite). (set_on d).number) ds
 
-  pub numbers_counted : (ds : List Slip) → length (numbers ds) ≡ length ds
-  numbers_counted [] = refl
-  numbers_counted (d ∷ ds) = ap suc (numbers_counted ds)
+  pub numbers_counted : (ds : List PinnedWrite) → length (numbers ds) ≡ length ds
+  numbers_counted ds = length-map ds (λ (d : PinnedWrite). (set_on d).number)
 
-  pub numbers_bounded : (off : ℕ) (xs : List Passing) (ds : List Slip) (zs : List Passing) →
+  pub numbers_bounded : (off : ℕ) (xs : List Passing) (ds : List PinnedWrite) (zs : List Passing) →
       EachBy Step xs ds zs → PassesAt shape K p off xs → (c : ℕ) → c < length xs →
       (phases_over shape (length K) ≤ slice_index (numbers ds) c)
       × (slice_index (numbers ds) c ≤ phases_over shape (length K + 1))
@@ -64,12 +59,11 @@ module _ (shape : Shape) (write : ℕ → ℕ → WriteFrame) (K : List TurnOrde
       (omega (arith, (h.0).least, (at.0).known), (h.0).greatest)
   numbers_bounded off (a ∷ xs) (d ∷ ds) (z ∷ zs) h at (suc c) low =
       numbers_bounded (off + 1) xs ds zs h.1 at.1 c (omega (arith, low))
-  numbers_bounded off (a ∷ xs) [] zs h at c low = absurd h
-  numbers_bounded off (a ∷ xs) (d ∷ ds) [] h at c low = absurd h
+  numbers_bounded off _ _ _ h at c low = absurd h
 
   -- each client has one entry more
   pub places_next : (T : List Placed) → p.seen ++ T ≡ q.seen → (off : ℕ) (xs : List Passing)
-      (ds : List Slip) (zs : List Passing) → EachBy Step xs ds zs → PassesAt shape K p off xs →
+      (ds : List PinnedWrite) (zs : List Passing) → EachBy Step xs ds zs → PassesAt shape K p off xs →
       AtPlaces (write (length K)) T off ds
   places_next T whole off [] [] [] h at = tt
   places_next T whole off (a ∷ xs) (d ∷ ds) (z ∷ zs) h at =
@@ -87,13 +81,10 @@ module _ (shape : Shape) (write : ℕ → ℕ → WriteFrame) (K : List TurnOrde
             (entry_on (write (length K)) off d ∷ []) all,
         places_next T whole (off + 1) xs ds zs h.1 at.1,
       )
-  places_next T whole off [] [] (z ∷ zs) h at = absurd h
-  places_next T whole off [] (d ∷ ds) zs h at = absurd h
-  places_next T whole off (a ∷ xs) [] zs h at = absurd h
-  places_next T whole off (a ∷ xs) (d ∷ ds) [] h at = absurd h
+  places_next T whole off _ _ _ h at = absurd h
 
   module _ (turn : TurnOrder) (board : q.board ≡ p.board) (is_shown : q.shown ≡ shown) where
-    pass_next : (off : ℕ) (a : Passing) (d : Slip) (z : Passing) → PassAt shape K p off a →
+    pass_next : (off : ℕ) (a : Passing) (d : PinnedWrite) (z : Passing) → PassAt shape K p off a →
         Step a d z → slice_index turn.epochs off ≡ (set_on d).number →
         PassAt shape (K ++ turn ∷ []) q off z
     pass_next off a d z at s here =
@@ -112,7 +103,7 @@ module _ (shape : Shape) (write : ℕ → ℕ → WriteFrame) (K : List TurnOrde
               ∙ (ap (λ k. k + 1) at.count ∙ sym n));
         }
 
-    pub passes_next : (off : ℕ) (front : List ℕ) (xs : List Passing) (ds : List Slip)
+    pub passes_next : (off : ℕ) (front : List ℕ) (xs : List Passing) (ds : List PinnedWrite)
         (zs : List Passing) → EachBy Step xs ds zs → PassesAt shape K p off xs →
         length front ≡ off → turn.epochs ≡ front ++ numbers ds →
         PassesAt shape (K ++ turn ∷ []) q off zs
@@ -129,18 +120,15 @@ module _ (shape : Shape) (write : ℕ → ℕ → WriteFrame) (K : List TurnOrde
               (length-append front (e ∷ []) ∙ ap (λ k. k + 1) len)
               (is ∙ sym (append_assoc front (e ∷ []) (numbers ds))),
         )
-    passes_next off front [] [] (z ∷ zs) h at len is = absurd h
-    passes_next off front [] (d ∷ ds) zs h at len is = absurd h
-    passes_next off front (a ∷ xs) [] zs h at len is = absurd h
-    passes_next off front (a ∷ xs) (d ∷ ds) [] h at len is = absurd h
+    passes_next off front _ _ _ h at len is = absurd h
 
   -- ---- the sets that were pinned
 
   -- each stands for the entries before its mark
   pub all_stand : (H : List TurnOrder) → Shows shape q.shown q.seen →
       length q.shown ≡ phases_over shape (length K + 1) + 1 → (off : ℕ) (xs : List Passing)
-      (ds : List Slip) (zs : List Passing) → EachBy Step xs ds zs → PassesAt shape H q off zs →
-      (c : ℕ) (d : Slip) → c < length ds →
+      (ds : List PinnedWrite) (zs : List Passing) → EachBy Step xs ds zs → PassesAt shape H q off zs →
+      (c : ℕ) (d : PinnedWrite) → c < length ds →
       Stands shape q.seen (set_on (slice_index_or ds c d)).number (set_on (slice_index_or ds c d))
   all_stand H shows long off [] [] [] h at c d low = absurd (omega (arith, low))
   all_stand H shows long off (a ∷ xs) (e ∷ ds) (z ∷ zs) h at zero d low =
@@ -150,7 +138,4 @@ module _ (shape : Shape) (write : ℕ → ℕ → WriteFrame) (K : List TurnOrde
       (prefix_back q.shown z.reads.shown n (set_on e) (at.0).shown inside (h.0).shows)
   all_stand H shows long off (a ∷ xs) (e ∷ ds) (z ∷ zs) h at (suc c) d low =
       all_stand H shows long (off + 1) xs ds zs h.1 at.1 c d (omega (arith, low))
-  all_stand H shows long off [] [] (z ∷ zs) h at c d low = absurd h
-  all_stand H shows long off [] (e ∷ ds) zs h at c d low = absurd h
-  all_stand H shows long off (a ∷ xs) [] zs h at c d low = absurd h
-  all_stand H shows long off (a ∷ xs) (e ∷ ds) [] h at c d low = absurd h
+  all_stand H shows long off _ _ _ h at c d low = absurd h

@@ -1,15 +1,14 @@
 -- Where the writes of a turn stand.
-use Rattle.std.proofs.Common.{◌≡◌, ap, sym, ◌∙◌, arith}
-use Rattle.std.proofs.Common.{ℕ, ◌+◌, ◌-◌, ◌<◌, List, [], ◌∷◌, ◌++◌, length, take}
+use Rattle.std.proofs.Common.{◌≡◌, ap, sym, ◌∙◌, arith, ℕ, ◌+◌, ◌-◌, ◌<◌, List, [], ◌∷◌, ◌++◌, length, take}
 use Rattle.std.specs.Prelude.{slice_index_or, slice_set}
 use Rattle.tk_schedule.specs.declared.item.Item.{Item}
 use Rattle.tk_schedule.specs.declared.item.Item.TheVariants.{Client}
-use Rattle.tk_run.specs.declared.slip.Slip.{Slip}
+use Rattle.tk_run.specs.declared.pinned_write.PinnedWrite.{PinnedWrite}
 use Rattle.tk_run.specs.Ran.{placed_clients}
 use Rattle.tk_run.proofs.Cuts.{take_one_more, length-take}
 
 -- one more client stands at the place of its write
-pub placed-more : (start c : ℕ) (ds : List Slip) (d : Slip) (items : List Item) →
+pub placed-more : (start c : ℕ) (ds : List PinnedWrite) (d : PinnedWrite) (items : List Item) →
     placed_clients start c (ds ++ d ∷ []) items
     ≡ slice_set (placed_clients start c ds items) (d.position - start - 1) (Client (c + length ds))
 placed-more start c [] d items =
@@ -23,7 +22,7 @@ placed-more start c (e ∷ ds) d items =
     (Client k))
     next
 
-pub placed-next : (start i : ℕ) (ds : List Slip) (d : Slip) (items so_far : List Item) →
+pub placed-next : (start i : ℕ) (ds : List PinnedWrite) (d : PinnedWrite) (items so_far : List Item) →
     i < length ds → d ≡ slice_index_or ds i d → so_far ≡ placed_clients start 0 (take i ds) items →
     slice_set so_far (d.position - start - 1) (Client i)
     ≡ placed_clients start 0 (take (i + 1) ds) items

@@ -1,12 +1,11 @@
 -- How a run of threads begins and ends.
-use Rattle.std.proofs.Common.{◌≡◌, ℕ, zero, suc, ◌+◌, ◌<◌, ◌≤◌, List, [], ◌∷◌, ◌++◌, length}
-use Rattle.std.proofs.Common.{map, replicate, All, refl, ap, sym, ◌∙◌, subst, arith}
-use Rattle.std.proofs.Common.{length-append, append_assoc}
+use Rattle.std.proofs.Common.{◌≡◌, ℕ, zero, suc, ◌+◌, ◌<◌, ◌≤◌, List, [], ◌∷◌, ◌++◌, length, map, replicate, All, refl}
+use Rattle.std.proofs.Common.{ap, sym, ◌∙◌, subst, arith, length-append, append_assoc}
 use Rattle.std.specs.Prelude.{slice_set, slice_index_or}
 use Rattle.std.specs.List.{range_with_len}
 use Rattle.std.proofs.lemmas.List.{length-replicate}
+use Rattle.std.proofs.lemmas.List.FromFn.{length-map-range_with_len}
 use mathlib.Core.List.{IsPrefix}
-use Rattle.atomic_table.specs.Seated.{TableId}
 use Rattle.tk_shape.specs.declared.shape.Shape.{Shape}
 use Rattle.tk_shape.specs.Lengths.{turn_count}
 use Rattle.tk_frames.specs.declared.write_frame.WriteFrame.{WriteFrame}
@@ -45,21 +44,16 @@ fresh_at shape p first seen shown off (suc n) = (
   fresh_at shape p first seen shown (off + 1) n,
 )
 
-length_fresh : (board : TableId) (first : EpochSet) (off n : ℕ) →
-    length (map (fresh board first) (range_with_len off n)) ≡ n
-length_fresh board first off zero = refl
-length_fresh board first off (suc n) = ap suc (length_fresh board first (off + 1) n)
-
-pub ran_first : (shape : Shape) (write : ℕ → ℕ → WriteFrame) (p : Telling) (xs : List Passing) →
+pub ran_first : {shape : Shape} (write : ℕ → ℕ → WriteFrame) {p : Telling} {xs : List Passing} →
     Opened shape p xs → Ran shape write [] xs p
 unfolding entries_before
-ran_first shape write p xs h =
+ran_first {shape} write {p} {xs} h =
     record {
       turns = λ g low. absurd (omega (arith, low));
       order = h.seen;
       marked = ap (λ E. length (of 0 E)) h.seen ∙ sym (over_first shape);
       shown = ap length h.shown ∙ omega (arith, over_first shape);
-      clients = ap length h.all ∙ length_fresh p.board h.first 0 shape.clients;
+      clients = ap length h.all ∙ length-map-range_with_len (fresh p.board h.first) 0 shape.clients;
       passes = subst (PassesAt shape [] p 0) (sym h.all)
           (fresh_at shape p h.first h.seen h.shown 0 shape.clients);
     }
@@ -78,8 +72,8 @@ all_ready shape K p most off (a ∷ xs) low le at zero d inside =
 all_ready shape K p most off (a ∷ xs) low le at (suc k) d inside =
     all_ready shape K p most (off + 1) xs low le at.1 k d (omega (arith, inside))
 
-module _ (shape : Shape) (write : ℕ → ℕ → WriteFrame) (K : List TurnOrder) (xs : List Passing)
-    (p : Telling) (ran : Ran shape write K xs p) where
+module _ {shape : Shape} {write : ℕ → ℕ → WriteFrame} {K : List TurnOrder} {xs : List Passing}
+    {p : Telling} (ran : Ran shape write K xs p) where
   pub ran_ready : length K < turn_count shape →
       All (IsReady shape (phases_over shape (length K + 1))) xs
   ran_ready low =
@@ -161,10 +155,10 @@ module _ (shape : Shape) (write : ℕ → ℕ → WriteFrame) (K : List TurnOrde
       ∙ append_assoc front one (map (epochs_in K) (range_with_len (off + 1) (length ys))))
 
   -- its order is the entries of the turns, and its epochs are those that the clients read
-  pub ran_ends : (c : Ended) → Closes shape xs p c →
+  pub ran_ends : {c : Ended} → Closes shape xs p c →
       (c.order ≡ entries_before write K (length K))
       × (c.epochs ≡ map (epochs_in K) (range_with_len 0 shape.clients))
-  ran_ends c h =
+  ran_ends {c} h =
       let same : c.order ≡ p.seen =
       same_list shape p.seen c.order h.begins h.legal.order (under h.each h.marks)
       in

@@ -1,6 +1,5 @@
 -- One turn more of a run.
-use Rattle.std.proofs.Common.{◌≡◌, ℕ, suc, ◌+◌, ◌*◌, ◌<◌, Bool, true, false, cond}
-use Rattle.std.proofs.Common.{List, [], ◌∷◌, ◌++◌, length, count_by}
+use Rattle.std.proofs.Common.{◌≡◌, ℕ, suc, ◌+◌, ◌*◌, ◌<◌, Bool, true, false, List, [], ◌∷◌, ◌++◌, length, count_by}
 use Rattle.std.proofs.Common.{refl, ap, sym, ◌∙◌, subst, arith, length-append}
 use Rattle.std.specs.Prelude.{slice_index_or, MatchBool}
 use mathlib.Core.List.{IsPrefix}
@@ -18,14 +17,14 @@ use Rattle.tk_cluster.specs.Passes.{Passing, MeetsAt}
 use Rattle.tk_cluster.specs.Tellings.{Telling, marks, Published}
 use Rattle.tk_cluster.specs.Clusters.{Each, Met}
 use Rattle.tk_cluster.specs.Sets.{Stands, Shows}
-use Rattle.tk_run.specs.declared.slip.Slip.{Slip}
+use Rattle.tk_run.specs.declared.pinned_write.PinnedWrite.{PinnedWrite}
 use Rattle.tk_run.specs.Ran.{ActsOn, EachBy, AllLearn, Turned, turn_of, set_on, Ran}
 use Rattle.tk_run.proofs.TurnItems.{length_items, count_clients, count_marks}
 use Rattle.tk_run.proofs.Brought.{Brings, one_counted, brings_counted, brings_entries, brings_order}
 use Rattle.tk_run.proofs.Steps.{all_closing, all_open}
-use Rattle.tk_run.proofs.PassesNext.{Step, same_length, numbers_counted, numbers_bounded}
-use Rattle.tk_run.proofs.PassesNext.{places_next, passes_next, all_stand}
-use Rattle.tk_run.proofs.TurnNumbers.{over_next, turns_more, entries_more, entries_counted}
+use Rattle.tk_run.proofs.PassesNext.{Step, same_length, numbers_counted, numbers_bounded, places_next, passes_next}
+use Rattle.tk_run.proofs.PassesNext.{all_stand}
+use Rattle.tk_run.proofs.TurnNumbers.{one_if, over_next, turns_more, entries_more, entries_counted}
 
 -- what all passes and the publisher have seen of a turn
 pub record Comes (shape : Shape) (K : List TurnOrder) (p q : Telling) (shown : List EpochSet)
@@ -39,16 +38,13 @@ pub record Comes (shape : Shape) (K : List TurnOrder) (p q : Telling) (shown : L
 
 -- a turn, of which it is known what it did to each pass
 pub record Passed (shape : Shape) (write : ℕ → ℕ → WriteFrame) (K : List TurnOrder)
-    (p q : Telling) (xs : List Passing) (ds : List Slip) (zs : List Passing) : Type 0 where
+    (p q : Telling) (xs : List Passing) (ds : List PinnedWrite) (zs : List Passing) : Type 0 where
   pub shown : List EpochSet
   pub steps : EachBy (Step shape write K p q shown) xs ds zs
   pub comes : Comes shape K p q shown
 
-abbrev one_if : Bool → ℕ
-one_if b = cond b 1 0
-
-module _ (shape : Shape) (write : ℕ → ℕ → WriteFrame) (K : List TurnOrder) (p q : Telling)
-    (xs : List Passing) (ds : List Slip) (zs : List Passing) (ran : Ran shape write K xs p) where
+module _ {shape : Shape} {write : ℕ → ℕ → WriteFrame} {K : List TurnOrder} {p q : Telling}
+    {xs : List Passing} {ds : List PinnedWrite} {zs : List Passing} (ran : Ran shape write K xs p) where
   -- it closes a phase, or doesn't
   passed_by : (b : Bool) → is_closing shape (length K) ≡ b → (acted : List Passing)
       (told : Telling) (learned : List Passing) →
@@ -133,15 +129,15 @@ module _ (shape : Shape) (write : ℕ → ℕ → WriteFrame) (K : List TurnOrde
       }
 
 -- how many entries there are so far
-pub ran_counted : (shape : Shape) (write : ℕ → ℕ → WriteFrame) (K : List TurnOrder)
-    (p : Telling) (xs : List Passing) → Ran shape write K xs p →
+pub ran_counted : {shape : Shape} {write : ℕ → ℕ → WriteFrame} {K : List TurnOrder} {p : Telling}
+    {xs : List Passing} → Ran shape write K xs p →
     length p.seen ≡ length K * shape.clients + phases_over shape (length K)
-ran_counted shape write K p xs ran =
+ran_counted {shape} {write} {K} ran =
     ap length ran.order ∙ entries_counted write shape K (length K) ran.turns
 
-module _ (shape : Shape) (write : ℕ → ℕ → WriteFrame)
-    (own_write : (g c : ℕ) → (write g c).client ≡ c) (K : List TurnOrder) (p q : Telling)
-    (xs : List Passing) (ds : List Slip) (zs : List Passing) (ran : Ran shape write K xs p)
+module _ {shape : Shape} {write : ℕ → ℕ → WriteFrame} {K : List TurnOrder} {p q : Telling}
+    {xs : List Passing} {ds : List PinnedWrite} {zs : List Passing}
+    (own_write : (g c : ℕ) → (write g c).client ≡ c) (ran : Ran shape write K xs p)
     (t : Passed shape write K p q xs ds zs) where
   abbrev came : TurnOrder
   came = turn_of shape (length K) (length p.seen) ds
@@ -151,14 +147,14 @@ module _ (shape : Shape) (write : ℕ → ℕ → WriteFrame)
       let g = length K in
       let E = p.seen in
       let T = t.comes.begins.0 in
-      let brings = passed_brings shape write K p q xs ds zs ran t in
-      let built = brings_order shape (write g) (own_write g) g E T ds brings in
+      let brings = passed_brings ran t in
+      let built = brings_order (own_write g) brings in
       let bounds = numbers_bounded shape write K p q t.shown 0 xs ds zs t.steps ran.passes in
       record {
         counted = ap length built
-            ∙ (length_items T ∙ brings_counted shape (write g) (own_write g) g E T ds brings);
+            ∙ (length_items T ∙ brings_counted (own_write g) brings);
         each_once = λ c low. ap (count_by (is_of c)) built ∙ (count_clients c T
-            ∙ one_counted shape (write g) (own_write g) g E T ds brings c low);
+            ∙ one_counted (own_write g) brings c low);
         marks = ap (count_by is_mark) built ∙ (count_marks T ∙ brings.marked);
         readers = numbers_counted shape write K p q t.shown ds ∙ brings.counted;
         newest_before = λ c low. (bounds c (omega (arith, low, ran.clients))).0;
@@ -170,11 +166,11 @@ module _ (shape : Shape) (write : ℕ → ℕ → WriteFrame)
       let g = length K in
       let E = p.seen in
       let T = t.comes.begins.0 in
-      let brings = passed_brings shape write K p q xs ds zs ran t in
-      let built = brings_order shape (write g) (own_write g) g E T ds brings in
+      let brings = passed_brings ran t in
+      let built = brings_order (own_write g) brings in
       let all : E ++ placed_from (write g) (length E + 1) (mark_count E + 1) came.order ≡ q.seen =
       ap (λ items. E ++ placed_from (write g) (length E + 1) (mark_count E + 1) items) built
-      ∙ (ap (λ ys. E ++ ys) (brings_entries shape (write g) (own_write g) g E T ds brings)
+      ∙ (ap (λ ys. E ++ ys) (brings_entries (own_write g) brings)
       ∙ t.comes.begins.1)
       in
       sym all ∙ sym (entries_more write K came E ran.order)
@@ -195,7 +191,7 @@ module _ (shape : Shape) (write : ℕ → ℕ → WriteFrame)
       }
 
   -- the sets that were pinned stand for the entries before their marks
-  pub sets_stand : Shows shape q.shown q.seen → (c : ℕ) (d : Slip) → c < length ds →
+  pub sets_stand : Shows shape q.shown q.seen → (c : ℕ) (d : PinnedWrite) → c < length ds →
       Stands shape q.seen (set_on (slice_index_or ds c d)).number (set_on (slice_index_or ds c d))
   sets_stand shows =
       all_stand shape write K p q t.shown (K ++ came ∷ []) shows t.comes.long 0 xs ds zs t.steps

@@ -1,8 +1,6 @@
 -- The reads of a turn: what clients ask, what servers reply, and what clients know then.
-use Rattle.std.proofs.Common.{◌≡◌, refl, ap, ap₂, sym, ◌∙◌, arith}
-use Rattle.std.proofs.Common.{ℕ, zero, suc, ◌+◌, ◌<◌, ◌≤◌, List, [], ◌∷◌, ◌++◌, map}
-use Rattle.std.proofs.Common.{flat_map}
-use Rattle.std.proofs.Common.{add-one}
+use Rattle.std.proofs.Common.{◌≡◌, refl, ap, ap₂, sym, ◌∙◌, arith, ℕ, zero, suc, ◌+◌, ◌<◌, ◌≤◌, List, [], ◌∷◌, ◌++◌}
+use Rattle.std.proofs.Common.{map, flat_map, add-one, le_trans, div-mul-le_self, le_of_mul-le-mul_right}
 use Rattle.std.specs.List.{range_with_len}
 use Rattle.std.proofs.lemmas.List.{map-append}
 use Rattle.std.proofs.lemmas.List.Folds.{flat_map-map}
@@ -10,7 +8,6 @@ use Rattle.std.proofs.lemmas.List.FromFn.{map-range_with_len_more}
 use Rattle.tk_shape.specs.Lengths.{turn_count}
 use Rattle.tk_schedule.specs.declared.history.History.{History}
 use Rattle.tk_schedule.specs.Schedule.{IsLegal, epoch_at, phases_over}
-use Rattle.std.proofs.Common.{le_trans, div-mul-le_self, le_of_mul-le-mul_right}
 use Rattle.tk_report.specs.Entries.{write_at}
 use Rattle.tk_report.proofs.Offers.{before-over, flat_map-next}
 use Rattle.tk_run.specs.Rows.{Frame, AreRows, AreAdded}
@@ -26,9 +23,8 @@ use Rattle.tk_table.specs.Replies.{reply_to}
 use Rattle.tk_report.specs.Report.{read_over}
 use Rattle.tk_replica.specs.Replies.{reply_for}
 use Rattle.tk_run.specs.Servers.{answered}
-use Rattle.tk_run.specs.Turns.{placed_before, entries_seen, reads_for, posed, reply_at, replies_to}
-use Rattle.tk_run.specs.Turns.{replied, turn_seen}
-use Rattle.tk_run.proofs.SeenLaws.{turn_seen-parts}
+use Rattle.tk_run.specs.Turns.{placed_before, entries_seen, reads_for, posed, reply_at, replies_to, replied, turn_seen}
+use Rattle.tk_run.proofs.SeenLaws.{turn_seen-parts, flat_map-numbers_more}
 
 -- ---- frames, client by client and server by server
 

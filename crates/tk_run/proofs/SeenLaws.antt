@@ -1,7 +1,6 @@
 -- What servers see, turn after turn, and what taps gain of it.
-use Rattle.std.proofs.Common.{◌≡◌, refl, ap, ap₂, sym, subst, ◌∙◌, arith}
-use Rattle.std.proofs.Common.{ℕ, zero, suc, ◌+◌, ◌-◌, ◌<◌, List, [], ◌∷◌, ◌++◌, map}
-use Rattle.std.proofs.Common.{flat_map, append_assoc, append-nil, zero-add, Option}
+use Rattle.std.proofs.Common.{◌≡◌, refl, ap, ap₂, sym, subst, ◌∙◌, arith, ℕ, zero, suc, ◌+◌, ◌-◌, ◌<◌, List, [], ◌∷◌}
+use Rattle.std.proofs.Common.{◌++◌, map, flat_map, append_assoc, append-nil, zero-add, Option}
 use Rattle.std.specs.List.{range_with_len}
 use Rattle.tk_shape.specs.Lengths.{turn_count}
 use Rattle.tk_schedule.specs.declared.history.History.{History}
@@ -13,8 +12,7 @@ use Rattle.tk_report.specs.Entries.{write_at, entries_at}
 use Rattle.tk_report.specs.Exchange.{turn_frames, frames_before, read_answered, exchange, bytes_of}
 use Rattle.tk_report.proofs.Offers.{flat_map-next}
 use Rattle.tk_io.specs.Tapped.{GainsFront, TapsGain, TapsGainFronts}
-use Rattle.tk_io.proofs.Offers.{gained-nothing, taps-same, taps-twice}
-use Rattle.tk_io.proofs.Offers.{front-of_first, front-of_second}
+use Rattle.tk_io.proofs.Offers.{gained-nothing, taps-same, taps-twice, front-of_first, front-of_second}
 use Rattle.tk_run.specs.Turns.{entries_seen, turn_seen, seen_before}
 
 -- ---- lists

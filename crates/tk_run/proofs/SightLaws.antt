@@ -1,6 +1,6 @@
 -- What servers see of a turn of threads, and where it leaves the run.
-use Rattle.std.proofs.Common.{◌≡◌, ℕ, suc, ◌+◌, ◌<◌, ◌≤◌, List, [], ◌∷◌, ◌++◌, length}
-use Rattle.std.proofs.Common.{All, refl, ap, ap₂, sym, ◌∙◌, arith, append-nil}
+use Rattle.std.proofs.Common.{◌≡◌, ℕ, suc, ◌+◌, ◌<◌, ◌≤◌, List, [], ◌∷◌, ◌++◌, length, All, refl, ap, ap₂, sym, ◌∙◌}
+use Rattle.std.proofs.Common.{arith, append-nil}
 use Rattle.std.specs.Prelude.{slice_index_or, flat_map}
 use Rattle.std.specs.List.{range_with_len}
 use Rattle.std.proofs.lemmas.List.FromFn.{length-map-range_with_len, get_or-map-range_with_len}
@@ -16,14 +16,14 @@ use Rattle.tk_report.specs.Entries.{write_at, entries_at}
 use Rattle.tk_report.specs.Exchange.{read_at, read_answered, with_reply, bytes_of}
 use Rattle.tk_cluster.specs.Passes.{Passing}
 use Rattle.tk_cluster.specs.Tellings.{Telling}
-use Rattle.tk_report.specs.declared.group.Group.{Group}
-use Rattle.tk_run.specs.declared.slip.Slip.{Slip}
+use Rattle.tk_run.specs.declared.group.Group.{Group}
+use Rattle.tk_run.specs.declared.pinned_write.PinnedWrite.{PinnedWrite}
 use Rattle.tk_run.specs.declared.talking.Talk.{Talk}
 use Rattle.tk_run.specs.Clients.{AreClients, client_before}
 use Rattle.tk_run.specs.Turns.{reply_at, entries_seen}
 use Rattle.tk_run.specs.Ran.{Ran}
-use Rattle.tk_run.specs.Courses.{GoesOn, IsTalk, AreTalks, HasTalked, talk_seen, AreSights}
-use Rattle.tk_run.specs.Courses.{IsCourse, HasWritten}
+use Rattle.tk_run.specs.Rows.{AreRows}
+use Rattle.tk_run.specs.Courses.{GoesOn, IsTalk, AreTalks, HasTalked, talk_seen, AreSights, IsCourse, HasWritten}
 use Rattle.tk_run.proofs.SeenLaws.{turn_seen-parts}
 use Rattle.tk_run.proofs.GoesOnLaws.{filled, filled_legal, filled_begins}
 
@@ -41,21 +41,20 @@ flat_map-by {X} {A} f h off (x ∷ xs) same =
     same (suc k) d (omega (arith, low)) ∙ ap h next))
 
 -- a run may always go on
-pub some_goes_on : (shape : Shape) (write : ℕ → ℕ → WriteFrame) (K : List TurnOrder) (xs : List Passing)
-    (p : Telling) → Ran shape write K xs p → length K ≤ turn_count shape →
-    GoesOn shape K (filled shape K)
-some_goes_on shape write K xs p ran within =
+pub some_goes_on : {shape : Shape} {write : ℕ → ℕ → WriteFrame} {K : List TurnOrder} {xs : List Passing}
+    {p : Telling} → Ran shape write K xs p → length K ≤ turn_count shape → GoesOn shape K (filled shape K)
+some_goes_on {shape} {write} {K} ran within =
     record {
       legal = filled_legal shape K within ran.turns;
       begins = filled_begins shape K;
     }
 
-module _ (S : Script) (b : WordBook) (H : History) (g : ℕ) where
+module _ {S : Script} {b : WordBook} {H : History} {g : ℕ} where
   -- a read and its reply, as the server at a place sees them
-  talk_read : (c : ℕ) (talk : Talk) (i : ℕ) → IsTalk S b H g c talk → i < S.shape.servers →
+  talk_read : {c : ℕ} {talk : Talk} (i : ℕ) → IsTalk S b H g c talk → i < S.shape.servers →
       talk_seen i talk ≡ bytes_of (read_answered S b H (i + 1) g c)
   unfolding with_reply
-  talk_read c talk i is low =
+  talk_read {c} {talk} i is low =
       let server : 1 + i ≡ i + 1 = omega arith in
       let asked : slice_index_or talk.asked.items i [] ≡ read_frame (read_at S b H g c (i + 1)) =
       ap (λ frames. slice_index_or frames i []) is.asked
@@ -72,9 +71,9 @@ module _ (S : Script) (b : WordBook) (H : History) (g : ℕ) where
       (replied ∙ sym (append-nil (reply_frame (reply_at S b H g (i + 1) c))))
 
   -- every server was asked, and replied
-  pub have_talked : (talks : List Talk) → AreTalks S b H g talks →
+  pub have_talked : {talks : List Talk} → AreTalks S b H g talks →
       All (HasTalked S.shape.servers) talks
-  have_talked talks are k d low =
+  have_talked are k d low =
       let is = are.each k d low in
       record {
         asked = ap length is.asked ∙ length-map-range_with_len
@@ -83,41 +82,35 @@ module _ (S : Script) (b : WordBook) (H : History) (g : ℕ) where
             (λ j. reply_frame (reply_at S b H g j k)) 1 S.shape.servers;
       }
 
-  pub sights_seen : (bytes : List ℕ) (talks : List Talk) (sights : List (List ℕ)) →
+  pub sights_seen : {bytes : List ℕ} {talks : List Talk} {sights : List (List ℕ)} →
       bytes ≡ flat_map placed_frame (entries_at (write_at S (words_of S.shape b)) H g) →
-      AreTalks S b H g talks → length sights ≡ S.shape.servers →
-      ((i : ℕ) (d : List ℕ) → i < S.shape.servers →
-      slice_index_or sights i d ≡ bytes ++ flat_map (talk_seen i) talks) →
+      AreTalks S b H g talks →
+      AreRows S.shape.servers (λ i. bytes ++ flat_map (talk_seen i) talks) sights →
       AreSights S b H g sights
-  sights_seen bytes talks sights are spoken counted each =
+  sights_seen {bytes} {talks} {sights} are spoken rows =
       record {
-        counted = counted;
+        counted = rows.counted;
         each = λ i d low.
-            let server : i < S.shape.servers = omega (arith, low, counted) in
-            let w = words_of S.shape b in
-            let front : bytes ≡ entries_seen S w H g (i + 1) = are in
-            let back : flat_map (talk_seen i) talks
-            ≡ flat_map (λ c. bytes_of (read_answered S b H (i + 1) g c))
-            (range_with_len 0 (length talks)) =
-            flat_map-by (talk_seen i) (λ c. bytes_of (read_answered S b H (i + 1) g c)) 0 talks
+            let server : i < S.shape.servers = omega (arith, low, rows.counted) in
+            let reads = λ (c : ℕ). bytes_of (read_answered S b H (i + 1) g c) in
+            let back =
+            flat_map-by (talk_seen i) reads 0 talks
             (λ k x inside.
             let here : k ≡ 0 + k = omega arith in
-            talk_read k (slice_index_or talks k x) i (spoken.each k x inside) server
-            ∙ ap (λ c. bytes_of (read_answered S b H (i + 1) g c)) here)
+            talk_read i (spoken.each k x inside) server ∙ ap reads here)
             in
-            each i d server
-            ∙ (ap₂ (λ (x y : List ℕ). x ++ y) front
-            (back ∙ ap (λ n. flat_map (λ c. bytes_of (read_answered S b H (i + 1) g c))
-            (range_with_len 0 n)) spoken.counted)
+            rows.each i d low
+            ∙ (ap₂ (λ (x y : List ℕ). x ++ y) are
+            (back ∙ ap (λ n. flat_map reads (range_with_len 0 n)) spoken.counted)
             ∙ turn_seen-parts S b H g (i + 1));
       }
 
 -- when all have read, the run stands before the next turn
-pub read_course : (S : Script) (b : WordBook) (g : ℕ) (turns : List TurnOrder)
-    (old new : Group) (passes : List Passing) (p : Telling) (slips : List Slip)
-    (bytes : List ℕ) → HasWritten S b g turns old passes p slips bytes → new.said ≡ old.said →
+pub read_course : {S : Script} {b : WordBook} {g : ℕ} {turns : List TurnOrder} {old : Group}
+    {passes : List Passing} {p : Telling} {slips : List PinnedWrite} {bytes : List ℕ} (new : Group) →
+    HasWritten S b g turns old passes p slips bytes → new.said ≡ old.said →
     ((H : History) → GoesOn S.shape turns H →
     AreClients S.shape.clients (client_before S (words_of S.shape b) H (g + 1)) new.clients.items) →
     IsCourse S b (g + 1) turns new passes p
-read_course S b g turns old new passes p slips bytes h said clients =
+read_course new h said clients =
     record { counted = h.counted; said = said ∙ h.said; ran = h.ran; clients = clients }

@@ -1,7 +1,6 @@
 -- What a turn leaves of each pass.
-use Rattle.std.proofs.Common.{◌≡◌, ℕ, ◌+◌, ◌≤◌, inl, inr}
-use Rattle.std.proofs.Common.{List, [], ◌∷◌, ◌++◌, length, Some, slice_get}
-use Rattle.std.proofs.Common.{refl, ap, sym, ◌∙◌, subst, arith, length-append}
+use Rattle.std.proofs.Common.{◌≡◌, ℕ, ◌+◌, ◌≤◌, inl, inr, List, [], ◌∷◌, ◌++◌, length, Some, slice_get, refl, ap, sym}
+use Rattle.std.proofs.Common.{◌∙◌, subst, arith, length-append}
 use mathlib.Core.List.{IsPrefix}
 use Rattle.tk_shape.specs.declared.shape.Shape.{Shape}
 use Rattle.tk_frames.specs.declared.write_frame.WriteFrame.{WriteFrame}
@@ -15,17 +14,17 @@ use Rattle.tk_cluster.specs.declared.set.EpochSet.{EpochSet}
 use Rattle.tk_cluster.specs.Passes.{Reading, Passing, own, Learns, Reads, MeetsAt}
 use Rattle.tk_cluster.specs.Tellings.{Telling, told_of}
 use Rattle.tk_cluster.specs.Clusters.{Each}
-use Rattle.tk_run.specs.declared.slip.Slip.{Slip}
+use Rattle.tk_run.specs.declared.pinned_write.PinnedWrite.{PinnedWrite}
 use Rattle.tk_run.specs.Ran.{ActsOn, EachBy, AllLearn, PassesAt, set_on}
 
 -- the entry of a client that lies at the place that its slip says
-abbrev pub entry_on : (ℕ → WriteFrame) → ℕ → Slip → Placed
+abbrev pub entry_on : (ℕ → WriteFrame) → ℕ → PinnedWrite → Placed
 entry_on write c d = record { position = d.position; entry = Write (write c) }
 
 -- What a whole turn did to a pass: it wrote once, pinned once, and has seen what all have seen. It
 -- knows the newest set, and those of which it was told.
 pub record Stepped (write : ℕ → WriteFrame) (most : ℕ) (seen : List Placed)
-    (before shown : List EpochSet) (a : Passing) (d : Slip) (z : Passing) : Type 0 where
+    (before shown : List EpochSet) (a : Passing) (d : PinnedWrite) (z : Passing) : Type 0 where
   pub client : z.client ≡ a.client
   pub seen_is : z.seen ≡ seen
   pub own_is : own z ≡ own a ++ entry_on write a.client d ∷ []
@@ -42,7 +41,7 @@ own_same a b c s = λ i. of (c i + 1) (s i)
 
 module _ (write : ℕ → WriteFrame) (most : ℕ) (seen : List Placed) where
   -- after the write, the pin and the meeting
-  own_after : (a : Passing) (d : Slip) (b c z : Passing) → ActsOn write most a d b →
+  own_after : (a : Passing) (d : PinnedWrite) (b c z : Passing) → ActsOn write most a d b →
       c.client ≡ b.client → c.seen ≡ b.seen → MeetsAt seen c z →
       own z ≡ own a ++ entry_on write a.client d ∷ []
   own_after a d b c z h client same m =
@@ -55,13 +54,13 @@ module _ (write : ℕ → WriteFrame) (most : ℕ) (seen : List Placed) where
       in
       m.own ∙ (own_same b c client same ∙ (own_same h.mid b h.pins.client h.pins.seen ∙ entry))
 
-  client_after : (a : Passing) (d : Slip) (b c z : Passing) → ActsOn write most a d b →
+  client_after : (a : Passing) (d : PinnedWrite) (b c z : Passing) → ActsOn write most a d b →
       c.client ≡ b.client → MeetsAt seen c z → z.client ≡ a.client
   client_after a d b c z h client m =
       m.client ∙ (client ∙ (h.pins.client ∙ h.wrote.client))
 
   -- where the publisher told of a set more
-  pub stepped_closing : (told : Telling) (before : List EpochSet) (a : Passing) (d : Slip)
+  pub stepped_closing : (told : Telling) (before : List EpochSet) (a : Passing) (d : PinnedWrite)
       (b c z : Passing) → length told.shown ≡ most + 1 → ActsOn write most a d b →
       Reads (λ r s. Learns r (told_of told) s) b c → MeetsAt seen c z →
       Stepped write most seen before told.shown a d z
@@ -95,7 +94,7 @@ module _ (write : ℕ → WriteFrame) (most : ℕ) (seen : List Placed) where
       }
 
   -- where it told of none
-  pub stepped_open : (before : List EpochSet) (a : Passing) (d : Slip) (b z : Passing) →
+  pub stepped_open : (before : List EpochSet) (a : Passing) (d : PinnedWrite) (b z : Passing) →
       most ≤ a.reads.known → ActsOn write most a d b → MeetsAt seen b z →
       Stepped write most seen before before a d z
   stepped_open before a d b z newest h m =
@@ -127,7 +126,7 @@ module _ (write : ℕ → WriteFrame) (most : ℕ) (seen : List Placed) where
 
   -- ---- all passes
 
-  pub all_closing : (told : Telling) (before : List EpochSet) (xs : List Passing) (ds : List Slip)
+  pub all_closing : (told : Telling) (before : List EpochSet) (xs : List Passing) (ds : List PinnedWrite)
       (ys cs zs : List Passing) → length told.shown ≡ most + 1 →
       EachBy (ActsOn write most) xs ds ys → AllLearn told ys cs → Each (MeetsAt seen) cs zs →
       EachBy (Stepped write most seen before told.shown) xs ds zs
@@ -136,17 +135,14 @@ module _ (write : ℕ → WriteFrame) (most : ℕ) (seen : List Placed) where
     stepped_closing told before a d b c z long h.0 l.0 m.0,
     all_closing told before xs ds ys cs zs long h.1 l.1 m.1,
   )
-  all_closing told before [] [] (b ∷ ys) cs zs long h l m = absurd h
-  all_closing told before [] (d ∷ ds) ys cs zs long h l m = absurd h
-  all_closing told before (a ∷ xs) [] ys cs zs long h l m = absurd h
-  all_closing told before (a ∷ xs) (d ∷ ds) [] cs zs long h l m = absurd h
   all_closing told before [] [] [] (c ∷ cs) zs long h l m = absurd l
   all_closing told before (a ∷ xs) (d ∷ ds) (b ∷ ys) [] zs long h l m = absurd l
   all_closing told before [] [] [] [] (z ∷ zs) long h l m = absurd m
   all_closing told before (a ∷ xs) (d ∷ ds) (b ∷ ys) (c ∷ cs) [] long h l m = absurd m
+  all_closing told before _ _ _ cs zs long h l m = absurd h
 
   pub all_open : (shape : Shape) (K : List TurnOrder) (p : Telling) (off : ℕ)
-      (before : List EpochSet) (xs : List Passing) (ds : List Slip) (ys zs : List Passing) →
+      (before : List EpochSet) (xs : List Passing) (ds : List PinnedWrite) (ys zs : List Passing) →
       most ≤ phases_over shape (length K) → PassesAt shape K p off xs →
       EachBy (ActsOn write most) xs ds ys → Each (MeetsAt seen) ys zs →
       EachBy (Stepped write most seen before before) xs ds zs
@@ -155,9 +151,6 @@ module _ (write : ℕ → WriteFrame) (most : ℕ) (seen : List Placed) where
     stepped_open before a d b z (omega (arith, low, (at.0).known)) h.0 m.0,
     all_open shape K p (off + 1) before xs ds ys zs low at.1 h.1 m.1,
   )
-  all_open shape K p off before [] [] (b ∷ ys) zs low at h m = absurd h
-  all_open shape K p off before [] (d ∷ ds) ys zs low at h m = absurd h
-  all_open shape K p off before (a ∷ xs) [] ys zs low at h m = absurd h
-  all_open shape K p off before (a ∷ xs) (d ∷ ds) [] zs low at h m = absurd h
   all_open shape K p off before [] [] [] (z ∷ zs) low at h m = absurd m
   all_open shape K p off before (a ∷ xs) (d ∷ ds) (b ∷ ys) [] low at h m = absurd m
+  all_open shape K p off before _ _ _ zs low at h m = absurd h

@@ -1,11 +1,12 @@
 -- Where a run of threads stops early.
-use Rattle.std.proofs.Common.{ℕ, List, sym, subst, Option}
+use Rattle.std.proofs.Common.{ℕ, List, refl, sym, subst, Option}
 use Rattle.std.specs.Prelude.{Result}
 use Rattle.std.specs.Result.{IsErrAnd}
 use Rattle.std.proofs.lemmas.Result.{err_from_is_err_and}
 use Rattle.tk_schedule.specs.declared.history.TurnOrder.{TurnOrder}
 use Rattle.tk_schedule.specs.declared.history.History.{History}
-use Rattle.tk_schedule.specs.Schedule.{IsLegal}
+use Rattle.tk_schedule.specs.Schedule.{IsLegal, serial_history}
+use Rattle.tk_schedule.proofs.Offers.{serial-IsLegal}
 use Rattle.tk_script.specs.declared.script.Script.{Script}
 use Rattle.tk_words.specs.Words.{WordBook}
 use Rattle.tk_io.specs.Tapped.{TapsGainFronts, TapsKeepBut}
@@ -15,6 +16,7 @@ use Rattle.tk_cluster.specs.Closings.{Ended}
 use Rattle.tk_run.specs.Turns.{turn_seen}
 use Rattle.tk_run.specs.Courses.{GoesOn, TapsAfterTurn, TapsAfterRun}
 use Rattle.tk_run.specs.Threads.{CameAbout}
+use Rattle.tk_run.proofs.GivingLaws.{fronts-none}
 
 module _ (S : Script) (b : WordBook) {X E : Type 0} (Q : E → Type 0) (r : Result X E)
     (is : IsErrAnd r Q) (old new : ℕ → Option (List ℕ)) where
@@ -51,3 +53,12 @@ came_stopped S b {E} Q r is old new H legal fronts keep =
       run = tt;
       taps = record { ok = tt; err = fronts; others = keep };
     })
+
+-- where nothing was given to any tap
+pub came_nowhere : (S : Script) (b : WordBook) {E : Type 0} (Q : E → Type 0)
+    (r : Result (Outcome × Ended) E) → IsErrAnd r Q → (taps : ℕ → Option (List ℕ)) →
+    CameAbout S b r taps taps
+came_nowhere S b {E} Q r is taps =
+    let H = serial_history S.shape in
+    came_stopped S b Q r is taps taps H (serial-IsLegal S.shape)
+    (fronts-none S.shape.servers (λ (j : ℕ). bytes_of (exchange S b H j)) taps) (λ j out. refl)

@@ -1,7 +1,6 @@
 -- All clients with their reads, before and after.
-use Rattle.std.proofs.Common.{◌≡◌, refl, ap, ap₂, sym, ◌∙◌, subst, arith}
-use Rattle.std.proofs.Common.{ℕ, zero, suc, ◌+◌, ◌<◌, ◌≤◌, List, [], ◌∷◌, ◌++◌, length, map}
-use Rattle.std.proofs.Common.{length-append, take}
+use Rattle.std.proofs.Common.{◌≡◌, refl, ap, ap₂, sym, ◌∙◌, subst, arith, ℕ, zero, suc, ◌+◌, ◌<◌, ◌≤◌, List, [], ◌∷◌}
+use Rattle.std.proofs.Common.{◌++◌, length, map, length-append, take}
 use Rattle.std.proofs.lemmas.List.{map-append, length-map}
 use Rattle.std.specs.Prelude.{slice_index_or}
 use Rattle.std.specs.Arc.{arc_value}
@@ -13,7 +12,7 @@ use Rattle.tk_script.specs.declared.script.Script.{Script}
 use Rattle.tk_words.specs.Words.{WordBook, words_of}
 use Rattle.tk_client.specs.Client.{ClientState}
 use Rattle.tk_cluster.specs.declared.set.EpochSet.{EpochSet}
-use Rattle.tk_run.specs.declared.slip.Slip.{Slip}
+use Rattle.tk_run.specs.declared.pinned_write.PinnedWrite.{PinnedWrite}
 use Rattle.tk_run.specs.declared.talking.Talk.{Talk}
 use Rattle.tk_run.specs.declared.talking.Reading.{Reading}
 use Rattle.tk_run.specs.Clients.{client_wrote}
@@ -28,15 +27,14 @@ use Rattle.tk_run.proofs.AskingLaws.{wrote-shape, wrote-number, wrote-closed}
 -- ---- before
 
 -- a blank read has the set of its slip
-blank-at : (turn : ℕ) (ds : List Slip) (ts : List Talk) → AreBlank turn ds ts →
-    (k : ℕ) (d : Slip) (t : Talk) → k < length ts →
+blank-at : (turn : ℕ) (ds : List PinnedWrite) (ts : List Talk) → AreBlank turn ds ts →
+    (k : ℕ) (d : PinnedWrite) (t : Talk) → k < length ts →
     IsBlank turn (slice_index_or ds k d) (slice_index_or ts k t)
 blank-at turn [] [] are k d t low = absurd (omega (arith, low))
 blank-at turn (e ∷ ds) (u ∷ ts) are zero d t low = are.0
 blank-at turn (e ∷ ds) (u ∷ ts) are (suc k) d t low =
     blank-at turn ds ts are.1 k d t (omega (arith, low))
-blank-at turn [] (u ∷ ts) are k d t low = absurd are
-blank-at turn (e ∷ ds) [] are k d t low = absurd are
+blank-at turn _ _ are k d t low = absurd are
 
 pub map-at : {X Y : Type 0} (f : X → Y) (xs : List X) (k : ℕ) (d : X) → k < length xs →
     slice_index_or (map f xs) k (f d) ≡ f (slice_index_or xs k d)
@@ -50,7 +48,7 @@ pub record Begins (S : Script) (b : WordBook) (H : History) (g : ℕ) (r : Readi
   pub turn_is : r.talk.turn ≡ g
   pub asks : MayAskIn S b H r.client r.talk
 
-may_ask : (S : Script) (b : WordBook) (H : History) (g c : ℕ) (a : ClientState) (s : Slip)
+may_ask : (S : Script) (b : WordBook) (H : History) (g c : ℕ) (a : ClientState) (s : PinnedWrite)
     (d : Talk) → IsLegal S.shape H → g < turn_count S.shape → c < S.shape.clients →
     a ≡ client_wrote S (words_of S.shape b) H g c →
     Stands S.shape (placed_before S (words_of S.shape b) H (g + 1)) (epoch_at H g c) (set_on s) →
@@ -74,7 +72,7 @@ may_ask S b H g c a s d legal inside low is from blank =
     }
 
 begin-at : (S : Script) (b : WordBook) (H : History) (g : ℕ) (clients : List ClientState)
-    (slips : List Slip) (rs : List Reading) → MayRead S b H g clients slips →
+    (slips : List PinnedWrite) (rs : List Reading) → MayRead S b H g clients slips →
     readers rs ≡ clients → AreBlank g slips (talks_of rs) → length rs ≡ S.shape.clients →
     (k : ℕ) (d : Reading) → k < length rs →
     ((slice_index_or rs k d).client.number ≡ 0 + k) × Begins S b H g (slice_index_or rs k d)
@@ -87,7 +85,7 @@ begin-at S b H g clients slips rs may same blank counted k d low =
     ∙ ap (λ (xs : List ClientState). slice_index_or xs k d.client) same
     ∙ may.wrote.each k d.client inside
     in
-    let slip : Slip = record { position = 0; set = d.talk.set } in
+    let slip : PinnedWrite = record { position = 0; set = d.talk.set } in
     let few : k < length (talks_of rs) =
     omega (arith, low, length-map rs (λ (x : Reading). x.talk))
     in
@@ -130,7 +128,7 @@ begin-at S b H g clients slips rs may same blank counted k d low =
 
 -- so do all, who have their numbers
 pub all-begin : (S : Script) (b : WordBook) (H : History) (g : ℕ) (clients : List ClientState)
-    (slips : List Slip) (rs : List Reading) → MayRead S b H g clients slips →
+    (slips : List PinnedWrite) (rs : List Reading) → MayRead S b H g clients slips →
     readers rs ≡ clients → AreBlank g slips (talks_of rs) →
     (length rs ≡ S.shape.clients)
     × ((k : ℕ) (d : Reading) → k < length rs →
@@ -146,7 +144,7 @@ all-begin S b H g clients slips rs may same blank =
 
 -- two that may read are of one shape, if their clients are the same
 pub one-shape : (S T : Script) (b : WordBook) (H K : History) (g : ℕ) (clients : List ClientState)
-    (slips others : List Slip) → MayRead S b H g clients slips → MayRead T b K g clients others →
+    (slips others : List PinnedWrite) → MayRead S b H g clients slips → MayRead T b K g clients others →
     S.shape ≡ T.shape
 one-shape S T b H K g [] slips others may may_too =
     let some = S.shape.in_range.clients_low in
@@ -159,22 +157,21 @@ one-shape S T b H K g (x ∷ clients) slips others may may_too =
 -- ---- one by one
 
 -- one more blank read
-pub blank-next : (turn : ℕ) (ds : List Slip) (d : Slip) (ts : List Talk) (t : Talk) →
+pub blank-next : (turn : ℕ) (ds : List PinnedWrite) (d : PinnedWrite) (ts : List Talk) (t : Talk) →
     AreBlank turn ds ts → IsBlank turn d t → AreBlank turn (ds ++ d ∷ []) (ts ++ t ∷ [])
 blank-next turn [] d [] t are is = (is, tt)
 blank-next turn (e ∷ ds) d (u ∷ ts) t are is = (are.0, blank-next turn ds d ts t are.1 is)
-blank-next turn [] d (u ∷ ts) t are is = absurd are
-blank-next turn (e ∷ ds) d [] t are is = absurd are
+blank-next turn _ d _ t are is = absurd are
 
 -- what is known of the first readings
-pub record Paired (turn : ℕ) (slips : List Slip) (clients : List ClientState) (rs : List Reading)
+pub record Paired (turn : ℕ) (slips : List PinnedWrite) (clients : List ClientState) (rs : List Reading)
     : Type 0 where
   pub counted : length rs ≡ length clients
   pub clients_are : readers rs ≡ clients
   pub talks : AreBlank turn (take (length clients) slips) (talks_of rs)
 
-pub paired-next : (turn : ℕ) (slips : List Slip) (clients : List ClientState)
-    (rs more : List Reading) (slip : Slip) (client : ClientState) (r : Reading) →
+pub paired-next : (turn : ℕ) (slips : List PinnedWrite) (clients : List ClientState)
+    (rs more : List Reading) (slip : PinnedWrite) (client : ClientState) (r : Reading) →
     length clients < length slips → slip ≡ slice_index_or slips (length clients) slip →
     Paired turn slips clients rs → more ≡ rs ++ r ∷ [] → r.client ≡ client →
     IsBlank turn slip r.talk → Paired turn slips (clients ++ client ∷ []) more

@@ -1,6 +1,5 @@
 -- What a client reads in a turn, from the set that it pinned.
-use Rattle.std.proofs.Common.{◌≡◌, refl, ap, ap₂, sym, ◌∙◌}
-use Rattle.std.proofs.Common.{ℕ, ◌+◌, ◌<◌, List, [], ◌∷◌, map}
+use Rattle.std.proofs.Common.{◌≡◌, refl, ap, ap₂, sym, ◌∙◌, ℕ, ◌+◌, ◌<◌, List, [], ◌∷◌, map}
 use Rattle.std.specs.List.{range_with_len}
 use Rattle.tk_shape.specs.Lengths.{turn_count}
 use Rattle.tk_schedule.specs.declared.history.History.{History}
@@ -16,12 +15,8 @@ use Rattle.tk_run.specs.Clients.{client_asked, client_before}
 use Rattle.tk_run.specs.Turns.{placed_before, reply_at, replies_to, replied}
 use Rattle.tk_run.proofs.ReadingLaws.{map-map, reply-at, AreMade, all-made}
 use Rattle.tk_run.proofs.ServerLaws.{replies-are}
+use Rattle.tk_run.proofs.AskingLaws.{map_same}
 use Rattle.tk_run.proofs.AnswerLaws.{IsSound, all-sound, client-took}
-
-map_same : {X Y : Type 0} (f h : X → Y) → ((x : X) → f x ≡ h x) → (xs : List X) →
-    map f xs ≡ map h xs
-map_same f h same [] = refl
-map_same f h same (x ∷ xs) = ap₂ (λ y ys. y ∷ ys) (same x) (map_same f h same xs)
 
 -- the replies to its frames are those that the servers owe it
 pub talk-replies : (S : Script) (b : WordBook) (H : History) (g c : ℕ)
@@ -61,20 +56,20 @@ pub record Read (S : Script) (b : WordBook) (H : History) (g c : ℕ) (new : Cli
       ≡ map (λ j. reply_frame (reply_at S b H g j c)) (range_with_len 1 S.shape.servers)
 
 -- a client that asked as the history says, and took the replies to it
-pub has_taken : (S : Script) (b : WordBook) (H : History) (g c : ℕ) (asking new : ClientState)
-    (frames replies : List Frame) → IsBook S.shape b → IsLegal S.shape H →
+pub has_taken : (S : Script) (b : WordBook) (H : History) (g c : ℕ) {asking new : ClientState}
+    {frames replies : List Frame} → IsBook S.shape b → IsLegal S.shape H →
     g < turn_count S.shape → c < S.shape.clients →
     asking ≡ client_asked S (words_of S.shape b) H g c →
     frames ≡ map (λ j. read_frame (read_at S b H g c j)) (range_with_len 1 S.shape.servers) →
     replies ≡ map (reply_bytes S.shape (placed_before S (words_of S.shape b) H (g + 1))) frames →
     new ≡ after_replies (words_of asking.shape b) replies asking →
     Read S b H g c new frames replies
-has_taken S b H g c asking new frames replies book legal turn_in low asks are given took =
+has_taken S b H g c {asking} {new} {frames} {replies} book legal turn_in low asks are given took =
     let sound = all-sound S b H g c book legal turn_in low in
     let made = all-made S b H g legal turn_in in
     let owed = talk-replies S b H g c frames replies sound made low are given in
     record {
-      client = client-took S b H g c asking new replies sound asks owed took;
+      client = client-took sound asks owed took;
       asks = are;
       replies_are = owed ∙ replied-each S b H g c;
     }

@@ -1,7 +1,7 @@
 -- A turn's reads, step by step: all have asked, all are answered, all have taken the replies. What is
 -- known of a client with its read doesn't ask where among the others it stands.
-use Rattle.std.proofs.Common.{◌≡◌, refl, ap, sym, ◌∙◌, subst, arith}
-use Rattle.std.proofs.Common.{ℕ, zero, suc, ◌+◌, ◌<◌, List, [], ◌∷◌, length, map, All}
+use Rattle.std.proofs.Common.{◌≡◌, refl, ap, sym, ◌∙◌, subst, arith, ℕ, zero, suc, ◌+◌, ◌<◌, List, [], ◌∷◌, length, map}
+use Rattle.std.proofs.Common.{All}
 use Rattle.std.specs.Prelude.{slice_index_or, IsPermutation}
 use Rattle.std.proofs.lemmas.List.Sorted.{All-permutation, length_permutation}
 use Rattle.std.specs.Arc.{arc_value}
@@ -28,14 +28,12 @@ use Rattle.tk_run.specs.Rows.{Frame}
 use Rattle.tk_run.specs.Clients.{AreClients, client_asked, client_before, client_knowing}
 use Rattle.tk_run.specs.Turns.{placed_before}
 use Rattle.tk_run.specs.Courses.{IsTalk, AreTalks, MayRead, AreBlank}
-use Rattle.tk_run.specs.declared.slip.Slip.{Slip}
-use Rattle.tk_run.specs.Reading.{MayReadOn, HasAsked, MayTake, HasTaken, EachAt}
-use Rattle.tk_run.specs.Reading.{readers, talks_of}
+use Rattle.tk_run.specs.declared.pinned_write.PinnedWrite.{PinnedWrite}
+use Rattle.tk_run.specs.Reading.{MayReadOn, HasAsked, MayTake, HasTaken, EachAt, readers, talks_of}
 use Rattle.tk_run.specs.Answering.{MayAnswer, IsAnswered, AllStand, set_of}
 use Rattle.tk_run.proofs.ReadingLaws.{map-map}
 use Rattle.tk_run.proofs.AnswerLaws.{all-sound, asked-shape, asked-open}
-use Rattle.tk_run.proofs.OrderedPlaces.{Numbers, numbers-told, numbers-moved, numbers-kept}
-use Rattle.tk_run.proofs.OrderedPlaces.{in_places}
+use Rattle.tk_run.proofs.OrderedPlaces.{Numbers, numbers-told, numbers-moved, numbers-kept, in_places}
 use Rattle.tk_run.proofs.PosingLaws.{asked-of}
 use Rattle.tk_run.proofs.TalkAll.{Begins, all-begin}
 use Rattle.tk_run.proofs.TalkReads.{has_taken}
@@ -44,9 +42,6 @@ before-number : (S : Script) (w : BookWords) (H : History) (g c : ℕ) →
     (client_before S w H g c).number ≡ c
 unfolding client_before client_knowing
 before-number S w H g c = refl
-
-taken-number : (b : WordBook) (r s : Reading) → HasTaken b r s → s.client.number ≡ r.client.number
-taken-number b r s took = ap (λ (x : ClientState). x.number) took.client
 
 -- the number of a client with its read
 abbrev pub number_of : Reading → ℕ
@@ -58,7 +53,7 @@ pub record Stage (n : ℕ) (P : Reading → Type 0) (rs : List Reading) : Type 0
   pub numbers : Numbers number_of 0 n rs
   pub counted : length rs ≡ n
 
-module _ (n : ℕ) (P : Reading → Type 0) (old new : List Reading) where
+module _ {n : ℕ} {P : Reading → Type 0} {old new : List Reading} where
   pub stage-same : new ≡ old → Stage n P old → Stage n P new
   stage-same same h = subst (Stage n P) (sym same) h
 
@@ -70,14 +65,14 @@ module _ (n : ℕ) (P : Reading → Type 0) (old new : List Reading) where
         counted = length_permutation old new moved ∙ h.counted;
       }
 
-  stage-next : (Q : Reading → Type 0) → length new ≡ length old → All Q new →
-      EachAt (λ r s. number_of s ≡ number_of r) old new → Stage n P old → Stage n Q new
-  stage-next Q counted all same h =
-      record {
-        all = all;
-        numbers = numbers-kept number_of 0 n old new counted same h.numbers;
-        counted = counted ∙ h.counted;
-      }
+stage-next : {n : ℕ} {P Q : Reading → Type 0} {old new : List Reading} → length new ≡ length old →
+    All Q new → EachAt (λ r s. number_of s ≡ number_of r) old new → Stage n P old → Stage n Q new
+stage-next {n} {P} {Q} {old} {new} counted all same h =
+    record {
+      all = all;
+      numbers = numbers-kept number_of 0 n old new counted same h.numbers;
+      counted = counted ∙ h.counted;
+    }
 
 module _ (S : Script) (b : WordBook) (H : History) (g : ℕ) where
   -- the entries that a set stands for in turn g
@@ -87,6 +82,10 @@ module _ (S : Script) (b : WordBook) (H : History) (g : ℕ) where
   -- what client c asks in turn g
   abbrev asks : ℕ → List Frame
   asks c = map (λ j. read_frame (read_at S b H g c j)) (range_with_len 1 S.shape.servers)
+
+  asks-counted : (c : ℕ) → length (asks c) ≡ S.shape.servers
+  asks-counted c =
+      length-map-range_with_len (λ j. read_frame (read_at S b H g c j)) 1 S.shape.servers
 
   -- a client that asked as the history says, of a set of the epoch that it reads
   pub record Asking (r : Reading) : Type 0 where
@@ -114,14 +113,15 @@ module _ (S : Script) (b : WordBook) (H : History) (g : ℕ) where
     pub client : r.client ≡ client_before S (words_of S.shape b) H (g + 1) c
     pub talk : IsTalk S b H g c r.talk
 
-  -- ---- asking
+-- ---- asking
 
+module _ {S : Script} {b : WordBook} {H : History} {g : ℕ} where
   -- who begins may ask
-  pub all-begun : (rs : List Reading) → All (Begins S b H g) rs → All (MayReadOn S.shape) rs
-  all-begun rs all k d low = (all k d low).reads
+  pub all-begun : {n : ℕ} {rs : List Reading} → Stage n (Begins S b H g) rs → All (MayReadOn S.shape) rs
+  all-begun h k d low = (h.all k d low).reads
 
-  pub all-asking : (old new : List Reading) → length new ≡ length old →
-      All (Begins S b H g) old → EachAt (HasAsked b) old new → All Asking new
+  all-asking : (old new : List Reading) → length new ≡ length old →
+      All (Begins S b H g) old → EachAt (HasAsked b) old new → All (Asking S b H g) new
   all-asking old new counted begin asked k d low =
       let inside : k < length old = omega (arith, low, counted) in
       let r = slice_index_or old k d in
@@ -132,7 +132,7 @@ module _ (S : Script) (b : WordBook) (H : History) (g : ℕ) where
       let begins = begin k d inside in
       let asks_so = asked k d inside in
       let due = asks_so.due S H begins.asks in
-      let stands : Stands S.shape order (epoch_at H g c) (set_of r) =
+      let stands : Stands S.shape (order S b H g) (epoch_at H g c) (set_of r) =
       subst (λ m. Stands S.shape (placed_before S w H (m + 1)) (epoch_at H m c) (set_of r))
       begins.turn_is begins.asks.stands
       in
@@ -146,25 +146,21 @@ module _ (S : Script) (b : WordBook) (H : History) (g : ℕ) where
             ∙ ap (λ m. map (λ j. read_frame (read_at S b H m c j)) (range_with_len 1 S.shape.servers))
             begins.turn_is;
         stands =
-            subst (λ (e : EpochSet). Stands S.shape order (epoch_at H g c) e)
+            subst (λ (e : EpochSet). Stands S.shape (order S b H g) (epoch_at H g c) e)
             (sym (ap arc_value asks_so.set)) stands;
         unreplied = asks_so.unreplied ∙ begins.reads.talk.none_replied;
       }
 
-  asks-counted : (c : ℕ) → length (asks c) ≡ S.shape.servers
-  asks-counted c =
-      length-map-range_with_len (λ j. read_frame (read_at S b H g c j)) 1 S.shape.servers
-
   -- what they ask may be answered
-  pub all-answerable : IsBook S.shape b → IsLegal S.shape H → g < turn_count S.shape →
-      (rs : List Reading) → All Asking rs → All (MayAnswer S.shape) rs
-  all-answerable book legal turn_in rs all k d low =
+  pub all-answerable : {n : ℕ} {rs : List Reading} → IsBook S.shape b → IsLegal S.shape H →
+      g < turn_count S.shape → Stage n (Asking S b H g) rs → All (MayAnswer S.shape) rs
+  all-answerable {n} {rs} book legal turn_in h k d low =
       let r = slice_index_or rs k d in
-      let is = all k d low in
+      let is = h.all k d low in
       let js = range_with_len 1 S.shape.servers in
       record {
         same = is.stands.same;
-        counted = ap length is.asked ∙ asks-counted is.c;
+        counted = ap length is.asked ∙ asks-counted S b H g is.c;
         asked =
             subst (All (IsAsked (set_of r)))
             (map-map read_frame (read_at S b H g is.c) js ∙ sym is.asked)
@@ -174,19 +170,21 @@ module _ (S : Script) (b : WordBook) (H : History) (g : ℕ) where
       }
 
   -- by sets that stand for the entries of the turn
-  pub all-stand : (rs : List Reading) → All Asking rs → AllStand rs S.shape order
-  all-stand rs all k d low =
-      let r = slice_index_or rs k d in
-      let stands = (all k d low).stands in
-      subst (λ e. Stands S.shape order e (set_of r)) (sym stands.number) stands
+  pub all-stand : {n : ℕ} {rs : List Reading} → Stage n (Asking S b H g) rs →
+      AllStand rs S.shape (order S b H g)
+  all-stand {n} {rs} h k d low =
+      let stands = (h.all k d low).stands in
+      subst (λ e. Stands S.shape (order S b H g) e (set_of (slice_index_or rs k d))) (sym stands.number)
+      stands
 
   -- ---- answers
 
-  pub all-replied : (old new : List Reading) → length new ≡ length old → All Asking old →
-      EachAt (IsAnswered (AllStand old)) old new → All Replied new
-  all-replied old new counted asking answered k d low =
+  all-replied : {n : ℕ} {old : List Reading} (new : List Reading) → length new ≡ length old →
+      Stage n (Asking S b H g) old → EachAt (IsAnswered (AllStand old)) old new →
+      All (Replied S b H g) new
+  all-replied {n} {old} new counted h answered k d low =
       let inside : k < length old = omega (arith, low, counted) in
-      let is = asking k d inside in
+      let is = h.all k d inside in
       let answer = answered k d inside in
       record {
         c = is.c;
@@ -195,30 +193,31 @@ module _ (S : Script) (b : WordBook) (H : History) (g : ℕ) where
         client = answer.client ∙ is.client;
         asked = answer.asked ∙ is.asked;
         replies =
-            answer.replies S.shape order (all-stand old asking)
-            ∙ ap (map (reply_bytes S.shape order)) (sym answer.asked);
+            answer.replies S.shape (order S b H g) (all-stand h)
+            ∙ ap (map (reply_bytes S.shape (order S b H g))) (sym answer.asked);
       }
 
   -- what they are replied may be taken
-  pub all-takeable : (rs : List Reading) → All Replied rs → All (MayTake S.shape) rs
-  all-takeable rs all k d low =
+  pub all-takeable : {n : ℕ} {rs : List Reading} → Stage n (Replied S b H g) rs →
+      All (MayTake S.shape) rs
+  all-takeable {n} {rs} h k d low =
       let r = slice_index_or rs k d in
       let w = words_of S.shape b in
-      let is = all k d low in
+      let is = h.all k d low in
       record {
         same = asked-shape S w H g is.c r.client is.client;
         waits = asked-open S w H g is.c r.client is.client;
         counted =
             ap length is.replies
-            ∙ length-map r.talk.asked.items (reply_bytes S.shape order)
-            ∙ ap length is.asked ∙ asks-counted is.c;
+            ∙ length-map r.talk.asked.items (reply_bytes S.shape (order S b H g))
+            ∙ ap length is.asked ∙ asks-counted S b H g is.c;
       }
 
   -- ---- taking
 
-  pub all-ended : IsBook S.shape b → IsLegal S.shape H → g < turn_count S.shape →
-      (old new : List Reading) → length new ≡ length old → All Replied old →
-      EachAt (HasTaken b) old new → All Ended new
+  all-ended : IsBook S.shape b → IsLegal S.shape H → g < turn_count S.shape →
+      (old new : List Reading) → length new ≡ length old → All (Replied S b H g) old →
+      EachAt (HasTaken b) old new → All (Ended S b H g) new
   all-ended book legal turn_in old new counted replied taken k d low =
       let inside : k < length old = omega (arith, low, counted) in
       let r = slice_index_or old k d in
@@ -227,8 +226,7 @@ module _ (S : Script) (b : WordBook) (H : History) (g : ℕ) where
       let is = replied k d inside in
       let took = taken k d inside in
       let read =
-      has_taken S b H g is.c r.client s.client r.talk.asked.items r.talk.replies.items book legal
-      turn_in is.low is.client is.asked is.replies took.client
+      has_taken S b H g is.c book legal turn_in is.low is.client is.asked is.replies took.client
       in
       record {
         c = is.c;
@@ -243,10 +241,10 @@ module _ (S : Script) (b : WordBook) (H : History) (g : ℕ) where
 
   -- ---- all of them
 
-  pub begun : (clients : List ClientState) (slips : List Slip) (rs : List Reading) →
+  pub begun : {clients : List ClientState} {slips : List PinnedWrite} (rs : List Reading) →
       MayRead S b H g clients slips → readers rs ≡ clients → AreBlank g slips (talks_of rs) →
       Stage S.shape.clients (Begins S b H g) rs
-  begun clients slips rs may same blank =
+  begun {clients} {slips} rs may same blank =
       let all = all-begin S b H g clients slips rs may same blank in
       record {
         all = λ k d low. (all.1 k d low).1;
@@ -255,28 +253,24 @@ module _ (S : Script) (b : WordBook) (H : History) (g : ℕ) where
         counted = all.0;
       }
 
-  pub asking : (old new : List Reading) → length new ≡ length old →
-      EachAt (HasAsked b) old new → Stage S.shape.clients (Begins S b H g) old →
-      Stage S.shape.clients Asking new
-  asking old new counted asked h =
-      stage-next S.shape.clients (Begins S b H g) old new Asking counted
-      (all-asking old new counted h.all asked) (λ k d low. (asked k d low).number) h
+  pub asking : {n : ℕ} {old : List Reading} (new : List Reading) → length new ≡ length old →
+      EachAt (HasAsked b) old new → Stage n (Begins S b H g) old → Stage n (Asking S b H g) new
+  asking {n} {old} new counted asked h =
+      stage-next counted (all-asking old new counted h.all asked) (λ k d low. (asked k d low).number) h
 
-  pub replied : (old new : List Reading) → length new ≡ length old →
-      EachAt (IsAnswered (AllStand old)) old new → Stage S.shape.clients Asking old →
-      Stage S.shape.clients Replied new
-  replied old new counted answered h =
-      stage-next S.shape.clients Asking old new Replied counted
-      (all-replied old new counted h.all answered)
+  pub replied : {n : ℕ} {old : List Reading} (new : List Reading) → length new ≡ length old →
+      EachAt (IsAnswered (AllStand old)) old new → Stage n (Asking S b H g) old →
+      Stage n (Replied S b H g) new
+  replied new counted answered h =
+      stage-next counted (all-replied new counted h answered)
       (λ k d low. ap (λ (x : ClientState). x.number) (answered k d low).client) h
 
-  pub ended : IsBook S.shape b → IsLegal S.shape H → g < turn_count S.shape →
-      (old new : List Reading) → length new ≡ length old → EachAt (HasTaken b) old new →
-      Stage S.shape.clients Replied old → Stage S.shape.clients Ended new
-  ended book legal turn_in old new counted taken h =
-      stage-next S.shape.clients Replied old new Ended counted
-      (all-ended book legal turn_in old new counted h.all taken)
-      (λ k d low. taken-number b (slice_index_or old k d) (slice_index_or new k d) (taken k d low)) h
+  pub ended : {n : ℕ} {old : List Reading} (new : List Reading) → IsBook S.shape b →
+      IsLegal S.shape H → g < turn_count S.shape → length new ≡ length old →
+      EachAt (HasTaken b) old new → Stage n (Replied S b H g) old → Stage n (Ended S b H g) new
+  ended {n} {old} new book legal turn_in counted taken h =
+      stage-next counted (all-ended book legal turn_in old new counted h.all taken)
+      (λ k d low. ap (λ (x : ClientState). x.number) (taken k d low).client) h
 
 -- ---- in the order of their numbers
 
@@ -292,11 +286,11 @@ map-element f [] k d low = absurd (omega (arith, low))
 map-element f (x ∷ xs) zero d low = refl
 map-element f (x ∷ xs) (suc k) d low = map-element f xs k d (omega (arith, low))
 
-pub all-talked : (S : Script) (b : WordBook) (H : History) (g : ℕ) (rs : List Reading) →
+pub all-talked : {S : Script} {b : WordBook} {H : History} {g : ℕ} {rs : List Reading} →
     Stage S.shape.clients (Ended S b H g) rs → IsNonDecreasingBy number_of rs →
     AreClients S.shape.clients (client_before S (words_of S.shape b) H (g + 1)) (readers rs)
     × AreTalks S b H g (talks_of rs)
-all-talked S b H g rs h up =
+all-talked {S} {b} {H} {g} {rs} h up =
     let ended = h.all in
     let w = words_of S.shape b in
     let clients_long : length (readers rs) ≡ length rs = length-map rs (λ (r : Reading). r.client) in

@@ -1,6 +1,5 @@
 -- What taps gain, turn after turn of a run of threads.
-use Rattle.std.proofs.Common.{◌≡◌, ℕ, ◌+◌, ◌-◌, ◌<◌, ◌≤◌, List, [], length}
-use Rattle.std.proofs.Common.{ap, ◌∙◌, subst, arith, Option}
+use Rattle.std.proofs.Common.{◌≡◌, ℕ, ◌+◌, ◌-◌, ◌<◌, ◌≤◌, List, [], length, ap, ◌∙◌, subst, arith, Option}
 use Rattle.std.specs.Prelude.{slice_index_or}
 use mathlib.Core.List.{IsPrefix}
 use Rattle.tk_shape.specs.declared.shape.Shape.{Shape}
@@ -21,9 +20,9 @@ abbrev Taps : Type 0
 Taps = ℕ → Option (List ℕ)
 
 -- what goes on from more turns goes on from fewer
-pub goes_on_before : (shape : Shape) (before after : List TurnOrder) (H : History) →
+pub goes_on_before : {shape : Shape} {after : List TurnOrder} {H : History} (before : List TurnOrder) →
     IsPrefix before after → GoesOn shape after H → GoesOn shape before H
-goes_on_before shape before after H p goes =
+goes_on_before {shape} {after} {H} before p goes =
     record { legal = goes.legal; begins = prefix_trans before after H p goes.begins }
 
 -- ---- a turn
@@ -32,7 +31,7 @@ goes_on_before shape before after H p goes =
 abbrev pub sight_at : List (List ℕ) → ℕ → List ℕ
 sight_at sights j = slice_index_or sights (j - 1) []
 
-module _ (S : Script) (b : WordBook) (H : History) (g : ℕ) (sights : List (List ℕ))
+module _ {S : Script} {b : WordBook} {H : History} {g : ℕ} {sights : List (List ℕ)}
     (are : AreSights S b H g sights) where
   sight_is : (j : ℕ) → 1 ≤ j → j ≤ S.shape.servers → sight_at sights j ≡ turn_seen S b H g j
   sight_is j low high =
@@ -62,39 +61,34 @@ module _ (S : Script) (b : WordBook) (H : History) (g : ℕ) (sights : List (Lis
 -- ---- the turns so far
 
 -- however the run goes on from these turns, the taps gained what is seen before turn g
-abbrev pub GainedBefore : Script → WordBook → ℕ → List TurnOrder → Taps → Taps → Type 0
-GainedBefore S b g turns old new =
-    (H : History) → GoesOn S.shape turns H →
-    TapsGain S.shape.servers (seen_before S b H g) old new
+pub record GainedBefore (S : Script) (b : WordBook) (g : ℕ) (turns : List TurnOrder) (old new : Taps)
+    : Type 0 where
+  pub in_each : (H : History) → GoesOn S.shape turns H →
+      TapsGain S.shape.servers (seen_before S b H g) old new
 
-module _ (S : Script) (b : WordBook) where
-  pub gained_first : (turns : List TurnOrder) (taps : Taps) → GainedBefore S b 0 turns taps taps
-  gained_first turns taps H goes = taps-first S b H taps
+pub gained_first : (S : Script) (b : WordBook) (turns : List TurnOrder) (taps : Taps) →
+    GainedBefore S b 0 turns taps taps
+gained_first S b turns taps = record { in_each = λ H goes. taps-first S b H taps }
 
-  pub gained_next : (g : ℕ) (before after : List TurnOrder) (old now new : Taps) →
-      IsPrefix before after → GainedBefore S b g before old now →
+module _ {S : Script} {b : WordBook} {g : ℕ} {before : List TurnOrder} {old now : Taps}
+    (so_far : GainedBefore S b g before old now) where
+  pub gained_next : {after : List TurnOrder} {new : Taps} → IsPrefix before after →
       ((H : History) → GoesOn S.shape after H →
       TapsGain S.shape.servers (turn_seen S b H g) now new) →
       GainedBefore S b (g + 1) after old new
-  gained_next g before after old now new p so_far turn H goes =
-      taps-next S b H g old now new
-      (so_far H (goes_on_before S.shape before after H p goes)) (turn H goes)
+  gained_next {after} {new} p turn =
+      record {
+        in_each = λ H goes. taps-next S b H g old now new
+            (so_far.in_each H (goes_on_before before p goes)) (turn H goes);
+      }
 
   -- after all turns it is the whole exchange
-  pub gained_all : (g : ℕ) (turns : List TurnOrder) (old new : Taps) → g ≡ turn_count S.shape →
-      GainedBefore S b g turns old new → (H : History) → GoesOn S.shape turns H →
-      TapsGain S.shape.servers (λ (j : ℕ). bytes_of (exchange S b H j)) old new
-  gained_all g turns old new all so_far H goes =
-      taps-all S b H g old new all (so_far H goes)
+  pub gained_all : g ≡ turn_count S.shape → (H : History) → GoesOn S.shape before H →
+      TapsGain S.shape.servers (λ (j : ℕ). bytes_of (exchange S b H j)) old now
+  gained_all all H goes = taps-all S b H g old now all (so_far.in_each H goes)
 
   -- where a turn stopped, a front of it
-  pub gained_fronts : (g : ℕ) (before : List TurnOrder) (old now new : Taps) →
-      g < turn_count S.shape → GainedBefore S b g before old now → (H : History) →
-      GoesOn S.shape before H → TapsGainFronts S.shape.servers (turn_seen S b H g) now new →
+  pub gained_fronts : (H : History) (new : Taps) → g < turn_count S.shape → GoesOn S.shape before H →
+      TapsGainFronts S.shape.servers (turn_seen S b H g) now new →
       TapsGainFronts S.shape.servers (λ (j : ℕ). bytes_of (exchange S b H j)) old new
-  gained_fronts g before old now new low so_far H goes turn =
-      fronts-next S b H g old now new low (so_far H goes) turn
-
-pub keep_twice : (n : ℕ) (old now new : Taps) → TapsKeepBut n old now → TapsKeepBut n now new →
-    TapsKeepBut n old new
-keep_twice n old now new first second j other = second j other ∙ first j other
+  gained_fronts H new low goes turn = fronts-next S b H g old now new low (so_far.in_each H goes) turn

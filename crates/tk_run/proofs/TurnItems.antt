@@ -1,12 +1,10 @@
 -- The entries that a turn brings are those of an order of the turn.
-use Rattle.std.proofs.Common.{◌≡◌, ℕ, zero, suc, ◌+◌, ◌-◌, ◌<◌, ◌≤◌, ◌==◌, ◌⊎◌, inl, inr}
-use Rattle.std.proofs.Common.{cond, List, [], ◌∷◌, length, get_or}
-use Rattle.std.proofs.Common.{refl, ap, sym, ◌∙◌, subst, arith, count_by, ext_get_or}
+use Rattle.std.proofs.Common.{◌≡◌, ℕ, zero, suc, ◌+◌, ◌-◌, ◌<◌, ◌≤◌, ◌==◌, ◌⊎◌, inl, inr, cond, List, [], ◌∷◌, length}
+use Rattle.std.proofs.Common.{get_or, refl, ap, sym, ◌∙◌, subst, arith, count_by, ext_get_or}
 use Rattle.std.specs.Prelude.{replicate, slice_set}
 use Rattle.std.proofs.lemmas.Bool.Decides.{nat_tests}
 use Rattle.std.proofs.lemmas.List.Sums.{sum_by-cons}
-use Rattle.std.proofs.lemmas.List.{length-replicate, get_or-replicate, length-set}
-use Rattle.std.proofs.lemmas.List.{get_or-set_same, get_or-set_other}
+use Rattle.std.proofs.lemmas.List.{length-replicate, get_or-replicate, length-set, get_or-set_same, get_or-set_other}
 use mathlib.Core.Logic.{dite}
 use native.Mathlib.Decide.{ℕ_discrete}
 use Rattle.tk_shape.specs.declared.shape.Shape.{Shape}
@@ -22,10 +20,9 @@ use Rattle.tk_schedule.specs.Schedule.{is_of, is_mark}
 use Rattle.tk_order.specs.Legality.{number_of, seat_of, of}
 use Rattle.tk_report.specs.Entries.{placed_from}
 use Rattle.tk_report.specs.Histories.{item_in, items_in}
-use Rattle.tk_run.specs.declared.slip.Slip.{Slip}
+use Rattle.tk_run.specs.declared.pinned_write.PinnedWrite.{PinnedWrite}
 use Rattle.tk_run.specs.Ran.{placed_clients}
-use Rattle.tk_run.proofs.EntryLists.{of_here, of_other, Ranged, length_of}
-use Rattle.tk_run.proofs.EntryLists.{one_at, one_there, ranged_at}
+use Rattle.tk_run.proofs.EntryLists.{of_here, of_other, Ranged, length_of, one_at, one_there, ranged_at}
 
 -- ---- each write is its client's
 
@@ -135,7 +132,7 @@ items_at (p ∷ E) zero q d low = refl
 items_at (p ∷ E) (suc i) q d low = items_at E i q d (omega (arith, low))
 
 -- the one entry of each client, from client c on, stands where its slip says
-abbrev pub AtPlaces : (ℕ → WriteFrame) → List Placed → ℕ → List Slip → Type 0
+abbrev pub AtPlaces : (ℕ → WriteFrame) → List Placed → ℕ → List PinnedWrite → Type 0
 AtPlaces write E c [] = Unit {0}
 AtPlaces write E c (d ∷ ds) =
     (of (c + 1) E ≡ record { position = d.position; entry = Write (write c) } ∷ [])
@@ -157,7 +154,7 @@ module _ (shape : Shape) (write : ℕ → WriteFrame) (own : (c : ℕ) → (writ
     (start due : ℕ) (E : List Placed) (order : IsOrderFrom shape (start + 1) due E)
     (ranged : Ranged shape.clients E) where
   -- the entry of a client in its place
-  here_done : (c : ℕ) (d : Slip) (q : Placed) →
+  here_done : (c : ℕ) (d : PinnedWrite) (q : Placed) →
       of (c + 1) E ≡ record { position = d.position; entry = Write (write c) } ∷ [] →
       (d.position - start - 1 < length E)
       × (get_or E (d.position - start - 1) q
@@ -175,7 +172,7 @@ module _ (shape : Shape) (write : ℕ → WriteFrame) (own : (c : ℕ) → (writ
         subst (λ j. get_or E j q ≡ x) place found.2,
       )
 
-  pub place_within : (c : ℕ) (d : Slip) →
+  pub place_within : (c : ℕ) (d : PinnedWrite) →
       of (c + 1) E ≡ record { position = d.position; entry = Write (write c) } ∷ [] →
       (k : ℕ) × (k < length E) × (d.position ≡ start + 1 + k)
   place_within c d one =
@@ -187,7 +184,7 @@ module _ (shape : Shape) (write : ℕ → WriteFrame) (own : (c : ℕ) → (writ
       (found.0, found.1, ap (λ (p : Placed). p.position) (sym found.2) ∙ at)
 
   -- an entry of a client stands in its place
-  place_of : (c : ℕ) (d : Slip) (i : ℕ) (q : Placed) →
+  place_of : (c : ℕ) (d : PinnedWrite) (i : ℕ) (q : Placed) →
       of (c + 1) E ≡ record { position = d.position; entry = Write (write c) } ∷ [] →
       i < length E → seat_of (get_or E i q) ≡ c + 1 → i ≡ d.position - start - 1
   place_of c d i q one low seat =
@@ -199,7 +196,7 @@ module _ (shape : Shape) (write : ℕ → WriteFrame) (own : (c : ℕ) → (writ
       let position : d.position ≡ start + 1 + i = ap (λ (p : Placed). p.position) (sym is) ∙ at in
       omega (arith, position)
 
-  done_next : (c : ℕ) (d : Slip) (items : List Item) → length items ≡ length E →
+  done_next : (c : ℕ) (d : PinnedWrite) (items : List Item) → length items ≡ length E →
       of (c + 1) E ≡ record { position = d.position; entry = Write (write c) } ∷ [] →
       AreDone c items E →
       AreDone (c + 1) (slice_set items (d.position - start - 1) (Client c)) E
@@ -228,7 +225,7 @@ module _ (shape : Shape) (write : ℕ → WriteFrame) (own : (c : ℕ) → (writ
             (λ other. inr (omega (arith, later, other)))
       ])
 
-  all_done : (c : ℕ) (ds : List Slip) (items : List Item) (blank : Placed) →
+  all_done : (c : ℕ) (ds : List PinnedWrite) (items : List Item) (blank : Placed) →
       length items ≡ length E → c + length ds ≡ shape.clients → AtPlaces write E c ds →
       AreDone c items E → placed_clients start c ds items ≡ items_in E
   all_done c [] items blank len all places done =
@@ -246,7 +243,7 @@ module _ (shape : Shape) (write : ℕ → WriteFrame) (own : (c : ℕ) → (writ
       (done_next c d items len places.0 done)
 
   -- the order that is made of the places of the clients' writes has the items of the entries
-  pub order_built : (ds : List Slip) (n : ℕ) → n ≡ length E → length ds ≡ shape.clients →
+  pub order_built : (ds : List PinnedWrite) (n : ℕ) → n ≡ length E → length ds ≡ shape.clients →
       AtPlaces write E 0 ds → placed_clients start 0 ds (replicate n Publish) ≡ items_in E
   order_built ds n long all places =
       let blank : Placed = record { position = 0; entry = Mark 0 } in

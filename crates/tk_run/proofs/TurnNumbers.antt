@@ -1,8 +1,7 @@
 -- Numbers of turns, and lists of turns with one more after.
-use Rattle.std.proofs.Common.{◌≡◌, ℕ, zero, suc, ◌+◌, ◌*◌, ◌/◌, ◌%◌, ◌<◌, ◌⊎◌, inl, inr}
-use Rattle.std.proofs.Common.{Bool, cond, List, [], ◌∷◌, ◌++◌, length}
-use Rattle.std.proofs.Common.{refl, ap, sym, ◌∙◌, arith, add-one, suc-mul, ne_eqb, length-append}
-use Rattle.std.proofs.Common.{append-nil}
+use Rattle.std.proofs.Common.{◌≡◌, ℕ, zero, suc, ◌+◌, ◌*◌, ◌/◌, ◌%◌, ◌<◌, ◌≤◌, ◌⊎◌, inl, inr, Bool, true, false, cond}
+use Rattle.std.proofs.Common.{List, [], ◌∷◌, ◌++◌, length, refl, ap, sym, ◌∙◌, arith, add-one, suc-mul, ne_eqb}
+use Rattle.std.proofs.Common.{length-append, append-nil}
 use Rattle.std.specs.Prelude.{slice_index, slice_index_or, ◌==◌}
 use Rattle.std.proofs.lemmas.Nat.{div-add-mod', div-mul-add, mod-mul-add}
 use Rattle.std.proofs.Math.Nat.{mod-lt, zero-mul}
@@ -10,7 +9,7 @@ use Rattle.tk_shape.specs.declared.shape.Shape.{Shape}
 use Rattle.tk_frames.specs.declared.write_frame.WriteFrame.{WriteFrame}
 use Rattle.tk_frames.specs.declared.entry.Placed.{Placed}
 use Rattle.tk_schedule.specs.declared.history.TurnOrder.{TurnOrder}
-use Rattle.tk_schedule.specs.Schedule.{blank_turn, IsTurn, phases_over, marks_due, order_at}
+use Rattle.tk_schedule.specs.Schedule.{blank_turn, IsTurn, is_closing, phases_over, marks_due, order_at}
 use Rattle.tk_report.specs.Entries.{placed_after, entries_before}
 use Rattle.tk_report.specs.Agreement.{SameOrders}
 use Rattle.tk_report.proofs.Offers.{fronts-agree, entries-agree, length-placed_from}
@@ -18,8 +17,14 @@ use Rattle.tk_run.specs.Ran.{epochs_in}
 
 -- ---- numbers
 
-abbrev one_if : Bool → ℕ
+abbrev pub one_if : Bool → ℕ
 one_if b = cond b 1 0
+
+one_most : (b : Bool) → one_if b ≤ 1
+one_most b = elim b as (λ x. one_if x ≤ 1) [ true ↦ omega arith | false ↦ omega arith ]
+
+pub marks_most : (shape : Shape) (g : ℕ) → marks_due shape g ≤ 1
+marks_most shape g = one_most (is_closing shape g)
 
 one_more : (q n : ℕ) → (q + 1) * n ≡ q * n + n
 one_more q n = omega (arith, suc-mul q n, ap (λ k. k * n) (add-one q))

@@ -12,7 +12,7 @@ use Rattle.tk_cluster.specs.Sets.{Shows}
 use Rattle.tk_cluster.specs.Passes.{Passing, own, WroteBytes, Pins, Reads}
 use Rattle.tk_cluster.specs.Tellings.{Telling, told_of, Published}
 use Rattle.tk_cluster.specs.Clusters.{Met}
-use Rattle.tk_run.specs.declared.slip.Slip.{Slip}
+use Rattle.tk_run.specs.declared.pinned_write.PinnedWrite.{PinnedWrite}
 use Rattle.tk_run.specs.declared.acting.Desk.{Desk}
 use Rattle.tk_run.specs.Ran.{AllLearn, set_on}
 use Rattle.tk_run.specs.Ticks.{Done}
@@ -27,7 +27,7 @@ pub record IsReady (shape : Shape) (most : ℕ) (a : Passing) : Type 0 where
 pub record WroteAndPinned (shape : Shape) (most : ℕ) (a : Passing) (d e : Desk) (b : Passing)
     : Type 0 where
   pub frame : e.frame.items ≡ d.frame.items
-  pub slip : Slip
+  pub slip : PinnedWrite
   pub lies : e.slip ≡ Some slip
   pub mid : Passing
   pub wrote : WroteBytes shape d.frame.items a mid
@@ -65,5 +65,5 @@ pub record AreFrames (shape : Shape) (write : ℕ → WriteFrame) (frames : List
 abbrev pub frames_on : List Desk → List (List ℕ)
 frames_on desks = map (λ (d : Desk). d.frame.items) desks
 
-abbrev pub slips_on : List Desk → List (Option Slip)
+abbrev pub slips_on : List Desk → List (Option PinnedWrite)
 slips_on desks = map (λ (d : Desk). d.slip) desks

@@ -21,8 +21,8 @@ use Rattle.tk_report.specs.Queues.{said_before}
 use Rattle.tk_cluster.specs.Sets.{Stands}
 use Rattle.tk_cluster.specs.Passes.{Passing}
 use Rattle.tk_cluster.specs.Tellings.{Telling}
-use Rattle.tk_report.specs.declared.group.Group.{Group}
-use Rattle.tk_run.specs.declared.slip.Slip.{Slip}
+use Rattle.tk_run.specs.declared.group.Group.{Group}
+use Rattle.tk_run.specs.declared.pinned_write.PinnedWrite.{PinnedWrite}
 use Rattle.tk_run.specs.declared.talking.Talk.{Talk}
 use Rattle.tk_run.specs.Clients.{AreClients, client_before, client_wrote, client_asked}
 use Rattle.tk_run.specs.Turns.{placed_before, reply_at, turn_seen}
@@ -35,21 +35,21 @@ abbrev pub entries_behind : Shape → ℕ → ℕ
 entries_behind shape g = g * shape.clients + phases_over shape g
 
 -- the write of a slip stands among the entries of turn g
-pub record IsInTurn (shape : Shape) (g : ℕ) (d : Slip) : Type 0 where
+pub record IsInTurn (shape : Shape) (g : ℕ) (d : PinnedWrite) : Type 0 where
   pub behind : entries_behind shape g < d.position
   pub within : d.position ≤ entries_behind shape g + shape.clients + marks_due shape g
 
 -- the sets stand for the entries before the marks of the epochs that the clients read in turn g
-pub record AreSets (S : Script) (b : WordBook) (H : History) (g : ℕ) (slips : List Slip)
+pub record AreSets (S : Script) (b : WordBook) (H : History) (g : ℕ) (slips : List PinnedWrite)
     : Type 0 where
   pub counted : length slips ≡ S.shape.clients
-  pub each : (c : ℕ) (d : Slip) → c < length slips →
+  pub each : (c : ℕ) (d : PinnedWrite) → c < length slips →
       Stands S.shape (placed_before S (words_of S.shape b) H (g + 1)) (epoch_at H g c)
       (set_on (slice_index_or slips c d))
 
 -- clients that have written in turn g of a legal history, and the sets that they read from
 pub record MayRead (S : Script) (b : WordBook) (H : History) (g : ℕ) (clients : List ClientState)
-    (slips : List Slip) : Type 0 where
+    (slips : List PinnedWrite) : Type 0 where
   pub legal : IsLegal S.shape H
   pub turn_in : g < turn_count S.shape
   pub wrote : AreClients S.shape.clients (client_wrote S (words_of S.shape b) H g) clients
@@ -76,7 +76,7 @@ pub record IsTalk (S : Script) (b : WordBook) (H : History) (g c : ℕ) (talk : 
       ≡ map (λ j. reply_frame (reply_at S b H g j c)) (range_with_len 1 S.shape.servers)
 
 -- a read of a turn that is yet to be asked, from the set on a slip
-pub record IsBlank (turn : ℕ) (d : Slip) (talk : Talk) : Type 0 where
+pub record IsBlank (turn : ℕ) (d : PinnedWrite) (talk : Talk) : Type 0 where
   pub turn_is : talk.turn ≡ turn
   pub set : arc_value talk.set ≡ set_on d
   pub none_asked : talk.asked.items ≡ []
@@ -106,7 +106,7 @@ pub record AreTalks (S : Script) (b : WordBook) (H : History) (g : ℕ) (talks :
   pub each : (c : ℕ) (d : Talk) → c < length talks → IsTalk S b H g c (slice_index_or talks c d)
 
 -- reads of a turn that are yet to be asked, from the sets on these slips
-abbrev pub AreBlank : ℕ → List Slip → List Talk → Type 0
+abbrev pub AreBlank : ℕ → List PinnedWrite → List Talk → Type 0
 AreBlank turn [] [] = Unit {0}
 AreBlank turn (d ∷ ds) (t ∷ ts) = IsBlank turn d t × AreBlank turn ds ts
 AreBlank turn _ _ = ⊥
@@ -150,7 +150,7 @@ pub record IsCourse (S : Script) (b : WordBook) (g : ℕ) (turns : List TurnOrde
 -- The same in turn g when all have written and pinned. Every server sees these bytes of the
 -- entries.
 pub record HasWritten (S : Script) (b : WordBook) (g : ℕ) (turns : List TurnOrder) (group : Group)
-    (passes : List Passing) (p : Telling) (slips : List Slip) (bytes : List ℕ) : Type 0 where
+    (passes : List Passing) (p : Telling) (slips : List PinnedWrite) (bytes : List ℕ) : Type 0 where
   pub counted : length turns ≡ g + 1
   pub said : group.said ≡ said_before S (g + 1)
   pub ran : Ran S.shape (write_at S (words_of S.shape b)) turns passes p

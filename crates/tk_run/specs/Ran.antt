@@ -12,7 +12,7 @@ use Rattle.tk_schedule.specs.declared.history.TurnOrder.{TurnOrder}
 use Rattle.tk_schedule.specs.Schedule.{blank_turn, IsTurn, is_closing}
 use Rattle.tk_schedule.specs.Schedule.{phases_over, marks_due}
 use Rattle.tk_report.specs.Entries.{entries_before}
-use Rattle.tk_run.specs.declared.slip.Slip.{Slip}
+use Rattle.tk_run.specs.declared.pinned_write.PinnedWrite.{PinnedWrite}
 use Rattle.tk_cluster.specs.declared.set.EpochSet.{EpochSet}
 use Rattle.tk_cluster.specs.Sets.{Shows}
 use Rattle.tk_cluster.specs.Passes.{Passing, own, Wrote, Pins, Learns, Reads}
@@ -22,11 +22,11 @@ use Rattle.tk_cluster.specs.Clusters.{Each, Met}
 -- ---- one turn
 
 -- the set that lies on a slip
-abbrev pub set_on : Slip → EpochSet
+abbrev pub set_on : PinnedWrite → EpochSet
 set_on d = arc_value d.set
 
 -- a client's pass ordered its write, and then pinned a set of at most this number
-pub record ActsOn (write : ℕ → WriteFrame) (most : ℕ) (a : Passing) (d : Slip) (b : Passing)
+pub record ActsOn (write : ℕ → WriteFrame) (most : ℕ) (a : Passing) (d : PinnedWrite) (b : Passing)
     : Type 0 where
   pub mid : Passing
   pub wrote : Wrote a (write a.client) mid
@@ -46,7 +46,7 @@ AllLearn told xs ys = Each (Reads (λ r s. Learns r (told_of told) s)) xs ys
 -- Turn g: each client writes and pins, and the publisher publishes where the turn closes a phase.
 -- Then each pass learns of it, and then all meet.
 pub record Turned (shape : Shape) (write : ℕ → WriteFrame) (g : ℕ) (xs : List Passing)
-    (p : Telling) (ds : List Slip) (zs : List Passing) (q : Telling) : Type 0 where
+    (p : Telling) (ds : List PinnedWrite) (zs : List Passing) (q : Telling) : Type 0 where
   pub acted : List Passing
   pub told : Telling
   pub learned : List Passing
@@ -59,17 +59,17 @@ pub record Turned (shape : Shape) (write : ℕ → WriteFrame) (g : ℕ) (xs : L
 -- ---- the turn that came about
 
 -- items with each client, from client c on, at the place of its write
-abbrev pub placed_clients : ℕ → ℕ → List Slip → List Item → List Item
+abbrev pub placed_clients : ℕ → ℕ → List PinnedWrite → List Item → List Item
 placed_clients start c [] items = items
 placed_clients start c (d ∷ ds) items =
     placed_clients start (c + 1) ds (slice_set items (d.position - start - 1) (Client c))
 
 -- turn g, before which there were `start` entries: what isn't a client's place is the mark's
-abbrev pub turn_of : Shape → ℕ → ℕ → List Slip → TurnOrder
+abbrev pub turn_of : Shape → ℕ → ℕ → List PinnedWrite → TurnOrder
 turn_of shape g start ds =
     record {
       order = placed_clients start 0 ds (replicate (shape.clients + marks_due shape g) Publish);
-      epochs = map (λ (d : Slip). (set_on d).number) ds;
+      epochs = map (λ (d : PinnedWrite). (set_on d).number) ds;
     }
 
 -- ---- after some turns

@@ -7,10 +7,10 @@ Frame = List ℕ
 abbrev pub no_frames : ℕ → List Frame
 no_frames i = []
 
--- so many lists of frames, each as it is told for its place
-pub record AreRows (count : ℕ) (row : ℕ → List Frame) (rows : List (List Frame)) : Type 0 where
+-- so many of a list, each as it is told for its place
+pub record AreRows {X : Type 0} (count : ℕ) (row : ℕ → X) (rows : List X) : Type 0 where
   pub counted : length rows ≡ count
-  pub each : (i : ℕ) (d : List Frame) → i < length rows → slice_index_or rows i d ≡ row i
+  pub each : (i : ℕ) (d : X) → i < length rows → slice_index_or rows i d ≡ row i
 
 -- each list got the frame of its place after its own
 pub record AreAdded (old : List (List Frame)) (frames : List Frame) (new : List (List Frame))

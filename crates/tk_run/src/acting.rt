@@ -6,7 +6,7 @@ ghost use Rattle.tk_cluster.specs.Passes.{Learns, Reads};
 ghost use Rattle.tk_run.specs.Acting.{IsReady, Acted};
 ghost use Rattle.tk_run.specs.Ticks.{AllBy};
 
-use crate::slip::Slip;
+use crate::pinned_write::PinnedWrite;
 use crate::ticks::{Actor, Clerk, serve_with};
 use std::alloc::AllocGlobal;
 use std::sync::Wait;
@@ -39,7 +39,7 @@ pub(crate) struct Cue<'a, B: Naming, G: Gate> {
 pub(crate) struct Desk {
     pub client: u32,
     pub frame: Vec<u8>,
-    pub slip: Option<Slip>,
+    pub slip: Option<PinnedWrite>,
 }
 
 /// The publisher, with what it told in this turn.
@@ -72,7 +72,7 @@ impl<'a, B: Naming + Send + Sync, G: Gate> Clerk<Cue<'a, B, G>, Desk> for Pass<B
             return false;
         };
         cue.gate.at(rt, desk.client, 2 * cue.turn + 1);
-        desk.slip = Some(Slip { position, set });
+        desk.slip = Some(PinnedWrite { position, set });
         true
     }
 }

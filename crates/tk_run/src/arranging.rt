@@ -5,7 +5,7 @@ ghost use Rattle.tk_schedule.specs.Schedule.{marks_due};
 ghost use Rattle.tk_run.specs.Ran.{turn_of, placed_clients, set_on};
 ghost use Rattle.tk_run.specs.Courses.{entries_behind, IsInTurn};
 
-use crate::slip::Slip;
+use crate::pinned_write::PinnedWrite;
 use std::alloc::Global;
 use tk_schedule::{Item, Items, TurnOrder, closes};
 use tk_shape::{Memory, Shape, Words};
@@ -23,7 +23,7 @@ pub(crate) fn turn_from(
     alloc: Global,
     shape: &Shape,
     turn: u32,
-    slips: &[Slip],
+    slips: &[PinnedWrite],
 ) -> Result<TurnOrder, Memory>
     requires turn_in { turn < turn_count shape.now }
     requires counted { length slips.now ≡ shape.now.clients }
@@ -38,7 +38,12 @@ pub(crate) fn turn_from(
 }
 
 /// The order of a turn's entries. Where no client's write stands, the mark does.
-fn order_from(alloc: Global, shape: &Shape, turn: u32, slips: &[Slip]) -> Result<Vec<Item>, Memory>
+fn order_from(
+    alloc: Global,
+    shape: &Shape,
+    turn: u32,
+    slips: &[PinnedWrite],
+) -> Result<Vec<Item>, Memory>
     requires turn_in { turn < turn_count shape.now }
     requires counted { length slips.now ≡ shape.now.clients }
     requires within { All (IsInTurn shape.now turn) slips.now }
@@ -57,7 +62,7 @@ fn order_from(alloc: Global, shape: &Shape, turn: u32, slips: &[Slip]) -> Result
 }
 
 /// The epochs that the clients read.
-fn epochs_from(alloc: Global, slips: &[Slip]) -> Result<Words, Memory>
+fn epochs_from(alloc: Global, slips: &[PinnedWrite]) -> Result<Words, Memory>
     ensures { IfOk result (λ w. w ≡ map (λ d. (set_on d).number) slips.now) }
 {
     let mut epochs = Vec::new(alloc);

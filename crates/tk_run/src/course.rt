@@ -13,10 +13,11 @@ ghost use Rattle.tk_report.specs.Entries.{write_at};
 use crate::acting::{Cue, Desk, Herald, act};
 use crate::arranging::turn_from;
 use crate::desks::{cleared, desks_for};
+use crate::group::Group;
+use crate::pinned_write::PinnedWrite;
 use crate::run_error::RunError;
-use crate::sights::{entries_from, give_sights, sights_from};
-use crate::slip::Slip;
 use crate::talking::{Round, talk_all};
+use crate::tap_bytes::{entries_from, give_sights, sights_from};
 use std::alloc::AllocGlobal;
 use std::sync::Wait;
 use std::thread::Threads;
@@ -174,7 +175,7 @@ fn write_turn<
     stage: &Stage<'a, B, D, G>,
     turn: u32,
     course: &mut Course<B>,
-) -> Result<(Vec<Slip>, Vec<u8>), Memory>
+) -> Result<(Vec<PinnedWrite>, Vec<u8>), Memory>
     requires turn_in { turn < turn_count stage.now.script.now.shape }
     requires course { IsCourse stage.now.script.now (D.book stage.now.draws.now) turn
         course.old.turns.items course.old.group course.old.passes.items

@@ -11,7 +11,7 @@ ghost use Rattle.tk_cluster.specs.Refusals.{SpellsWrite};
 ghost use Rattle.tk_run.specs.Acting.{AreFrames, frames_on, slips_on};
 
 use crate::acting::Desk;
-use crate::slip::Slip;
+use crate::pinned_write::PinnedWrite;
 use std::alloc::Global;
 use tk_client::Client;
 use tk_script::Script;
@@ -72,7 +72,10 @@ fn desk_for<D: Draws>(
 }
 
 /// The frames that lie on desks, and what each client has from the turn.
-pub(crate) fn cleared(alloc: Global, desks: Vec<Desk>) -> Result<(Vec<Bytes>, Vec<Slip>), Memory>
+pub(crate) fn cleared(
+    alloc: Global,
+    desks: Vec<Desk>,
+) -> Result<(Vec<Bytes>, Vec<PinnedWrite>), Memory>
     ensures frames { IfOk result (λ r. r.0.items ≡ frames_on desks.items) }
     ensures slips { IfOk result (λ r. slips_on desks.items ≡ map Some r.1.items) }
 {

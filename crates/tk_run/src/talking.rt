@@ -10,8 +10,8 @@ ghost use Rattle.tk_run.specs.Reading.{readers, talks_of};
 ghost use Rattle.tk_run.specs.Answering.{epoch_of};
 
 use crate::answering::answer_all;
-use crate::posing::ask_all;
-use crate::slip::Slip;
+use crate::ask_threads::ask_all;
+use crate::pinned_write::PinnedWrite;
 use crate::taking::take_all;
 use std::alloc::{AllocGlobal, Global};
 use std::mem;
@@ -58,7 +58,7 @@ pub(crate) fn talk_all<'a, D: Draws, R: Threads + Sync + AllocGlobal>(
     rt: &R,
     round: &Round<'a, D>,
     clients: &mut Vec<Client>,
-    slips: Vec<Slip>,
+    slips: Vec<PinnedWrite>,
 ) -> Result<Vec<Talk>, Memory>
     requires { (S : Script) × (H : History) × (S.shape ≡ D.shape round.now.draws.now)
         × MayRead S (D.book round.now.draws.now) H round.now.turn clients.old.items slips.items }
@@ -89,7 +89,7 @@ fn paired(
     alloc: Global,
     turn: u32,
     clients: Vec<Client>,
-    slips: &[Slip],
+    slips: &[PinnedWrite],
 ) -> Result<Vec<Reading>, Memory>
     requires { length slips.now ≡ length clients.items }
     ensures clients { IfOk result (λ v. readers v.items ≡ clients.items) }

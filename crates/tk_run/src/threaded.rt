@@ -6,7 +6,6 @@ use crate::acting::Herald;
 use crate::course::{Course, Stage, run_turns};
 use crate::leaving::outcome_of;
 use crate::run_error::RunError;
-use crate::telling::history_of;
 use std::alloc::AllocGlobal;
 use std::marker::Brand;
 use std::sync::Wait;
@@ -14,7 +13,8 @@ use std::thread::Threads;
 use tk_cluster::{Closed, Cluster};
 use tk_io::{Gate, Taps};
 use tk_order::{Blank, Naming};
-use tk_report::{Group, Outcome};
+use tk_report::Outcome;
+use tk_schedule::History;
 use tk_script::Script;
 use tk_words::Draws;
 
@@ -117,7 +117,7 @@ fn run_over<
         return Err(error);
     }
     let closed = cluster.close(rt, passes, publisher)?;
-    let history = history_of(rt.alloc(), &scene.script.shape, turns)?;
+    let history = History::from_turns(turns);
     let Group { said: _, clients } = group;
     let outcome = outcome_of(rt.alloc(), scene.script, scene.draws, history, clients)?;
     Ok((outcome, closed))

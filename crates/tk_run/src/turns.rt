@@ -9,11 +9,11 @@ ghost use Rattle.tk_run.specs.Clients.{AreClients, client_before};
 ghost use Rattle.tk_run.specs.Servers.{nothing_seen};
 ghost use Rattle.tk_run.specs.Turns.{IsRunBefore, turn_seen};
 
-use crate::reading::read_turn;
 use crate::run::Run;
 use crate::run_error::RunError;
 use crate::servers::open_servers;
 use crate::tapping::give_all;
+use crate::turn_reads::read_turn;
 use std::alloc::Global;
 use tk_client::Client;
 use tk_io::Taps;

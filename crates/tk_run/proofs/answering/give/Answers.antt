@@ -10,9 +10,7 @@ pub giving-preserved : goal.giving-preserved
 giving-preserved c =
     let left = c.pop.new.self in
     let place : length left.items ≡ c.len.result = omega (arith, c.len.ensures, left.ok.0) in
-    given-next c.giving.replies.items left.items c.in-Some.reply c.args.readings.now
-    c.args.replies.items c.giving.readings c.len.result c.index-readings-len.result _ c.requires
-    c.in-Some.ensures.items place
+    given-next c.len.result c.index-readings-len.result _ c.requires c.in-Some.ensures.items place
     (record {
       client = refl;
       turn = refl;
@@ -26,5 +24,4 @@ pub returns : goal.returns
 returns c =
     let left = c.giving.replies in
     let none : length left.items ≡ 0 = omega (arith, c.in_default.ensures.cases.0, left.ok.0) in
-    given-all left.items c.args.readings.now c.args.replies.items c.giving.readings none c.requires
-    c.giving.invariant
+    given-all none c.requires c.giving.invariant

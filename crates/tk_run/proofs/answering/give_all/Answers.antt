@@ -1,11 +1,11 @@
 -- The replies of one server more are given.
-use Rattle.std.proofs.Common.{◌≡◌, ◌∷◌, [], ◌++◌, ◌+◌, List, length, ap, sym, ◌∙◌, subst, arith}
-use Rattle.std.proofs.Common.{append_assoc, length-append, refl}
+use Rattle.std.proofs.Common.{◌≡◌, ◌∷◌, [], ◌++◌, ◌+◌, List, length, ap, sym, ◌∙◌, subst, arith, append_assoc}
+use Rattle.std.proofs.Common.{length-append, refl}
 use Rattle.std.specs.Vec.Iter.{into_iter_items}
 use Rattle.tk_run.specs.Reading.{EachAt}
 use Rattle.tk_run.specs.Answering.{AllStand, Replies}
-use Rattle.tk_run.proofs.AnsweredLaws.{IsReplied, replied-none, replied-next, replied-all}
-use Rattle.tk_run.proofs.AnsweredLaws.{replies-counted, server-inside, server-replied}
+use Rattle.tk_run.proofs.AnsweredLaws.{IsReplied, replied-none, replied-next, replied-all, replies-counted}
+use Rattle.tk_run.proofs.AnsweredLaws.{server-inside, server-replied}
 use Rattle.tk_run.proofs.answering.give_all.Goals as goal
 
 pub servers-init : goal.servers-init

@@ -2,8 +2,6 @@
 use Rattle.std.proofs.Common.{◌≡◌, ◌+◌, ◌≤◌, arith, sym, subst, List, All, length}
 use Rattle.tk_shape.specs.declared.shape.Shape.{Shape}
 use Rattle.tk_schedule.specs.Schedule.{phases_over}
-use Rattle.tk_words.specs.Words.{words_of}
-use Rattle.tk_report.specs.Entries.{write_at}
 use Rattle.tk_cluster.specs.Passes.{Passing}
 use Rattle.tk_run.specs.Acting.{IsReady}
 use Rattle.tk_run.proofs.RanEnds.{ran_ready, ran_on}
@@ -13,13 +11,10 @@ use Rattle.tk_run.proofs.course.act_in.Goals as goal
 pub act-requires-clause-ready : goal.act-requires-clause-ready
 act-requires-clause-ready g c κs within =
     let S = c.args.stage.now.script.now in
-    let write = write_at S (words_of S.shape (g.D.Draws.book c.args.stage.now.draws.now)) in
     let course = c.args.course.now in
     let passes = course.passes.items in
     let most = phases_over S.shape (c.args.turn + 1) in
-    let all = ran_ready S.shape write course.turns.items passes course.herald.publisher
-    c.requires.ran (omega (arith, c.requires.turns, c.requires.turn_in))
-    in
+    let all = ran_ready c.requires.ran (omega (arith, c.requires.turns, c.requires.turn_in)) in
     let now : All (IsReady S.shape most) passes =
     subst (λ n. All (IsReady S.shape (phases_over S.shape (n + 1))) passes) c.requires.turns all
     in
@@ -33,12 +28,11 @@ act-requires-clause-ready g c κs within =
 pub act-requires-clause-on : goal.act-requires-clause-on
 act-requires-clause-on g c κs within =
     let S = c.args.stage.now.script.now in
-    let write = write_at S (words_of S.shape (g.D.Draws.book c.args.stage.now.draws.now)) in
     let course = c.args.course.now in
     let p = course.herald.publisher in
     subst (λ (xs : List Passing). All (λ (a : Passing). a.reads.board ≡ p.board) xs)
     (sym c.as_mut_slice.ensures.value)
-    (ran_on S.shape write course.turns.items course.passes.items p c.requires.ran)
+    (ran_on c.requires.ran)
 
 pub act-requires-clause-room : goal.act-requires-clause-room
 act-requires-clause-room g c κs within =
@@ -46,5 +40,4 @@ act-requires-clause-room g c κs within =
     let course = c.args.course.now in
     let p = course.herald.publisher in
     subst (λ (shape : Shape). length p.shown ≤ shape.phases) (sym c.args.stage.now.same)
-    (ran_room S (g.D.Draws.book c.args.stage.now.draws.now) course.turns.items
-    course.passes.items p c.requires.ran (omega (arith, c.requires.turns, c.requires.turn_in)))
+    (ran_room c.requires.ran (omega (arith, c.requires.turns, c.requires.turn_in)))

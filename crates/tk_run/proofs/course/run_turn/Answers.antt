@@ -22,8 +22,7 @@ returns-in_err-sights-clause-taps g c =
     let H = filled S.shape old.turns.items in
     turn_stopped S book _ c.from_residual.result c.from_residual.ensures.1 (tap c.args.taps.now)
     (tap c.args.taps.now) c.args.turn old.turns.items c.play_turn.new.course.turns.items H
-    (course_goes S book c.args.turn old.turns.items old.group old.passes.items
-    old.herald.publisher c.requires.course c.requires.turn_in)
+    (course_goes c.requires.course c.requires.turn_in)
     (fronts-none S.shape.servers (turn_seen S book H c.args.turn) (tap c.args.taps.now))
     (λ j out. refl)
 
@@ -35,20 +34,15 @@ returns-in_err-give_sights-clause-taps g c =
     let played = c.in_ok-sights.ensures in
     let now = c.play_turn.new.course in
     let H = filled S.shape now.turns.items in
-    let goes = some_goes_on S.shape (write_at S (words_of S.shape book)) now.turns.items
-    now.passes.items now.herald.publisher played.course.ran
-    (omega (arith, played.course.counted, c.requires.turn_in))
-    in
+    let goes = some_goes_on played.course.ran (omega (arith, played.course.counted, c.requires.turn_in)) in
     let are = subst (AreSights S book H c.args.turn) (sym c.as_slice.ensures.value) (played.sights H goes) in
     let gave = c.in_err-give_sights.ensures.taps in
     turn_stopped S book _ c.from_residual-in_err-give_sights.result
     c.from_residual-in_err-give_sights.ensures.1 (tap c.args.taps.now) (tap c.give_sights.new.taps)
     c.args.turn c.args.course.now.turns.items now.turns.items H
-    (goes_on_before S.shape c.args.course.now.turns.items now.turns.items H played.behind goes)
-    (sights_fronts S book H c.args.turn c.as_slice.result.now are (tap c.args.taps.now)
-    (tap c.give_sights.new.taps) gave.err)
-    (sights_keep S book H c.args.turn c.as_slice.result.now are (tap c.args.taps.now)
-    (tap c.give_sights.new.taps) gave.others)
+    (goes_on_before c.args.course.now.turns.items played.behind goes)
+    (sights_fronts are (tap c.args.taps.now) (tap c.give_sights.new.taps) gave.err)
+    (sights_keep are (tap c.args.taps.now) (tap c.give_sights.new.taps) gave.others)
 
 pub returns-clause-taps : goal.returns-clause-taps
 returns-clause-taps g c =
@@ -57,20 +51,15 @@ returns-clause-taps g c =
     let tap = g.T.Taps.tap in
     let played = c.in_ok-sights.ensures in
     let now = c.play_turn.new.course in
-    let goes = some_goes_on S.shape (write_at S (words_of S.shape book)) now.turns.items
-    now.passes.items now.herald.publisher played.course.ran
-    (omega (arith, played.course.counted, c.requires.turn_in))
-    in
+    let goes = some_goes_on played.course.ran (omega (arith, played.course.counted, c.requires.turn_in)) in
     let are = λ (H : History) (goes : GoesOn S.shape now.turns.items H).
     subst (AreSights S book H c.args.turn) (sym c.as_slice.ensures.value) (played.sights H goes)
     in
     let gave = c.in_ok-give_sights.ensures.taps in
     record {
-      ok = λ H goes. sights_gain S book H c.args.turn c.as_slice.result.now (are H goes)
-          (tap c.args.taps.now) (tap c.give_sights.new.taps) gave.ok;
+      ok = λ H goes. sights_gain (are H goes) (tap c.args.taps.now) (tap c.give_sights.new.taps) gave.ok;
       err = tt;
-      others = sights_keep S book (filled S.shape now.turns.items) c.args.turn
-          c.as_slice.result.now (are (filled S.shape now.turns.items) goes) (tap c.args.taps.now)
+      others = sights_keep (are (filled S.shape now.turns.items) goes) (tap c.args.taps.now)
           (tap c.give_sights.new.taps) gave.others;
     }
 
@@ -80,9 +69,6 @@ give_sights-requires g c =
     let played = c.in_ok-sights.ensures in
     let now = c.play_turn.new.course in
     let book = g.D.Draws.book c.args.stage.now.draws.now in
-    let goes = some_goes_on S.shape (write_at S (words_of S.shape book)) now.turns.items
-    now.passes.items now.herald.publisher played.course.ran
-    (omega (arith, played.course.counted, c.requires.turn_in))
-    in
+    let goes = some_goes_on played.course.ran (omega (arith, played.course.counted, c.requires.turn_in)) in
     let are = played.sights (filled S.shape now.turns.items) goes in
     omega (arith, ap length c.as_slice.ensures.value, are.counted, S.shape.in_range.servers_high)

@@ -1,9 +1,9 @@
 -- Turn after turn the taps gain what the servers see of the history that comes about.
-use Rattle.std.proofs.Common.{◌≡◌, arith, refl, subst, le_trans}
+use Rattle.std.proofs.Common.{◌≡◌, ◌∙◌, arith, refl, subst, le_trans}
 use Rattle.tk_shape.specs.Lengths.{turn_count}
 use Rattle.tk_run.specs.Courses.{IsCourse}
 use Rattle.tk_run.proofs.Stopping.{run_stopped}
-use Rattle.tk_run.proofs.TapTurns.{gained_first, gained_next, gained_all, gained_fronts, keep_twice}
+use Rattle.tk_run.proofs.TapTurns.{gained_first, gained_next, gained_all, gained_fronts}
 use Rattle.tk_run.proofs.course.run_turns.Goals as goal
 
 pub turns-init : goal.turns-init
@@ -19,18 +19,12 @@ turns-init g c =
 
 pub turns-preserved : goal.turns-preserved
 turns-preserved g c =
-    let S = c.args.stage.now.script.now in
-    let book = g.D.Draws.book c.args.stage.now.draws.now in
-    let tap = g.T.Taps.tap in
     let is = c.turns.invariant in
     let ran = c.in_ok-run_turn.ensures in
     record {
       course = ran.course;
-      taps = gained_next S book c.turns.turn c.turns.course.turns.items
-          c.run_turn.new.course.turns.items (tap c.args.taps.now) (tap c.turns.taps)
-          (tap c.run_turn.new.taps) ran.behind is.taps ran.taps.ok;
-      others = keep_twice S.shape.servers (tap c.args.taps.now) (tap c.turns.taps)
-          (tap c.run_turn.new.taps) is.others ran.taps.others;
+      taps = gained_next is.taps ran.behind ran.taps.ok;
+      others = λ j out. ran.taps.others j out ∙ is.others j out;
       counts = le_trans is.counts ran.counts;
     }
 
@@ -38,17 +32,14 @@ pub returns-in_err-run_turn-clause-taps : goal.returns-in_err-run_turn-clause-ta
 returns-in_err-run_turn-clause-taps g c =
     let S = c.args.stage.now.script.now in
     let book = g.D.Draws.book c.args.stage.now.draws.now in
-    let tap = g.T.Taps.tap in
+    let new = g.T.Taps.tap c.run_turn.new.taps in
     let is = c.turns.invariant in
     let stopped = c.in_err-run_turn.ensures.taps in
     let H = stopped.err.0 in
-    run_stopped S book _ c.from_residual.result c.from_residual.ensures.1 (tap c.args.taps.now)
-    (tap c.run_turn.new.taps) c.run_turn.new.course.turns.items H stopped.err.1.legal
-    (gained_fronts S book c.turns.turn c.turns.course.turns.items (tap c.args.taps.now)
-    (tap c.turns.taps) (tap c.run_turn.new.taps) (omega (arith, c.turns-test.true)) is.taps H
-    stopped.err.1 stopped.err.2)
-    (keep_twice S.shape.servers (tap c.args.taps.now) (tap c.turns.taps)
-    (tap c.run_turn.new.taps) is.others stopped.others)
+    run_stopped S book _ c.from_residual.result c.from_residual.ensures.1
+    (g.T.Taps.tap c.args.taps.now) new c.run_turn.new.course.turns.items H stopped.err.1.legal
+    (gained_fronts is.taps H new (omega (arith, c.turns-test.true)) stopped.err.1 stopped.err.2)
+    (λ j out. stopped.others j out ∙ is.others j out)
 
 pub returns-clause-course : goal.returns-clause-course
 returns-clause-course g c =
@@ -60,13 +51,9 @@ returns-clause-course g c =
 
 pub returns-clause-taps : goal.returns-clause-taps
 returns-clause-taps g c =
-    let S = c.args.stage.now.script.now in
-    let book = g.D.Draws.book c.args.stage.now.draws.now in
-    let tap = g.T.Taps.tap in
-    let all : c.turns.turn ≡ turn_count S.shape = omega arith in
+    let all : c.turns.turn ≡ turn_count c.args.stage.now.script.now.shape = omega arith in
     record {
-      ok = gained_all S book c.turns.turn c.turns.course.turns.items (tap c.args.taps.now)
-          (tap c.turns.taps) all c.turns.invariant.taps;
+      ok = gained_all c.turns.invariant.taps all;
       err = tt;
       others = c.turns.invariant.others;
     }

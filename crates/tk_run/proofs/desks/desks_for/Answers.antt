@@ -7,8 +7,8 @@ use Rattle.tk_shape.specs.Lengths.{turn_count}
 use Rattle.tk_words.specs.Words.{words_of}
 use Rattle.tk_client.specs.Writing.{first_waiting}
 use Rattle.tk_report.specs.Entries.{write_at}
-use Rattle.tk_run.proofs.DeskLaws.{told-shape, told-number, told-spells, desks-none, desks-told}
-use Rattle.tk_run.proofs.DeskLaws.{desks-next, desks-frames, desks-clients}
+use Rattle.tk_run.proofs.DeskLaws.{told-shape, told-number, told-spells, desks-none, desks-told, desks-next}
+use Rattle.tk_run.proofs.DeskLaws.{desks-frames, desks-clients}
 use Rattle.tk_run.proofs.desks.desks_for.Goals as goal
 
 pub writing-init : goal.writing-init

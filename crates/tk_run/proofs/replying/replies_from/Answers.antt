@@ -1,6 +1,5 @@
 -- The clients of a row are replied, from the set of the first of them.
-use Rattle.std.proofs.Common.{◌≡◌, ◌<◌, ◌≤◌, List, All, length, ap, sym, ◌∙◌, subst, arith}
-use Rattle.std.proofs.Common.{take, drop, rules}
+use Rattle.std.proofs.Common.{◌≡◌, ◌<◌, ◌≤◌, List, All, length, ap, sym, ◌∙◌, subst, arith, take, drop, rules}
 use Rattle.std.proofs.lemmas.List.Elements.{All-drop}
 use Rattle.std.specs.Prelude.{slice_index_or}
 use Rattle.tk_shape.specs.declared.shape.Shape.{Shape}
@@ -48,8 +47,7 @@ batch-requires-clause-asked g c κs within =
     omega (arith, c.in_a_row.ensures.within, may.counted)
     in
     let asked : All (IsAsked (set_of first)) (take n c.rows.asked.now) =
-    row-asked shape c.args.server c.rows.clients.now c.rows.asked.now n d may low
-    c.in_a_row.ensures.some c.in_a_row.ensures.same
+    row-asked n d may low c.in_a_row.ensures.some c.in_a_row.ensures.same
     in
     subst (λ (s : EpochSet). All (IsAsked s) c.split_at.result.0.now) (sym same)
     (subst (All (IsAsked (set_of first))) (sym c.split_at.ensures.front) asked)
@@ -80,8 +78,7 @@ rows-preserved g c =
           subst (λ (rs : List Reading). MayReply shape c.args.server rs c.split_at.result.1.now)
           (sym others)
           (subst (MayReply shape c.args.server (drop n clients)) (sym behind)
-          (reply-rest shape c.args.server clients frames n
-          (omega (arith, c.in_a_row.ensures.within, may.counted)) may));
+          (reply-rest n (omega (arith, c.in_a_row.ensures.within, may.counted)) may));
       stand = λ shape E all.
           subst (All (λ (r : Reading). Stands shape E (epoch_of r) (set_of r))) (sym others)
           (All-drop (λ (r : Reading). Stands shape E (epoch_of r) (set_of r)) n clients

@@ -30,4 +30,9 @@ pairing-preserved c =
       done = false;
     })
     low at so_far c.in_ok-push.ensures.items refl
-    (record { turn_is = refl; set = c.in_ok-try_clone.ensures; none_asked = c.new.ensures.items; none_replied = c.new-in-pairing.ensures.items })
+    (record {
+      turn_is = refl;
+      set = c.in_ok-try_clone.ensures;
+      none_asked = c.new.ensures.items;
+      none_replied = c.new-in-pairing.ensures.items;
+    })

@@ -15,9 +15,7 @@ returns-in_err-give-clause-err g c shape E seen are =
     omega (arith, c.giving-test.true, c.giving.invariant.counted)
     in
     on_err _ c.from_residual.result
-    (gave-fronts c.giving.i c.args.servers.now c.giving.servers
-    (g.T.Taps.tap c.args.taps.now) (g.T.Taps.tap c.giving.taps) (g.T.Taps.tap c.give.new.taps)
-    server c.giving.invariant.gave within here
+    (gave-fronts (g.T.Taps.tap c.give.new.taps) c.giving.invariant.gave within here
     c.in_err-give.ensures.err c.give.ensures.others shape E seen are)
 
 pub giving-preserved : goal.giving-preserved
@@ -32,21 +30,15 @@ giving-preserved g c =
       counted =
           length-set c.giving.servers c.giving.i c.give.new.server ∙ c.giving.invariant.counted;
       gave =
-          gave-more c.giving.i c.args.servers.now c.giving.servers (g.T.Taps.tap c.args.taps.now)
-          (g.T.Taps.tap c.giving.taps) (g.T.Taps.tap c.give.new.taps)
-          server c.give.new.server c.giving.invariant.gave within here
+          gave-more c.give.new.server c.giving.invariant.gave within here
           c.in_ok-give.ensures.server c.in_ok-give.ensures.ok c.give.ensures.others;
       counts = omega (arith, c.giving.invariant.counts, c.give.ensures.counts);
     }
 
 pub returns-clause-servers : goal.returns-clause-servers
 returns-clause-servers g c shape E seen are =
-    gave-servers c.giving.i c.args.servers.now c.giving.servers
-    (g.T.Taps.tap c.args.taps.now) (g.T.Taps.tap c.giving.taps) c.giving.invariant.gave
-    (omega (arith, c.giving-test.false)) shape E seen are
+    gave-servers c.giving.invariant.gave (omega (arith, c.giving-test.false)) shape E seen are
 
 pub returns-clause-ok : goal.returns-clause-ok
 returns-clause-ok g c shape E seen are =
-    gave-taps c.giving.i c.args.servers.now c.giving.servers
-    (g.T.Taps.tap c.args.taps.now) (g.T.Taps.tap c.giving.taps) c.giving.invariant.gave
-    (omega (arith, c.giving-test.false)) shape E seen are
+    gave-taps c.giving.invariant.gave (omega (arith, c.giving-test.false)) shape E seen are

@@ -1,7 +1,8 @@
 -- The halves put together are the whole.
 use Rattle.std.proofs.Common.{◌≡◌, ◌++◌, sym, subst, rules, true}
+use Rattle.std.proofs.lemmas.Bool.{and_parts}
 use Rattle.tk_run.specs.Ticks.{Done}
-use Rattle.tk_run.proofs.Joins.{done-append, both_true}
+use Rattle.tk_run.proofs.Joins.{done-append}
 use Rattle.tk_run.proofs.ticks.+fn-serve_all-join_mut+arg2+fn-serve_all-join_mut+arg3+serve_all.Goals as goal
 
 pub returns : goal.returns
@@ -11,7 +12,7 @@ returns g t c good =
     let second = c.split_at_mut-front.result.1.now in
     let left = c.split_at_mut-left.result.0.now in
     let right = c.split_at_mut-left.result.1.now in
-    let two = both_true c.join_mut-one.result.0 c.join_mut-one.result.1 good in
+    let two = and_parts c.join_mut-one.result.0 c.join_mut-one.result.1 good in
     let front : c.join_mut-one.result.0 ≡ true →
     Done made first left c.left-1.given.0 c.front-1.given.0 =
     search rules

@@ -4,8 +4,7 @@ use Rattle.tk_shape.specs.Lengths.{turn_count}
 use Rattle.tk_run.specs.Turns.{IsRunBefore}
 use Rattle.tk_run.specs.Servers.{nothing_seen}
 use Rattle.tk_run.proofs.ErrorLaws.{on_err}
-use Rattle.tk_run.proofs.SeenLaws.{taps-first, taps-next, taps-all}
-use Rattle.tk_run.proofs.SeenLaws.{fronts-next}
+use Rattle.tk_run.proofs.SeenLaws.{taps-first, taps-next, taps-all, fronts-next}
 use Rattle.tk_run.proofs.turns.take_all_turns.Goals as goal
 
 pub turns-init : goal.turns-init

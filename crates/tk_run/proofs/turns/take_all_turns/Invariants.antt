@@ -1,9 +1,8 @@
 -- Before each turn all is as the definitions say of it, and the taps gained what the servers saw.
 use Rattle.std.proofs.Common.{◌≤◌}
-use Rattle.tk_run.specs.Turns.{IsRunBefore}
+use Rattle.tk_run.specs.Turns.{IsRunBefore, seen_before}
 use Rattle.tk_run.specs.Servers.{nothing_seen}
 use Rattle.tk_io.specs.Tapped.{TapsGain, TapsKeepBut}
-use Rattle.tk_run.specs.Turns.{seen_before}
 use Rattle.tk_run.proofs.turns.take_all_turns.Given as goal
 
 abbrev pub invariant-turns : goal.invariant-turns

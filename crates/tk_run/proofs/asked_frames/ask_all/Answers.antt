@@ -1,0 +1,108 @@
+-- The client at the place asks, and its frames are dealt to the lists of the servers.
+use Rattle.std.proofs.Common.{◌≡◌, ◌∙◌, ◌+◌, ◌<◌, ◌≤◌, ℕ, refl, arith, ap, sym, subst, length, map, length-set}
+use Rattle.std.specs.Prelude.{slice_index_or}
+use Rattle.std.specs.List.{range_with_len}
+use Rattle.std.proofs.lemmas.List.{with_items_is}
+use Rattle.std.proofs.lemmas.List.FromFn.{length-map-range_with_len}
+use Rattle.tk_words.specs.Words.{words_of}
+use Rattle.tk_run.specs.Clients.{client_wrote, client_asked}
+use Rattle.tk_run.specs.Rows.{AreRows, no_frames}
+use Rattle.tk_run.specs.Turns.{posed}
+use Rattle.tk_report.proofs.Offers.{split-none, split-next, split-all}
+use Rattle.tk_run.proofs.RowsLaws.{rows-same}
+use Rattle.tk_run.proofs.ReadingLaws.{posed-none, rows-asked}
+use Rattle.tk_run.proofs.AskingLaws.{wrote-number}
+use Rattle.tk_run.proofs.asked_frames.ask_all.Goals as goal
+
+pub asking-init : goal.asking-init
+asking-init g c =
+    let S = c.args.plan.now.script.now in
+    let book = g.D.Draws.book c.args.plan.now.draws.now in
+    let H = c.args.plan.now.history.now in
+    let turn = c.args.turn in
+    record {
+      counted = refl;
+      rows =
+          rows-same S.shape.servers no_frames (posed S book H turn 0) c.in_ok-rows.rows.items
+          (λ i. posed-none S book H turn i) c.in_ok-rows.ensures;
+      clients = split-none c.requires.clients.each;
+    }
+
+pub ask-requires-clause-client_in : goal.ask-requires-clause-client_in
+ask-requires-clause-client_in g c κs met =
+    omega (
+      arith,
+      c.asking-test.true,
+      c.asking.invariant.counted,
+      c.requires.clients.counted,
+    )
+
+pub ask-requires-clause-client : goal.ask-requires-clause-client
+ask-requires-clause-client g c κs met =
+    let i = c.asking.i in
+    let clients = c.asking.clients in
+    let d = c.index-clients-i.result in
+    let within : i < length clients =
+    omega (arith, c.asking-test.true, c.asking.invariant.counted)
+    in
+    c.asking.invariant.clients.due_are i d (omega arith) within
+
+pub deal-requires : goal.deal-requires
+deal-requires g c =
+    let S = c.args.plan.now.script.now in
+    let asked = c.in_ok-frames.ensures.frames in
+    ap length asked
+    ∙ length-map-range_with_len _ 1 S.shape.servers
+    ∙ sym c.asking.invariant.rows.counted
+    ∙ ap length (sym c.as_mut_slice.ensures.value)
+
+pub asking-preserved : goal.asking-preserved
+asking-preserved g c =
+    let S = c.args.plan.now.script.now in
+    let book = g.D.Draws.book c.args.plan.now.draws.now in
+    let words = words_of S.shape book in
+    let H = c.args.plan.now.history.now in
+    let turn = c.args.turn in
+    let i = c.asking.i in
+    let clients = c.asking.clients in
+    let so_far = c.asking.invariant in
+    let within : i < length clients = omega (arith, c.asking-test.true, so_far.counted) in
+    let asked = c.in_ok-frames.ensures in
+    let dealt =
+    rows-asked S book H turn i c.as_mut_slice.result.now c.deal.new.rows c.in_ok-frames.frames.items
+    (subst (AreRows S.shape.servers (posed S book H turn i)) (sym c.as_mut_slice.ensures.value)
+    so_far.rows)
+    asked.frames c.in_ok-deal.ensures
+    in
+    let counted : length c.deal.new.rows ≡ c.asking.rows.len =
+    omega (arith, c.deal.auto.rows, c.as_mut_slice.ensures.len)
+    in
+    record {
+      counted = length-set clients i c.ask.new.client ∙ so_far.counted;
+      rows =
+          subst (AreRows S.shape.servers (posed S book H turn (i + 1)))
+          (sym (with_items_is c.asking.rows c.deal.new.rows counted)) dealt;
+      clients =
+          split-next c.ask.new.client so_far.clients within
+          (asked.client ∙ ap (client_asked S words H turn) number);
+    }
+
+pub returns-clause-clients : goal.returns-clause-clients
+returns-clause-clients g c =
+    let so_far = c.asking.invariant in
+    record {
+      counted = so_far.counted ∙ c.requires.clients.counted;
+      each = split-all so_far.clients (omega (arith, c.asking-test.false, so_far.counted));
+    }
+
+pub returns-clause-posed : goal.returns-clause-posed
+returns-clause-posed g c =
+    let S = c.args.plan.now.script.now in
+    let book = g.D.Draws.book c.args.plan.now.draws.now in
+    let H = c.args.plan.now.history.now in
+    let so_far = c.asking.invariant in
+    let all : c.asking.i ≡ S.shape.clients =
+    omega (arith, c.asking-test.false, so_far.counted, c.requires.clients.counted)
+    in
+    subst (λ (n : ℕ). AreRows S.shape.servers (posed S book H c.args.turn n) c.asking.rows.items)
+    all so_far.rows

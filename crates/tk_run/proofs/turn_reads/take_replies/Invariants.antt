@@ -1,0 +1,17 @@
+-- The clients so far have taken the replies to their reads.
+use Rattle.std.proofs.Common.{◌≡◌, ◌+◌, length}
+use Rattle.tk_words.specs.Words.{words_of}
+use Rattle.tk_run.specs.Clients.{client_asked, client_before}
+use Rattle.tk_run.proofs.Splits.{IsSplit}
+use Rattle.tk_run.proofs.turn_reads.take_replies.Given as goal
+
+abbrev pub invariant-taking : goal.invariant-taking
+invariant-taking g l =
+    let S = l.plan.script.now in
+    let words = words_of S.shape (g.D.Draws.book l.plan.draws.now) in
+    let H = l.plan.history.now in
+    record {
+      counted : length l.clients ≡ length l.fn.clients;
+      clients : IsSplit l.i (λ k s. s ≡ client_before S words H (l.turn + 1) k)
+          (λ k s. s ≡ client_asked S words H l.turn k) l.clients;
+    }
