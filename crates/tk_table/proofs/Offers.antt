@@ -1,7 +1,6 @@
 -- What the proofs of other crates may cite.
 pub use Rattle.tk_table.proofs.Ascending.{ascend-last, ascend-above, ascend-lower, retained-ascend}
 pub use Rattle.tk_table.proofs.InWindow.{retained-in_window}
-pub use Rattle.tk_table.proofs.Expiring.{all_true}
 pub use Rattle.tk_table.proofs.RetainedEach.{retained-each}
 pub use Rattle.tk_table.proofs.LaidOut.{layout-laid_out}
 pub use Rattle.tk_table.proofs.AsWritten.{layout-as_written}
