@@ -2,7 +2,9 @@
 
 from tool import Wrong, short
 
-KINDS = {4: "mark", 2: "read", 5: "record"}
+KINDS = {4: "mark", 2: "read", 5: "record", 7: "read"}
+# Kinds of read: what tells the vectors by seeds alone, and how many bytes of seeds stand before shown vectors.
+SEEDED, SEEDS = 6, {2: 0, 7: 64}
 # The fewest bytes of each.
 LEAST = {"mark": 14, "read": 16, "record": 54}
 
@@ -15,14 +17,17 @@ class Frame:
             self.data = bytes.fromhex(text)
         except ValueError as error:
             raise Wrong(f"line {line}: {short(text)} isn't hexadecimal") from error
+        if self.data[:2] == bytes([SEEDED, 1]):
+            raise Wrong(f"line {line}: a read of format 2 that tells its buckets by seeds: only the last server is told them")
         if len(self.data) < 2 or self.data[0] not in KINDS or self.data[1] != 1:
             raise Wrong(f"line {line}: {short(text)} is no record, mark or read of version 1")
         self.kind = KINDS[self.data[0]]
         self.check_length(line)
         if self.kind == "read":
             self.client, self.turn, self.epoch = (self.number(at) for at in (2, 6, 10))
-            half = 14 + (len(self.data) - 14) // 2
-            self.vectors = [self.data[14:half], self.data[half:]]
+            vectors = self.data[14 + SEEDS[self.data[0]] :]
+            half = len(vectors) // 2
+            self.vectors = [vectors[:half], vectors[half:]]
         else:
             self.position = self.number(2, 8)
         if self.kind == "mark":
@@ -32,7 +37,7 @@ class Frame:
             self.carried = self.data[26:]
 
     def check_length(self, line):
-        count, least = len(self.data), LEAST[self.kind]
+        count, least = len(self.data), LEAST[self.kind] + SEEDS.get(self.data[0], 0)
         if count < least or (self.kind == "mark" and count > least) or (self.kind == "read" and count % 2):
             raise Wrong(f"line {line}: {count} bytes are no {self.kind}")
 

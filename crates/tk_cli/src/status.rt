@@ -5,8 +5,8 @@ use std::alloc::Global;
 use tk_script::{Cause, push_cause, push_field, push_number};
 use tk_shape::{Field, Memory};
 
-/// How the top call ended. In order: the words are asked first, then what is read, then what is written. What
-/// is read is asked for its first line that is refused, for its tape and what that becomes, for the shapes of its scripts, for its
+/// How the top call ended. In order: the words are asked first, then what is read, then what is written. What is read is
+/// asked for its first line that is refused, for its tape and what that becomes, for the shapes of its scripts, for its
 /// history, and then for the server that the words name.
 #[derive(Clone, Copy, Debug, PartialEq, Eq)]
 pub enum Status {
