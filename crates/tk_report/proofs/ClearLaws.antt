@@ -16,8 +16,7 @@ use Rattle.tk_frames.specs.declared.write_frame.WriteFrame.{WriteFrame}
 use Rattle.tk_frames.specs.Order.{Record, records}
 use Rattle.tk_frames.specs.Slots.{text_in}
 use Rattle.tk_frames.specs.Lists.{IsIn}
-use Rattle.tk_frames.proofs.Offers.{in_from_contains, contains_from_in}
-use Rattle.tk_table.proofs.Offers.{all_true}
+use Rattle.tk_frames.proofs.Offers.{in_from_contains, contains_from_in, all-at}
 use Rattle.tk_report.specs.Entries.{entries}
 use Rattle.tk_report.specs.PassingOver.{IsRecordOf}
 use Rattle.tk_report.specs.Delivered.{IsClear, is_number, is_clear_at, is_clear, ClearIsTested}
@@ -108,17 +107,17 @@ clear-from_test S w H test =
     let all = records (entries S w H) in
     record {
       own = λ r log s text there number gives.
-          let by_record = all_true
+          let by_record = all-at
           (λ (q : Record). list_all
           (λ l. list_all (is_clear_at S w q l) (range_with_len 0 (turn_count S.shape)))
           (range_with_len 0 S.shape.logs)) all r test (in_from_contains all r there)
           in
-          let by_log = all_true
+          let by_log = all-at
           (λ l. list_all (is_clear_at S w r l) (range_with_len 0 (turn_count S.shape)))
           (range_with_len 0 S.shape.logs) log by_record
           (in-range 0 S.shape.logs log (omega arith) (omega (arith, number.log_in)))
           in
-          let by_number = all_true (is_clear_at S w r log) (range_with_len 0 (turn_count S.shape)) s
+          let by_number = all-at (is_clear_at S w r log) (range_with_len 0 (turn_count S.shape)) s
           by_log
           (in-range 0 (turn_count S.shape) s (omega arith) (omega (arith, number.number_in)))
           in

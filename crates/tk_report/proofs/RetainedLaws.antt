@@ -20,10 +20,9 @@ use Rattle.tk_frames.specs.Order.{Record, is_mark_of, records, up_to_mark, befor
 use Rattle.tk_frames.specs.Lists.{first_some}
 use Rattle.tk_table.specs.Ordered.{AscendFrom}
 use Rattle.tk_table.specs.Table.{window, has_position, retained}
-use Rattle.tk_table.proofs.Offers.{ascend-above, all_true}
-use Rattle.tk_table.proofs.Offers.{retained-in_window}
+use Rattle.tk_table.proofs.Offers.{ascend-above, retained-in_window}
 use Rattle.tk_frames.specs.Lists.{IsIn}
-use Rattle.tk_frames.proofs.Offers.{in_from_contains, contains_from_in, each-in, in_map}
+use Rattle.tk_frames.proofs.Offers.{in_from_contains, contains_from_in, all-at, each-in, in_map}
 use Rattle.tk_table.proofs.Offers.{retained-each}
 use Rattle.tk_bloom.proofs.Offers.{is_shown-positions_of}
 use Rattle.tk_table.specs.Shown.{pushes_of, is_shown}
@@ -116,7 +115,7 @@ in_drop (suc n) (y ∷ xs) x there = inr (in_drop n xs x there)
 retained-inside : (shape : Shape) (R : List Record) (r : Record) → AscendFrom 1 R →
     IsIn (retained shape R) r → IsIn (window shape R) r
 retained-inside shape R r ascend there =
-    let has = all_true (λ (q : Record). has_position (window shape R) q.position)
+    let has = all-at (λ (q : Record). has_position (window shape R) q.position)
     (retained shape R) r (retained-in_window shape R) there
     in
     let here = position-found (window shape R) r.position has in
