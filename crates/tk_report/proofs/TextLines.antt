@@ -1,7 +1,7 @@
 -- The first line of a text, and the line that stands after a history.
 use Rattle.std.proofs.Common.{◌≡◌, ◌≢◌, refl, ap, ◌∙◌, ◌⊎◌, inl, inr, ne_eqb, eqb-true}
 use Rattle.std.proofs.Common.{arith}
-use Rattle.std.proofs.Common.{ℕ, Bool, true, false, cond, ◌||◌, ◌==◌}
+use Rattle.std.proofs.Common.{ℕ, true, false, cond, ◌||◌, ◌==◌}
 use Rattle.std.proofs.Common.{List, [], ◌∷◌, ◌++◌, codes, append_assoc}
 use Rattle.std.specs.Prelude.{drop, length}
 use Rattle.std.proofs.lemmas.Slice.Eq.{starts_is}

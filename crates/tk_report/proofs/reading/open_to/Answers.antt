@@ -1,5 +1,5 @@
 -- The epoch that the history gives is the last or the one before it.
-use Rattle.std.proofs.Common.{◌≡◌, ◌≤◌, ◌+◌, ℕ, subst, arith}
+use Rattle.std.proofs.Common.{◌≤◌, ◌+◌, ℕ, subst, arith}
 use Rattle.tk_shape.specs.Lengths.{turn_count}
 use Rattle.tk_schedule.specs.Schedule.{phases_over}
 use Rattle.tk_words.specs.Words.{words_of}
