@@ -4,8 +4,6 @@ use Rattle.std.specs.Prelude.{slice_index_or}
 use Rattle.std.specs.List.{range_with_len}
 use Rattle.std.proofs.lemmas.List.{with_items_is}
 use Rattle.std.proofs.lemmas.List.FromFn.{length-map-range_with_len}
-use Rattle.tk_words.specs.Words.{words_of}
-use Rattle.tk_run.specs.Clients.{client_wrote, client_asked}
 use Rattle.tk_run.specs.Rows.{AreRows, no_frames}
 use Rattle.tk_run.specs.Turns.{posed}
 use Rattle.tk_report.proofs.Offers.{split-none, split-next, split-all}
@@ -60,7 +58,6 @@ pub asking-preserved : goal.asking-preserved
 asking-preserved g c =
     let S = c.args.plan.now.script.now in
     let book = g.D.Draws.book c.args.plan.now.draws.now in
-    let words = words_of S.shape book in
     let H = c.args.plan.now.history.now in
     let turn = c.args.turn in
     let i = c.asking.i in
@@ -82,9 +79,7 @@ asking-preserved g c =
       rows =
           subst (AreRows S.shape.servers (posed S book H turn (i + 1)))
           (sym (with_items_is c.asking.rows c.deal.new.rows counted)) dealt;
-      clients =
-          split-next c.ask.new.client so_far.clients within
-          (asked.client ∙ ap (client_asked S words H turn) number);
+      clients = split-next c.ask.new.client so_far.clients within asked.client;
     }
 
 pub returns-clause-clients : goal.returns-clause-clients
@@ -92,7 +87,7 @@ returns-clause-clients g c =
     let so_far = c.asking.invariant in
     record {
       counted = so_far.counted ∙ c.requires.clients.counted;
-      each = split-all so_far.clients (omega (arith, c.asking-test.false, so_far.counted));
+      each = split-all so_far.clients ended;
     }
 
 pub returns-clause-posed : goal.returns-clause-posed

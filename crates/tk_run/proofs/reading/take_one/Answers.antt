@@ -46,7 +46,7 @@ returns g c =
     subst (λ (shape : Shape). IsBook shape book) c.args.plan.now.one_shape
     (laws.serves c.args.plan.now.draws.now)
     in
-    client-took S book H turn place c.args.client.now c.take_replies.new.self c.args.replies.now
+    client-took
     (all-sound S book H turn place serves c.args.plan.now.legal c.requires.turn_in
     c.requires.client_in)
     c.requires.client c.requires.replies c.in-Ok.ensures.taken

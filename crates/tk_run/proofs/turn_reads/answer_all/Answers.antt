@@ -3,12 +3,9 @@ use Rattle.std.proofs.Common.{◌≡◌, ◌∙◌, ◌+◌, ◌<◌, ◌≤◌,
 use Rattle.std.specs.Prelude.{slice_index_or}
 use Rattle.std.proofs.lemmas.List.{with_items_is}
 use Rattle.std.proofs.lemmas.List.FromFn.{length-map-range_with_len}
-use Rattle.tk_shape.specs.declared.shape.Shape.{Shape}
-use Rattle.tk_words.specs.Words.{IsBook, words_of}
 use Rattle.tk_run.specs.Rows.{AreRows, no_frames}
-use Rattle.tk_run.specs.Servers.{IsServer, AreReads}
-use Rattle.tk_run.specs.Turns.{placed_before, entries_seen, turn_seen, reads_for, replied}
-use Rattle.tk_run.proofs.Splits.{split-none, split-next, split-all}
+use Rattle.tk_run.specs.Turns.{replied}
+use Rattle.tk_report.proofs.Offers.{split-none, split-next, split-all}
 use Rattle.tk_run.proofs.RowsLaws.{rows-same}
 use Rattle.tk_run.proofs.AnswerLaws.{posed-are}
 use Rattle.tk_run.proofs.ReadingLaws.{all-made, replied-none, rows-replied, replies-by_client, seen-answered}
@@ -49,11 +46,12 @@ answering-init g c =
     let S = c.args.plan.now.script.now in
     let book = g.D.Draws.book c.args.plan.now.draws.now in
     let H = c.args.plan.now.history.now in
+    let turn = c.args.turn in
     record {
       counted = refl;
       rows =
-          rows-same S.shape.clients no_frames (replied S book H c.args.turn 0) c.in_ok-rows.rows.items
-          (λ k. replied-none S book H c.args.turn k) c.in_ok-rows.ensures;
+          rows-same S.shape.clients no_frames (replied S book H turn 0) c.in_ok-rows.rows.items
+          (λ k. replied-none S book H turn k) c.in_ok-rows.ensures;
       servers = split-none c.requires.servers.each;
     }
 
@@ -102,20 +100,13 @@ answering-preserved g c =
       rows =
           subst (AreRows S.shape.clients (replied S book H turn (i + 1)))
           (sym (with_items_is c.answering.rows c.deal.new.rows counted)) dealt;
-      servers =
-          split-next c.answer.new.self so_far.servers
-          (omega (arith, c.answering-test.true, so_far.counted))
-          (subst (λ (bytes : List ℕ). IsServer S.shape (placed_before S (words_of S.shape book) H (turn + 1))
-          bytes c.answer.new.self)
-          (seen-answered S book H turn (i + 1) made)
-          (c.in_ok-replies.ensures.server S.shape _ _ _ here.0 here.1));
+      servers = split-next c.answer_one.new.server so_far.servers within answered.server;
     }
 
 pub returns-clause-replies : goal.returns-clause-replies
 returns-clause-replies g c =
     let S = c.args.plan.now.script.now in
     let book = g.D.Draws.book c.args.plan.now.draws.now in
-    let words = words_of S.shape book in
     let H = c.args.plan.now.history.now in
     let turn = c.args.turn in
     let so_far = c.answering.invariant in
@@ -130,5 +121,5 @@ returns-clause-servers g c =
     let so_far = c.answering.invariant in
     record {
       counted = so_far.counted ∙ c.requires.servers.counted;
-      each = split-all so_far.servers (omega (arith, c.answering-test.false, so_far.counted));
+      each = split-all so_far.servers ended;
     }

@@ -1,21 +1,26 @@
 -- The client at the place takes the replies to its read.
-use Rattle.std.proofs.Common.{◌≡◌, ◌∙◌, ◌+◌, ◌<◌, ◌≤◌, refl, arith, ap, sym, subst, length, length-set}
-use Rattle.std.specs.Prelude.{slice_index_or}
-use Rattle.tk_shape.specs.declared.shape.Shape.{Shape}
-use Rattle.tk_words.specs.Words.{IsBook, words_of}
-use Rattle.tk_run.specs.Clients.{client_asked, client_before}
-use Rattle.tk_run.specs.Turns.{replied}
-use Rattle.tk_run.proofs.Splits.{split-none, split-next, split-all}
-use Rattle.tk_run.proofs.AnswerLaws.{all-sound, asked-shape, asked-open, replied-counted, client-took}
+use Rattle.std.proofs.Common.{◌∙◌, ◌<◌, ◌≤◌, refl, arith, length, length-set}
+use Rattle.tk_report.proofs.Offers.{split-none, split-next, split-all}
 use Rattle.tk_run.proofs.turn_reads.take_replies.Goals as goal
 
 pub taking-init : goal.taking-init
-taking-init g c = record { counted = refl; clients = split-none c.requires.clients.each }
+taking-init g c =
+    record {
+      counted = refl;
+      clients = split-none c.requires.clients.each;
+    }
 
-pub take_replies-requires-clause-one_shape : goal.take_replies-requires-clause-one_shape
-take_replies-requires-clause-one_shape g c κs met =
-    let S = c.args.plan.now.script.now in
-    let words = words_of S.shape (g.D.Draws.book c.args.plan.now.draws.now) in
+pub take_one-requires-clause-client_in : goal.take_one-requires-clause-client_in
+take_one-requires-clause-client_in g c κs met =
+    omega (
+      arith,
+      c.taking-test.true,
+      c.taking.invariant.counted,
+      c.requires.clients.counted,
+    )
+
+pub take_one-requires-clause-replies : goal.take_one-requires-clause-replies
+take_one-requires-clause-replies g c κs met =
     let i = c.taking.i in
     let d = c.index-clients-i.result in
     let so_far = c.taking.invariant in
@@ -69,20 +74,13 @@ take_one-requires-clause-client g c κs met =
 
 pub taking-preserved : goal.taking-preserved
 taking-preserved g c =
-    let S = c.args.plan.now.script.now in
-    let words = words_of S.shape (g.D.Draws.book c.args.plan.now.draws.now) in
-    let H = c.args.plan.now.history.now in
     let i = c.taking.i in
     let clients = c.taking.clients in
     let so_far = c.taking.invariant in
     let within : i < length clients = omega (arith, c.taking-test.true, so_far.counted) in
     record {
       counted = length-set clients i c.take_one.new.client ∙ so_far.counted;
-      clients =
-          split-next c.take_replies.new.self so_far.clients within
-          (client-took
-          (all-sound S book H turn i serves c.args.plan.now.legal c.requires.turn_in below)
-          was replies_are c.in-Ok.ensures.taken);
+      clients = split-next c.take_one.new.client so_far.clients within c.in_ok-take_one.ensures;
     }
 
 pub returns : goal.returns
@@ -90,5 +88,5 @@ returns g c =
     let so_far = c.taking.invariant in
     record {
       counted = so_far.counted ∙ c.requires.clients.counted;
-      each = split-all so_far.clients (omega (arith, c.taking-test.false, so_far.counted));
+      each = split-all so_far.clients ended;
     }
