@@ -1,7 +1,7 @@
 -- What a client takes from the replies to its read.
-use Rattle.std.proofs.Common.{◌≡◌, refl, None, ap, ap₂, sym, subst, ◌∙◌, arith, add-one, ℕ, ◌+◌, ◌<◌, List, [], ◌∷◌}
-use Rattle.std.proofs.Common.{◌++◌, length, map, Option, Some, zero, suc, ◌≤◌, inl, inr}
-use Rattle.std.specs.Prelude.{slice_index_or, IsSome}
+use Rattle.std.proofs.Common.{◌≡◌, refl, None, ap, ap₂, sym, subst, ◌∙◌, arith, ℕ, ◌+◌, ◌<◌, List, [], ◌∷◌, ◌++◌}
+use Rattle.std.proofs.Common.{length, map, Option, Some, zero, suc, ◌≤◌, inl, inr}
+use Rattle.std.specs.Prelude.{IsSome}
 use Rattle.std.proofs.lemmas.Bool.{cases_lt}
 use Rattle.std.proofs.lemmas.List.FromFn.{length-map-range_with_len}
 use Rattle.std.specs.List.{AllByRecursion, range_with_len}
@@ -33,10 +33,13 @@ use Rattle.tk_client.proofs.Offers.{frames_in-spelled, asked-in_range, pair-in_r
 use Rattle.tk_client.specs.Asked.{asked, AreWhole, pair_for}
 use Rattle.tk_schedule.specs.declared.history.History.{History}
 use Rattle.tk_schedule.specs.Schedule.{IsLegal, epoch_at}
-use Rattle.tk_report.proofs.Offers.{epochs-ordered, epochs-storable}
+use Rattle.tk_shape.specs.Lengths.{turn_count}
+use Rattle.tk_words.specs.Words.{IsBook}
+use Rattle.tk_client.proofs.Offers.{asked-in_range, pair-in_range, fresh-whole}
+use Rattle.tk_report.proofs.Offers.{before-next, epochs-ordered, epochs-storable}
 use Rattle.tk_script.specs.declared.script.Script.{Script}
 use Rattle.tk_report.specs.Queues.{writing_before}
-use Rattle.tk_report.specs.Report.{lookup, answered, read_over, target_at, reader_before, reader_step}
+use Rattle.tk_report.specs.Report.{lookup, answered, read_over, target_at, reader_before}
 use Rattle.tk_table.specs.Replies.{reply_to}
 use Rattle.tk_report.specs.Exchange.{read_at}
 use Rattle.tk_run.specs.Clients.{idle, client_before, client_knowing, client_asked}

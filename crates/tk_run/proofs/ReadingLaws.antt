@@ -24,7 +24,7 @@ use Rattle.tk_report.specs.Report.{read_over}
 use Rattle.tk_replica.specs.Replies.{reply_for}
 use Rattle.tk_run.specs.Servers.{answered}
 use Rattle.tk_run.specs.Turns.{placed_before, entries_seen, reads_for, posed, reply_at, replies_to, replied, turn_seen}
-use Rattle.tk_run.proofs.SeenLaws.{turn_seen-parts, flat_map-numbers_more}
+use Rattle.tk_run.proofs.SeenLaws.{turn_seen-parts}
 
 -- ---- frames, client by client and server by server
 

@@ -16,7 +16,7 @@ use Rattle.tk_report.specs.Entries.{write_at, entries_at}
 use Rattle.tk_report.specs.Exchange.{read_at, read_answered, with_reply, bytes_of}
 use Rattle.tk_cluster.specs.Passes.{Passing}
 use Rattle.tk_cluster.specs.Tellings.{Telling}
-use Rattle.tk_run.specs.declared.group.Group.{Group}
+use Rattle.tk_report.specs.declared.group.Group.{Group}
 use Rattle.tk_run.specs.declared.pinned_write.PinnedWrite.{PinnedWrite}
 use Rattle.tk_run.specs.declared.talking.Talk.{Talk}
 use Rattle.tk_run.specs.Clients.{AreClients, client_before}

@@ -21,7 +21,7 @@ use Rattle.tk_report.specs.Queues.{said_before}
 use Rattle.tk_cluster.specs.Sets.{Stands}
 use Rattle.tk_cluster.specs.Passes.{Passing}
 use Rattle.tk_cluster.specs.Tellings.{Telling}
-use Rattle.tk_run.specs.declared.group.Group.{Group}
+use Rattle.tk_report.specs.declared.group.Group.{Group}
 use Rattle.tk_run.specs.declared.pinned_write.PinnedWrite.{PinnedWrite}
 use Rattle.tk_run.specs.declared.talking.Talk.{Talk}
 use Rattle.tk_run.specs.Clients.{AreClients, client_before, client_wrote, client_asked}

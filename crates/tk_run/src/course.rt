@@ -13,7 +13,6 @@ ghost use Rattle.tk_report.specs.Entries.{write_at};
 use crate::acting::{Cue, Desk, Herald, act};
 use crate::arranging::turn_from;
 use crate::desks::{cleared, desks_for};
-use crate::group::Group;
 use crate::pinned_write::PinnedWrite;
 use crate::run_error::RunError;
 use crate::talking::{Round, talk_all};

@@ -19,6 +19,7 @@ mod serially;
 mod server;
 mod servers;
 mod sharing;
+mod spot;
 mod taking;
 mod talking;
 mod tap_bytes;

@@ -13,7 +13,7 @@ use std::thread::Threads;
 use tk_cluster::{Closed, Cluster};
 use tk_io::{Gate, Taps};
 use tk_order::{Blank, Naming};
-use tk_report::Outcome;
+use tk_report::{Group, Outcome};
 use tk_schedule::History;
 use tk_script::Script;
 use tk_words::Draws;

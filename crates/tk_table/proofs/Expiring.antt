@@ -16,7 +16,7 @@ use Rattle.tk_table.specs.Table.{has_position, retained, layout, without_expired
 use Rattle.tk_table.specs.Laws.{IsSlotOf, IsLaidOut}
 use Rattle.tk_table.specs.Steps.{cleared, cleared_all}
 use Rattle.tk_frames.specs.Lists.{IsIn}
-use Rattle.tk_frames.proofs.Offers.{all_in}
+use Rattle.tk_frames.proofs.Offers.{all_in, all-at}
 use Rattle.tk_table.proofs.Ascending.{ascend-lower}
 use Rattle.tk_table.proofs.AsWritten.{entry-record}
 use Rattle.tk_table.proofs.Buckets.{bucket-map}
@@ -38,14 +38,6 @@ map-kept f [] same = refl
 map-kept f (x ∷ xs) same =
     ap (λ y. y ∷ map f xs) (same x (inl refl))
     ∙ ap (λ ys. x ∷ ys) (map-kept f xs (λ y there. same y (inr there)))
-
-pub all_true : {X : Type 0} (test : X → Bool) (xs : List X) (x : X) → list_all test xs ≡ true →
-    IsIn xs x → test x ≡ true
-all_true test [] x h there = absurd there
-all_true test (y ∷ xs) x h (inl e) =
-    subst (λ z. test z ≡ true) e (and_parts (test y) (list_all test xs) h).0
-all_true test (y ∷ xs) x h (inr there) =
-    all_true test xs x (and_parts (test y) (list_all test xs) h).1 there
 
 pub same_tables : (S T : SlotTable) → length S ≡ length T →
     ((b : ℕ) → b < length T → bucket_at S b ≡ bucket_at T b) → S ≡ T

@@ -1,7 +1,6 @@
 -- The client at the place asks, and its frames are dealt to the lists of the servers.
-use Rattle.std.proofs.Common.{◌≡◌, ◌∙◌, ◌+◌, ◌<◌, ◌≤◌, ℕ, refl, arith, ap, sym, subst, length, map, length-set}
-use Rattle.std.specs.Prelude.{slice_index_or}
-use Rattle.std.specs.List.{range_with_len}
+use Rattle.std.proofs.Common.{◌≡◌, ◌∙◌, ◌+◌, ◌<◌, ◌≤◌, ℕ, refl, arith, ap, sym, subst, length}
+use Rattle.std.proofs.Common.{length-set}
 use Rattle.std.proofs.lemmas.List.{with_items_is}
 use Rattle.std.proofs.lemmas.List.FromFn.{length-map-range_with_len}
 use Rattle.tk_run.specs.Rows.{AreRows, no_frames}
@@ -9,7 +8,6 @@ use Rattle.tk_run.specs.Turns.{posed}
 use Rattle.tk_report.proofs.Offers.{split-none, split-next, split-all}
 use Rattle.tk_run.proofs.RowsLaws.{rows-same}
 use Rattle.tk_run.proofs.ReadingLaws.{posed-none, rows-asked}
-use Rattle.tk_run.proofs.AskingLaws.{wrote-number}
 use Rattle.tk_run.proofs.asked_frames.ask_all.Goals as goal
 
 pub asking-init : goal.asking-init
@@ -85,6 +83,9 @@ asking-preserved g c =
 pub returns-clause-clients : goal.returns-clause-clients
 returns-clause-clients g c =
     let so_far = c.asking.invariant in
+    let ended : length c.asking.clients ≤ c.asking.i =
+    omega (arith, c.asking-test.false, so_far.counted)
+    in
     record {
       counted = so_far.counted ∙ c.requires.clients.counted;
       each = split-all so_far.clients ended;

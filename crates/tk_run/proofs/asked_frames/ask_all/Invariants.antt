@@ -4,7 +4,7 @@ use Rattle.tk_words.specs.Words.{words_of}
 use Rattle.tk_run.specs.Rows.{AreRows}
 use Rattle.tk_run.specs.Turns.{posed}
 use Rattle.tk_run.specs.Clients.{client_wrote, client_asked}
-use Rattle.tk_run.proofs.Splits.{IsSplit}
+use Rattle.tk_report.proofs.Offers.{IsSplit}
 use Rattle.tk_run.proofs.asked_frames.ask_all.Given as goal
 
 abbrev pub invariant-asking : goal.invariant-asking

@@ -13,8 +13,7 @@ use Rattle.tk_script.specs.declared.script.Script.{Script}
 use Rattle.tk_words.specs.Words.{WordBook, words_of}
 use Rattle.tk_report.specs.Entries.{placed_from}
 use Rattle.tk_report.specs.Clients.{known_before, client_told, client_knowing}
-use Rattle.tk_run.specs.declared.group.Group.{Group}
-use Rattle.tk_run.specs.declared.pinned_write.PinnedWrite.{PinnedWrite}
+use Rattle.tk_report.specs.declared.group.Group.{Group}
 use Rattle.tk_run.specs.declared.acting.Desk.{Desk}
 use Rattle.tk_run.specs.Clients.{AreClients}
 use Rattle.tk_run.specs.Acting.{Acted, AreFrames, frames_on, slips_on}

@@ -4,7 +4,7 @@ use Rattle.tk_words.specs.Words.{words_of}
 use Rattle.tk_run.specs.Rows.{AreRows}
 use Rattle.tk_run.specs.Servers.{IsServer}
 use Rattle.tk_run.specs.Turns.{placed_before, replied, entries_seen, turn_seen}
-use Rattle.tk_run.proofs.Splits.{IsSplit}
+use Rattle.tk_report.proofs.Offers.{IsSplit}
 use Rattle.tk_run.proofs.turn_reads.answer_all.Given as goal
 
 abbrev pub invariant-answering : goal.invariant-answering

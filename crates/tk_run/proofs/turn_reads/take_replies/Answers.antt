@@ -22,40 +22,7 @@ take_one-requires-clause-client_in g c κs met =
 pub take_one-requires-clause-replies : goal.take_one-requires-clause-replies
 take_one-requires-clause-replies g c κs met =
     let i = c.taking.i in
-    let d = c.index-clients-i.result in
     let so_far = c.taking.invariant in
-    let was = so_far.clients.due_are i d (omega arith) (omega (arith, c.taking-test.true, so_far.counted)) in
-    c.args.plan.now.one_shape
-    ∙ sym (asked-shape S words c.args.plan.now.history.now c.args.turn i (slice_index_or c.taking.clients i d)
-    was)
-
-pub take_replies-requires-clause-open : goal.take_replies-requires-clause-open
-take_replies-requires-clause-open g c κs met =
-    let S = c.args.plan.now.script.now in
-    let words = words_of S.shape (g.D.Draws.book c.args.plan.now.draws.now) in
-    let i = c.taking.i in
-    let d = c.index-clients-i.result in
-    let so_far = c.taking.invariant in
-    let was = so_far.clients.due_are i d (omega arith) (omega (arith, c.taking-test.true, so_far.counted)) in
-    asked-open S words c.args.plan.now.history.now c.args.turn i (slice_index_or c.taking.clients i d) was
-
-pub take_replies-requires-clause-counted : goal.take_replies-requires-clause-counted
-take_replies-requires-clause-counted g c κs met =
-    let S = c.args.plan.now.script.now in
-    let book = g.D.Draws.book c.args.plan.now.draws.now in
-    let words = words_of S.shape book in
-    let H = c.args.plan.now.history.now in
-    let turn = c.args.turn in
-    let i = c.taking.i in
-    let clients = c.taking.clients in
-    let d = c.index-clients-i.result in
-    let so_far = c.taking.invariant in
-    let within : i < length clients = omega (arith, c.taking-test.true, so_far.counted) in
-    let was = so_far.clients.due_are i d (omega arith) within in
-    let below : i < S.shape.clients =
-    omega (arith, within, so_far.counted, c.requires.clients.counted)
-    in
-    let replies_are : c.as_slice.result.now ≡ replied S book H turn S.shape.servers i =
     c.as_slice.ensures ∙ c.index-replies-i.is
     ∙ c.requires.replies.each i c.index-replies-i.result
     (omega (
@@ -86,6 +53,9 @@ taking-preserved g c =
 pub returns : goal.returns
 returns g c =
     let so_far = c.taking.invariant in
+    let ended : length c.taking.clients ≤ c.taking.i =
+    omega (arith, c.taking-test.false, so_far.counted)
+    in
     record {
       counted = so_far.counted ∙ c.requires.clients.counted;
       each = split-all so_far.clients ended;

@@ -2,7 +2,7 @@
 use Rattle.std.proofs.Common.{◌≡◌, ◌+◌, length}
 use Rattle.tk_words.specs.Words.{words_of}
 use Rattle.tk_run.specs.Clients.{client_asked, client_before}
-use Rattle.tk_run.proofs.Splits.{IsSplit}
+use Rattle.tk_report.proofs.Offers.{IsSplit}
 use Rattle.tk_run.proofs.turn_reads.take_replies.Given as goal
 
 abbrev pub invariant-taking : goal.invariant-taking

@@ -4,7 +4,7 @@ use Rattle.tk_shape.specs.declared.shape.Shape.{Shape}
 use Rattle.tk_words.specs.Words.{IsBook, words_of}
 use Rattle.tk_run.proofs.AnswerLaws.{all-sound, asked-shape, asked-open, replied-counted}
 use Rattle.tk_run.proofs.AnswerLaws.{client-took}
-use Rattle.tk_run.proofs.reading.take_one.Goals as goal
+use Rattle.tk_run.proofs.turn_reads.take_one.Goals as goal
 
 pub take_replies-requires-clause-one_shape : goal.take_replies-requires-clause-one_shape
 take_replies-requires-clause-one_shape g c κs met =

@@ -6,7 +6,7 @@ use Rattle.tk_run.specs.Servers.{IsServer}
 use Rattle.tk_run.specs.Turns.{placed_before, entries_seen, reads_for}
 use Rattle.tk_run.proofs.AnswerLaws.{posed-are}
 use Rattle.tk_run.proofs.ReadingLaws.{all-made, replies-by_client, seen-answered}
-use Rattle.tk_run.proofs.reading.answer_one.Goals as goal
+use Rattle.tk_run.proofs.turn_reads.answer_one.Goals as goal
 
 pub answer-requires : goal.answer-requires
 answer-requires g c =
