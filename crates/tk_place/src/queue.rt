@@ -61,25 +61,30 @@ fn take_place(places: &mut [Queued], stamps: &mut [u32], len: u32, stamp: u32, p
     len + u32::from(is_new)
 }
 
-/// Queues each of these buckets that is new, as one that an entry in the bucket at a place names.
-fn take_each(
-    places: &mut [Queued],
-    stamps: &mut [u32],
-    len: u32,
-    stamp: u32,
-    others: &[u32],
-    depth: u32,
+/// The buckets that the entries in the bucket at a place name, the entry in each slot one.
+#[derive(Clone, Copy)]
+struct Named<'a> {
     place: u32,
-) -> u32
+    depth: u32,
+    others: &'a [u32],
+}
+
+/// Queues each of the buckets named that is new.
+fn take_each(places: &mut [Queued], stamps: &mut [u32], len: u32, stamp: u32, named: Named) -> u32
     requires stamped { IsStamped places.old len stamps.old stamp (length stamps.old) }
-    requires depth { depth ≡ length others.now }
-    requires others { All (λ b. b < length stamps.old) others.now }
-    requires place { place < len }
+    requires depth { named.depth ≡ length named.others.now }
+    requires others { All (λ b. b < length stamps.old) named.others.now }
+    requires place { named.place < len }
     ensures stamped { IsStamped places.new result stamps.new stamp (length stamps.old) }
     ensures places { let old = places_from [] (take len places.old) in
-        let named = named_in (place_at old place) 0 (map (λ b. Some b) others.now) in
-        places_from [] (take result places.new) ≡ old ++ not_before old named }
+        let all = named_in (place_at old named.entry.place) 0 (map (λ b. Some b) named.entry.others.now) in
+        places_from [] (take result places.new) ≡ old ++ not_before old all }
 {
+    let Named {
+        place,
+        depth,
+        others,
+    } = named;
     let mut taken = len;
     for slot in 0..depth {
         let bucket = others[slot as usize];
@@ -179,15 +184,17 @@ impl Queue {
             let named = named_in (place_at old place) 0 (map (λ b. Some b) others.now) in
             self.new.places ≡ old ++ not_before old named }
     {
-        let stamp = self.stamp;
+        let named = Named {
+            place,
+            depth,
+            others,
+        };
         self.len = take_each(
             &mut self.places,
             &mut self.stamps,
             self.len,
-            stamp,
-            others,
-            depth,
-            place,
+            self.stamp,
+            named,
         );
     }
 }

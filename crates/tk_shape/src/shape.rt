@@ -185,7 +185,7 @@ impl Shape {
     }
 }
 
-/// Format 2 sends most servers no vectors, and has room for longer ones.
+/// Format 2 has more: over keys it sends most servers seeds in place of vectors, which grow with the buckets.
 fn most_buckets(format: u32) -> u32
     ensures value { result ≡ ranges.most_buckets format }
     ensures most { result ≤ 16384 }

@@ -17,7 +17,6 @@ use Rattle.tk_table.specs.Laws.{IsSlotOf, IsLaidOut}
 use Rattle.tk_table.specs.Steps.{cleared, cleared_all}
 use Rattle.tk_frames.specs.Lists.{IsIn}
 use Rattle.tk_frames.proofs.Offers.{all_in, all-at}
-use Rattle.tk_table.proofs.Ascending.{ascend-lower}
 use Rattle.tk_table.proofs.AsWritten.{entry-record}
 use Rattle.tk_table.proofs.Buckets.{bucket-map}
 use Rattle.tk_table.proofs.InWindow.{retained-in_window}

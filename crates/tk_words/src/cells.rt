@@ -88,25 +88,29 @@ pub(crate) fn cell_seeds_and_vectors(
     ensures vectors { vectors.new ≡ joined (for_each (piece_vector shape.now) (cell_pieces shape.now cell.now)) }
 {
     let count = 2 * (shape.servers as usize - 1);
-    let (front, back) = (shape.seed_len() as usize, shape.vector_len() as usize);
-    take_apart(&cell[8..], count, front, back, seeds, vectors);
+    let halves = Halves {
+        front: shape.seed_len() as usize,
+        back: shape.vector_len() as usize,
+    };
+    take_apart(&cell[8..], count, halves, seeds, vectors);
+}
+
+// How many bytes the front and the back of a piece have.
+#[derive(Clone, Copy)]
+struct Halves {
+    front: usize,
+    back: usize,
 }
 
 // Cuts so many pieces in two, and puts their fronts one after the other, and likewise their backs.
-fn take_apart(
-    bytes: &[u8],
-    count: usize,
-    front: usize,
-    back: usize,
-    fronts: &mut [u8],
-    backs: &mut [u8],
-)
-    requires whole { length bytes.now ≡ count * (front + back) }
-    requires fronts_room { length fronts.old ≡ count * front }
-    requires backs_room { length backs.old ≡ count * back }
-    ensures fronts { fronts.new ≡ flat_map (take front) (pieces (front + back) count bytes.now) }
-    ensures backs { backs.new ≡ flat_map (drop front) (pieces (front + back) count bytes.now) }
+fn take_apart(bytes: &[u8], count: usize, halves: Halves, fronts: &mut [u8], backs: &mut [u8])
+    requires whole { length bytes.now ≡ count * (halves.front + halves.back) }
+    requires fronts_room { length fronts.old ≡ count * halves.front }
+    requires backs_room { length backs.old ≡ count * halves.back }
+    ensures fronts { fronts.new ≡ flat_map (take halves.front) (pieces (halves.front + halves.back) count bytes.now) }
+    ensures backs { backs.new ≡ flat_map (drop halves.front) (pieces (halves.front + halves.back) count bytes.now) }
 {
+    let Halves { front, back } = halves;
     let mut rest = bytes;
     'pieces: for i in 0..count {
         let (piece, after) = rest.split_at(front + back);

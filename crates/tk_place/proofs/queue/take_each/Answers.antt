@@ -16,7 +16,7 @@ take_place-taken-requires-clause-link c =
 
 pub loop-slot-preserved : goal.loop-slot-preserved
 loop-slot-preserved c =
-    let others = c.args.others.now in
+    let others = c.args.named.others.now in
     let slot = c.loop-slot.slot in
     let slots : List (Option ℕ) = map (λ b. Some b) others in
     let within : slot < length others = omega arith in
@@ -27,8 +27,8 @@ loop-slot-preserved c =
     let e = c.take_place-taken.ensures.places in (
       subst (IsStamped c.take_place-taken.new.places c.take_place-taken.result c.take_place-taken.new.stamps c.args.stamp)
           c.loop-slot.auto.stamps c.take_place-taken.ensures.stamped,
-      subst (IsAdding slots old c.args.place (slot + 1)) (sym e)
-          (adding_on slots old c.args.place slot so_far _ c.loop-slot.invariant.1
+      subst (IsAdding slots old c.args.named.place (slot + 1)) (sym e)
+          (adding_on slots old c.args.named.place slot so_far _ c.loop-slot.invariant.1
           (omega (arith, before, c.requires.place)) (omega (arith, within, long))
           (get_or-map (λ (b : ℕ). Some b) others slot 0 None within)),
     )

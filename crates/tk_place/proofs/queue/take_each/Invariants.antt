@@ -8,5 +8,5 @@ use Rattle.tk_place.proofs.queue.take_each.Given as goal
 abbrev pub invariant-loop-slot : goal.invariant-loop-slot
 invariant-loop-slot l =
     IsStamped l.places l.taken l.stamps l.stamp (length l.initial.stamps)
-    × IsAdding (map (λ b. Some b) l.others) (places_from [] (take l.len l.initial.places)) l.place l.slot
+    × IsAdding (map (λ b. Some b) l.named.others.now) (places_from [] (take l.len l.initial.places)) l.named.place l.slot
     (places_from [] (take l.taken l.places))
