@@ -52,3 +52,16 @@ sums_add width size blocks [] h k = ap (xor_all width) (chosen_from-zeros size 0
 sums_add width size blocks (v ∷ vs) h k =
     two_vectors width 0 blocks v (xor_all size vs) h (k.0 ∙ sym (length-xor_all size vs k.1))
     ∙ ap (xor_bytes (chosen_sum width blocks v)) (sums_add width size blocks vs h k.1)
+
+pub length-chosen_sum : (width : ℕ) (blocks : List (List ℕ)) (v : List ℕ) → AllSized width blocks →
+    length (chosen_sum width blocks v) ≡ width
+unfolding chosen_sum
+length-chosen_sum width blocks v h = length-chosen width 0 blocks v h
+
+-- what two joined vectors choose is what each of them chooses, joined
+pub chosen_sum-joined : (width : ℕ) (blocks : List (List ℕ)) (v w : List ℕ) → AllSized width blocks →
+    length v ≡ length w →
+    chosen_sum width blocks (xor_bytes v w)
+    ≡ xor_bytes (chosen_sum width blocks v) (chosen_sum width blocks w)
+unfolding chosen_sum
+chosen_sum-joined width blocks v w h e = two_vectors width 0 blocks v w h e

@@ -57,3 +57,11 @@ completed_answers width size i blocks drawn h e k less =
     one_chosen width size i (omega arith) 0 i blocks h (omega arith) less
     ∙ ap (λ v. Some (chosen_sum width blocks v)) (sym (completed_join size i drawn k))
     ∙ ap Some (sums_add width size blocks (completed size i drawn) h (AllSized-append size drawn (last_share size i drawn ∷ []) k (length-last_share size i drawn k, tt)))
+
+-- a unit vector chooses its block alone
+pub unit-chosen : (width size i : ℕ) (blocks : List (List ℕ)) → AllSized width blocks →
+    length blocks ≡ 8 * size → i < length blocks →
+    slice_get blocks i ≡ Some (chosen_sum width blocks (unit_vector size i))
+unfolding chosen_sum
+unit-chosen width size i blocks h e less =
+    one_chosen width size i (omega arith) 0 i blocks h (omega arith) less

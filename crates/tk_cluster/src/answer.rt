@@ -1,9 +1,11 @@
-ghost use Rattle.std.specs.Prelude.{◌≡◌, ◌≤◌, ℕ, List, None, IfOk, IfErr, OnOk};
+ghost use Rattle.std.specs.Prelude.{◌≡◌, ◌≤◌, ℕ, List, length, None, IfOk, IfErr, OnOk};
 ghost use Rattle.tk_shape.specs.declared.shape.Shape.{Shape};
+ghost use Rattle.tk_shape.specs.Lengths.{width};
 ghost use Rattle.tk_frames.specs.declared.entry.Placed.{Placed};
 ghost use Rattle.tk_frames.specs.Faults.{first_fault, read_checks};
 ghost use Rattle.tk_bloom.specs.Filters.{all_marked};
 ghost use Rattle.tk_table.specs.Shown.{is_shown};
+ghost use Rattle.tk_table.specs.Table.{layout, blocks_of};
 ghost use Rattle.tk_replica.specs.Replies.{reply_bytes};
 ghost use Rattle.tk_replica.specs.Epochs.{filter_of, IsEpochOf};
 ghost use Rattle.tk_frames.specs.Order.{before};
@@ -17,6 +19,7 @@ use tk_bloom::Filter;
 use tk_frames::{ReadFrame, decode_read};
 use tk_replica::Epoch;
 use tk_shape::Bytes;
+use tk_table::Snapshot;
 
 impl EpochSet {
     /// What is worth reading in its epochs.
@@ -28,6 +31,17 @@ impl EpochSet {
             → all_marked result.now hits ≡ is_shown shape (before E self.now.number) hits }
     {
         self.epoch(1).filter()
+    }
+
+    /// A server's blocks: the bytes of each bucket of its epoch.
+    pub fn blocks(&self, server: u32) -> &Snapshot
+        requires server { (1 ≤ server) × (server ≤ self.now.shape.servers) }
+        ensures count { length result.now.blocks ≡ self.now.shape.buckets }
+        ensures width { result.now.width ≡ width self.now.shape }
+        ensures stands { (shape : Shape) (E : List Placed) → Stands shape E self.now.number self.now
+            → result.now.blocks ≡ blocks_of (layout shape (before E self.now.number)) }
+    {
+        self.epoch(server).blocks()
     }
 
     /// A server's reply frame to a read frame of its epoch. It waits for nobody.

@@ -32,6 +32,13 @@ impl EpochSet {
         self.number
     }
 
+    /// The shape of its epochs.
+    pub fn shape(&self) -> &Shape
+        ensures { result.now ≡ self.now.shape }
+    {
+        &self.shape
+    }
+
     /// How many servers it has an epoch of.
     pub fn servers(&self) -> u32
         ensures { result ≡ self.now.shape.servers }

@@ -1,3 +1,4 @@
+pub mod Asked
 pub mod BigEndian
 pub mod Bounds
 pub mod Checking

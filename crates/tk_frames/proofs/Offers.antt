@@ -3,6 +3,8 @@
 -- A read and a reply are read from their spelling.
 pub use Rattle.tk_frames.proofs.ReadLaws.{read-again}
 pub use Rattle.tk_frames.proofs.Frames.{reply-again}
+-- What passes the checks of a frame that names who asks, and what is read from its spelling.
+pub use Rattle.tk_frames.proofs.Asked.{AskerFits, asker-again, StandAsked, asked_stands, asked_passes}
 -- How many turns a shape has at most.
 pub use Rattle.tk_frames.proofs.Bounds.{turn_count_small}
 -- What stands before a mark.

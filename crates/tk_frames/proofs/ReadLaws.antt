@@ -20,7 +20,7 @@ use Rattle.tk_frames.specs.Faults.{Check, first_fault, asker_checks, read_len_of
 use Rattle.tk_frames.proofs.BigEndian.{IsBytes}
 use Rattle.tk_frames.proofs.Checking.{none-first, none-both}
 use Rattle.tk_frames.proofs.Heads.{HasHead, head-join, head_stands, head_passes}
-use Rattle.tk_frames.proofs.Frames.{AskerFits, asker_stands, asker_passes, asker-again, parts-join}
+use Rattle.tk_frames.proofs.Asked.{AskerFits, asker_stands, asker_passes, asker-again, parts-join}
 
 abbrev frame_of : ℕ → ℕ → ℕ → List ℕ → List ℕ → Seeds → ReadFrame
 frame_of client turn epoch first second seeds =

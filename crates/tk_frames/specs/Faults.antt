@@ -56,7 +56,7 @@ write_field_checks shape fields =
     ∷ check_on name.Second (number_at 12 fields) (nat_lt (number_at 12 fields) shape.buckets)
     ∷ map (hit_check shape) (numbers shape.hits (drop 16 fields))
 
--- whom a read or a reply names
+-- whom a read or a reply is of
 abbrev pub asker_checks : Shape → List ℕ → List Check
 asker_checks shape bytes =
     client_check shape (number_at 2 bytes)
@@ -73,6 +73,10 @@ position_check shape bytes =
 abbrev pub write_checks : Shape → List ℕ → List Check
 write_checks shape bytes = head_checks (write_len shape) 1 bytes ++ write_field_checks shape (drop 2 bytes)
 
+-- a frame of a kind and a length that names whom it is of
+abbrev pub asked_checks : Shape → ℕ → ℕ → List ℕ → List Check
+asked_checks shape want kind bytes = head_checks want kind bytes ++ asker_checks shape bytes
+
 -- the length of a read of a kind
 abbrev pub read_len_of : Shape → ℕ → ℕ
 read_len_of shape kind =
@@ -82,7 +86,7 @@ read_len_of shape kind =
 
 -- a read of a kind
 abbrev pub read_checks_of : Shape → ℕ → List ℕ → List Check
-read_checks_of shape kind bytes = head_checks (read_len_of shape kind) kind bytes ++ asker_checks shape bytes
+read_checks_of shape kind bytes = asked_checks shape (read_len_of shape kind) kind bytes
 
 -- a read of any kind: the kind comes first, since reads differ in length
 abbrev pub any_read_checks : Shape → List ℕ → List Check
@@ -98,7 +102,7 @@ read_checks shape bytes =
     if shape.format == 2 then any_read_checks shape bytes else read_checks_of shape 2 bytes
 
 abbrev pub reply_checks : Shape → List ℕ → List Check
-reply_checks shape bytes = head_checks (reply_len shape) 3 bytes ++ asker_checks shape bytes
+reply_checks shape bytes = asked_checks shape (reply_len shape) 3 bytes
 
 abbrev pub mark_checks : Shape → List ℕ → List Check
 mark_checks shape bytes =

@@ -37,13 +37,15 @@ told Plain first second = first ++ second
 told (Seeded seeds) first second = seeds
 told (Shown seeds) first second = seeds ++ (first ++ second)
 
+-- a frame of a kind that names a client, a turn and an epoch, and has these bytes behind them
+abbrev pub asked_frame : ℕ → ℕ → ℕ → ℕ → List ℕ → List ℕ
+asked_frame kind client turn epoch rest = kind ∷ 1 ∷ (be32 client ++ be32 turn ++ be32 epoch ++ rest)
+
 abbrev pub read_frame : ReadFrame → List ℕ
-read_frame r =
-    read_kind r.seeds ∷ 1
-    ∷ (be32 r.client ++ be32 r.turn ++ be32 r.epoch ++ told r.seeds r.first r.second)
+read_frame r = asked_frame (read_kind r.seeds) r.client r.turn r.epoch (told r.seeds r.first r.second)
 
 abbrev pub reply_frame : ReplyFrame → List ℕ
-reply_frame r = 3 ∷ 1 ∷ (be32 r.client ++ be32 r.turn ++ be32 r.epoch ++ r.first ++ r.second)
+reply_frame r = asked_frame 3 r.client r.turn r.epoch (r.first ++ r.second)
 
 -- an entry of the order with its position: a mark, or a record
 abbrev pub entry_frame : ℕ → Entry → List ℕ

@@ -4,7 +4,7 @@ ghost use Rattle.std.specs.Result.{result_err};
 ghost use Rattle.tk_frames.specs.declared.fault.FrameError.TheVariants as fault;
 ghost use Rattle.tk_frames.specs.Fields.{numbers};
 ghost use Rattle.tk_frames.specs.Faults.{first_fault, head_checks, hit_check, write_field_checks};
-ghost use Rattle.tk_frames.specs.Faults.{asker_checks, position_check, write_checks, read_checks};
+ghost use Rattle.tk_frames.specs.Faults.{asker_checks, asked_checks, position_check, write_checks, read_checks};
 ghost use Rattle.tk_frames.specs.Faults.{read_len_of, read_checks_of, any_read_checks};
 ghost use Rattle.tk_frames.specs.Faults.{reply_checks, mark_checks, record_checks};
 
@@ -53,6 +53,15 @@ fn check_asker(shape: &Shape, bytes: &[u8]) -> Result<(), FrameError>
     check(turn < shape.turns(), Name::Turn, turn)?;
     let epoch = u32_at(bytes, 10);
     check(epoch <= shape.phases, Name::Epoch, epoch)
+}
+
+/// Whether bytes have this kind and length, and name a client, a turn and an epoch in range, as a read and a reply do.
+pub fn check_asked(shape: &Shape, bytes: &[u8], want: u32, kind: u8) -> Result<(), FrameError>
+    requires { 14 ≤ want }
+    ensures { result_err result ≡ first_fault (asked_checks shape.now want kind bytes.now) }
+{
+    check_head(bytes, want, kind)?;
+    check_asker(shape, bytes)
 }
 
 fn check_hits(shape: &Shape, bytes: &[u8]) -> Result<(), FrameError>
@@ -133,8 +142,7 @@ fn check_any_read(shape: &Shape, bytes: &[u8]) -> Result<(), FrameError>
 fn check_read_of(shape: &Shape, kind: u8, bytes: &[u8]) -> Result<(), FrameError>
     ensures { result_err result ≡ first_fault (read_checks_of shape.now kind bytes.now) }
 {
-    check_head(bytes, read_len_of(shape, kind), kind)?;
-    check_asker(shape, bytes)
+    check_asked(shape, bytes, read_len_of(shape, kind), kind)
 }
 
 /// The length of a read of a kind.
@@ -152,8 +160,7 @@ fn read_len_of(shape: &Shape, kind: u8) -> u32
 pub fn check_reply(shape: &Shape, bytes: &[u8]) -> Result<(), FrameError>
     ensures { result_err result ≡ first_fault (reply_checks shape.now bytes.now) }
 {
-    check_head(bytes, shape.reply_len(), kind::REPLY)?;
-    check_asker(shape, bytes)
+    check_asked(shape, bytes, shape.reply_len(), kind::REPLY)
 }
 
 pub fn check_mark(shape: &Shape, bytes: &[u8]) -> Result<(), FrameError>

@@ -6,6 +6,8 @@ ghost use Rattle.std.specs.List.{flat_map};
 ghost use Rattle.tk_frames.specs.Spelling.{be32, be64, write_fields, write_frame, read_frame};
 ghost use Rattle.tk_frames.specs.Spelling.{reply_frame, placed_frame};
 ghost use Rattle.tk_frames.specs.Ranges.{AreTold};
+ghost use Rattle.tk_frames.specs.declared.write_frame.WriteFrame.{WriteFrame};
+ghost use Rattle.tk_frames.specs.declared.entry.Entry.TheVariants.{Write};
 
 use crate::kind::{self, VERSION};
 use crate::{Entry, Placed, ReadFrame, ReplyFrame, Seeds, WriteFrame};
@@ -102,6 +104,20 @@ pub fn encode_placed(frame: &Placed, out: &mut Vec<u8>) -> Result<(), Memory>
     }
 }
 
+/// Appends the one spelling of a record at a position whose write a frame spells: all of that frame but its head.
+pub fn encode_record(position: u64, frame: &[u8], out: &mut Vec<u8>) -> Result<(), Memory>
+    requires spelled { (write : WriteFrame) × (frame.now ≡ write_frame write) }
+    ensures ok { (write : WriteFrame) → frame.now ≡ write_frame write → OnOk result
+        (out.new.items ≡ out.old.items ++ placed_frame (record { position = position; entry = Write write })) }
+    ensures err { OnErr result (out.new.items ≡ out.old.items) }
+{
+    out.reserve(frame.len().saturating_add(8))?;
+    put(out, &[kind::RECORD, VERSION]);
+    put_u64(out, position);
+    put(out, &frame[2..]);
+    Ok(())
+}
+
 /// Appends the one spelling of a read. Vectors that seeds alone tell are what the seeds expand to.
 pub fn encode_read(frame: &ReadFrame, out: &mut Vec<u8>) -> Result<(), Memory>
     requires told { AreTold frame.now.seeds frame.now.first frame.now.second }
@@ -131,8 +147,9 @@ pub fn encode_reply(frame: &ReplyFrame, out: &mut Vec<u8>) -> Result<(), Memory>
     encode_asked(kind::REPLY, asker, &[], first, second, out)
 }
 
-/// What a read or a reply begins with: its kind, the version and who asks.
-fn head_of(kind: u8, asker: [u32; 3]) -> [u8; 14]
+/// What a frame begins with that names who asks, as a read and a reply do: its kind, the version, and the client, turn
+/// and epoch.
+pub fn head_of(kind: u8, asker: [u32; 3]) -> [u8; 14]
     ensures { result ≡ kind ∷ 1 ∷ flat_map be32 asker }
 {
     let [client, turn, epoch] = asker;

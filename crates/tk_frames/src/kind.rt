@@ -1,4 +1,4 @@
-//! The first two bytes of a frame: its kind, and the version.
+//! The first two bytes of a frame: its kind, and the version. Kinds 8 to 10 are those of reads by way of a server.
 
 pub const WRITE: u8 = 1;
 

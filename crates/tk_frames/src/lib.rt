@@ -15,8 +15,9 @@ mod seeds;
 mod value;
 mod write_frame;
 
+pub use check::check_asked;
 pub use decode::{decode_placed, decode_read, decode_reply, decode_write};
-pub use encode::{encode_placed, encode_read, encode_reply, encode_write};
+pub use encode::{encode_placed, encode_read, encode_record, encode_reply, encode_write, head_of};
 pub use entry::{Entry, Placed};
 pub use fault::{FrameError, Name};
 pub use laws::{before_a_mark, each_fault, lengths, one_spelling};

@@ -1,13 +1,13 @@
 ghost use Rattle.std.specs.Prelude.{◌≡◌, ◌≤◌, ◌<◌, ◌+◌, ◌-◌, ◌++◌, ℕ, List, [], Ok, length, map};
 ghost use Rattle.std.specs.Prelude.{flat_map};
-ghost use Rattle.std.specs.Prelude.{All, IsTrue, IfOk, OnErr, count_by, slice_index_or};
+ghost use Rattle.std.specs.Prelude.{All, IsTrue, IfOk, OnOk, OnErr, count_by, slice_index_or};
+ghost use Rattle.tk_shape.specs.declared.shape.Shape.{Shape};
 ghost use Rattle.std.specs.List.{list_all};
 ghost use Rattle.tk_io.specs.Content.{Rose};
 ghost use Rattle.tk_shape.specs.Lengths.{turn_count};
 ghost use Rattle.tk_schedule.specs.Schedule.{is_within, is_mark, phase_of};
 ghost use Rattle.tk_frames.specs.declared.write_frame.WriteFrame.{WriteFrame};
 ghost use Rattle.tk_frames.specs.Spelling.{placed_frame};
-ghost use Rattle.tk_frames.specs.Ranges.{IsEntry};
 ghost use Rattle.tk_report.specs.Entries.{placed_from};
 ghost use Rattle.tk_report.specs.Turns.{entry_due};
 ghost use Rattle.tk_run.specs.Acting.{AreFrames};
@@ -20,7 +20,7 @@ use crate::talking::Talk;
 use std::alloc::{AllocGlobal, Global};
 use std::thread;
 use std::thread::Threads;
-use tk_frames::{Entry, Placed, decode_write, encode_placed};
+use tk_frames::{Entry, Placed, encode_placed, encode_record};
 use tk_io::{Failed, Taps};
 use tk_schedule::{Item, place};
 use tk_shape::{Bytes, Memory, Shape};
@@ -45,41 +45,33 @@ pub(crate) fn entries_from(
 {
     let mut bytes = Vec::new(alloc);
     let start = behind(shape, turn);
+    let (phase, _) = place(shape, turn);
     'items: for (i, item) in order.iter().enumerate() {
-        let entry = entry_from(alloc, shape, turn, item, frames)?;
         let position = start + i as u64 + 1;
-        encode_placed(&Placed { position, entry }, &mut bytes)?;
+        put_entry(phase, position, item, frames, &mut bytes)?;
     }
     Ok(bytes)
 }
 
-/// The entry of an item of a turn.
-fn entry_from(
-    alloc: Global,
-    shape: &Shape,
-    turn: u32,
+/// Appends the frame of an item's entry at a position, in a turn of this phase.
+fn put_entry(
+    phase: u32,
+    position: u64,
     item: &Item,
     frames: &[Bytes],
-) -> Result<Entry, Memory>
-    requires turn_in { turn < turn_count shape.now }
-    requires item { IsTrue (is_within shape.now.clients item.now) }
-    requires frames { (write : ℕ → WriteFrame) × AreFrames shape.now write frames.now }
-    ensures in_range { IfOk result (IsEntry shape.now) }
-    ensures entry { (write : ℕ → WriteFrame) → AreFrames shape.now write frames.now
-        → IfOk result (λ e. e ≡ entry_due write (phase_of shape.now turn) item.now) }
+    out: &mut Vec<u8>,
+) -> Result<(), Memory>
+    requires { (shape : Shape) × (write : ℕ → WriteFrame) × AreFrames shape write frames.now
+        × IsTrue (is_within shape.clients item.now) }
+    ensures { (shape : Shape) (write : ℕ → WriteFrame) → AreFrames shape write frames.now
+        → IsTrue (is_within shape.clients item.now) → OnOk result (out.new.items ≡ out.old.items
+        ++ placed_frame (record { position = position; entry = entry_due write phase item.now })) }
 {
     match item {
-        Item::Client(client) => {
-            let frame = frames[*client as usize].as_slice();
-            // what a client sends is a write frame, so that only memory may be wanting
-            let Ok(write) = decode_write(alloc, shape, frame) else {
-                return Err(Memory);
-            };
-            Ok(Entry::Write(write))
-        }
+        Item::Client(client) => encode_record(position, frames[*client as usize].as_slice(), out),
         Item::Publish => {
-            let (phase, _) = place(shape, turn);
-            Ok(Entry::Mark(phase))
+            let entry = Entry::Mark(phase);
+            encode_placed(&Placed { position, entry }, out)
         }
     }
 }
