@@ -9,7 +9,7 @@ use Rattle.tk_shape.specs.Lengths.{tape_len}
 use Rattle.tk_words.specs.Words.{IsBook}
 use Rattle.tk_script.specs.declared.keys.Keys.{Keys}
 use Rattle.tk_script.specs.declared.form.Form.{Form}
-use Rattle.tk_script.specs.declared.form.Form.TheVariants.{Run, View, Mirror}
+use Rattle.tk_script.specs.declared.form.Form.TheVariants.{Run, View, Mirror, Wrong}
 use Rattle.tk_script.specs.declared.input.RawTape.{RawTape}
 use Rattle.tk_script.specs.declared.input.Input.{Input}
 use Rattle.tk_script.specs.Book.{book_from, book_of, IsWholeTape, HasTape}
@@ -38,6 +38,7 @@ ends-with_tape : (form : Form) (bytes : List ℕ) (input : Input) → Spells for
 ends-with_tape Run bytes input spelled = (spelled.rest, spelled.tape)
 ends-with_tape View bytes input spelled = (spelled.rest, spelled.tape)
 ends-with_tape Mirror bytes input spelled = (spelled.rest, spelled.tape)
+ends-with_tape Wrong bytes input spelled = (spelled.rest, spelled.tape)
 
 pub spelled-HasTape : (form : Form) (bytes : List ℕ) (input : Input) → Spells form bytes input →
     HasTape input.first.shape input.first.keys input.tape

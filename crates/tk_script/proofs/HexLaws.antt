@@ -27,11 +27,16 @@ two_parts : (word digits : List ℕ) → LacksSpace word → LacksSpace digits �
     parts_of (fields (word ∷ digits ∷ [])) ≡ word ∷ digits ∷ []
 two_parts word digits p q = split_field word digits p ∙ ap (λ t. word ∷ t) (one_field digits q)
 
+-- digits of so many bytes give them
+pub counted_taken : (digits bytes : List ℕ) (count : ℕ) → decode_of digits ≡ Ok bytes →
+    length bytes ≡ count → counted count (bytes_in digits) ≡ Ok bytes
+counted_taken digits bytes count decoded long =
+    ap (λ r. counted count (bytes_found r)) decoded ∙ rw (eq-eqb (length bytes) count long) refl
+
 hex_taken : (word digits bytes : List ℕ) (count : ℕ) → decode_of digits ≡ Ok bytes →
     length bytes ≡ count → read_hex word count (word ∷ digits ∷ []) ≡ Ok bytes
 hex_taken word digits bytes count decoded long =
-    rw (same_bytes word)
-    (ap (λ r. counted count (bytes_found r)) decoded ∙ rw (eq-eqb (length bytes) count long) refl)
+    rw (same_bytes word) (counted_taken digits bytes count decoded long)
 
 -- a word and digits give their bytes
 pub read_bytes-taken : (word line digits bytes : List ℕ) (count : ℕ) → LacksSpace word →
@@ -49,7 +54,7 @@ pub record Taken (word line : List ℕ) (count : ℕ) (bytes : List ℕ) : Type 
   pub decoded : decode_of digits ≡ Ok bytes
   pub counted : length bytes ≡ count
 
-found_is : (count : ℕ) (r : Result (List ℕ) FromHexError) (bytes : List ℕ) →
+pub found_is : (count : ℕ) (r : Result (List ℕ) FromHexError) (bytes : List ℕ) →
     counted count (bytes_found r) ≡ Ok bytes → (r ≡ Ok bytes) × (length bytes ≡ count)
 found_is count (Ok found) bytes e =
     let test = ok_if (length found == count) found bytes cause.Form e in
@@ -79,7 +84,7 @@ read_bytes-is word line count bytes e =
 
 -- ---- lines of no such form
 
-abbrev IsNever : Verdict (List ℕ) → Type 0
+abbrev pub IsNever : Verdict (List ℕ) → Type 0
 IsNever r = (bytes : List ℕ) → r ≡ Ok bytes → ⊥
 
 cond_form : (b : Bool) (bytes : List ℕ) → IsNever (ok_or b bytes cause.Form) →
@@ -87,7 +92,7 @@ cond_form : (b : Bool) (bytes : List ℕ) → IsNever (ok_or b bytes cause.Form)
 cond_form true bytes never = absurd (never bytes refl)
 cond_form false bytes never = refl
 
-counted_form : (count : ℕ) (o : Option (List ℕ)) → IsNever (counted count o) →
+pub counted_form : (count : ℕ) (o : Option (List ℕ)) → IsNever (counted count o) →
     counted count o ≡ Err cause.Form
 counted_form count None never = refl
 counted_form count (Some bytes) never = cond_form (length bytes == count) bytes never

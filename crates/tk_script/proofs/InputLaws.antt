@@ -1,30 +1,33 @@
 -- An input that is read line by line is the one that the text spells, form by form.
-use Rattle.std.proofs.Common.{◌≡◌, ◌∙◌, ℕ, List, Bool, true, false, IsTrue, Option, Some, None, Result, Ok, Err, refl, ap, ap₂, sym, subst, arith}
+use Rattle.std.proofs.Common.{◌≡◌, ◌∙◌, ℕ, List, Bool, true, false, IsTrue, Option, Some, None, Result, Ok, Err, refl, ap, sym, subst, arith}
 use Rattle.std.specs.Prelude.{is_some, IfOk}
 use Rattle.std.specs.Option.{option_map}
 use Rattle.tk_schedule.specs.declared.raw.RawLine.{RawLine}
 use Rattle.tk_script.specs.declared.error.ScriptError.{ScriptError}
 use Rattle.tk_script.specs.declared.error.ScriptError.TheVariants.{Memory, Line as Refused}
 use Rattle.tk_script.specs.declared.form.Form.{Form}
-use Rattle.tk_script.specs.declared.form.Form.TheVariants.{Run, View, Mirror}
+use Rattle.tk_script.specs.declared.form.Form.TheVariants.{Run, View, Mirror, Wrong}
 use Rattle.tk_script.specs.declared.input.Input.{Input}
 use Rattle.tk_script.specs.declared.input.RawTape.{RawTape}
 use Rattle.tk_script.specs.declared.keys.Keys.{Keys}
+use Rattle.tk_script.specs.declared.reply.RawReply.{RawReply}
 use Rattle.tk_script.specs.declared.script.Script.{Script}
+use Rattle.tk_script.specs.declared.two_scripts.TwoScripts.{TwoScripts}
 use Rattle.tk_script.specs.Answer.{IsMemory, IsRefusal, Gives, Agrees}
-use Rattle.tk_script.specs.Grammar.{Line, lines_of, number_of_first, BeginsWithHistory, EndsWithTape, IsRunInput, IsViewInput, IsMirrorInput, Spells}
+use Rattle.tk_script.specs.Grammar.{Line, lines_of, number_of_first, BeginsWithHistory, BeginsWithTwo, EndsWithTape, IsRunInput, IsViewInput, IsMirrorInput, IsWrongInput, Spells}
 use Rattle.tk_script.specs.Laws.{SpellsOne, ReadsWhatIsSpelled, GivesInputs}
-use Rattle.tk_script.specs.Reading.{Place, ScriptLines, InputLines, front, read_script, read_history, read_tape_of, read_run, read_view, read_mirror, read_input, script_lines, input_lines}
+use Rattle.tk_script.specs.Reading.{Place, ScriptLines, TwoLines, InputLines, front, read_script, read_history, read_replies, read_tape_of, read_run, read_view, read_two, read_mirror, read_wrong, read_input, script_lines, two_lines, lines_with, input_lines}
 use Rattle.tk_script.proofs.AnswerLaws.{then_said}
 use Rattle.tk_script.proofs.CauseLaws.{IsDue}
 use Rattle.tk_script.proofs.EndLaws.{end_from, end_whole_of}
 use Rattle.tk_script.proofs.HistoryLaws.{history_from, history_whole}
 use Rattle.tk_script.proofs.OptionLaws.{ok_same}
+use Rattle.tk_script.proofs.ReplyLaws.{replies_whole, replies_from}
 use Rattle.tk_script.proofs.RowLaws.{Steps, then_steps, then_from}
 use Rattle.tk_script.proofs.ScriptLaws.{same_script, same_input}
 use Rattle.tk_script.proofs.ShapeLaws.{same_named}
 use Rattle.tk_script.proofs.SpelledLaws.{script_read, script_whole}
-use Rattle.tk_script.proofs.WordLaws.{at}
+use Rattle.tk_script.proofs.WordLaws.{at, Comes}
 
 -- an input of these lines, of which this holds
 pub record InputOf (P : Input → Type 0) (t : InputLines) : Type 0 where
@@ -32,10 +35,10 @@ pub record InputOf (P : Input → Type 0) (t : InputLines) : Type 0 where
   pub spelled : P input
   pub is : t ≡ input_lines input
 
-abbrev lines_with : Option ScriptLines → Option (List RawLine) → Option RawTape → ScriptLines →
-    InputLines
-lines_with second history tape first =
-    record { first = first; second = second; history = history; tape = tape }
+abbrev lines_by : Option ScriptLines → Option (List RawLine) → Option (List RawReply) →
+    Option RawTape → ScriptLines → InputLines
+lines_by second history replies tape first =
+    record { first = first; second = second; history = history; replies = replies; tape = tape }
 
 -- ---- the tape after the sections
 
@@ -66,12 +69,18 @@ due_drawn None due = refl
 due_drawn (Some keys) due = absurd (cc (due refl))
 
 -- what an input says, by its parts
-lines_are : (input : Input) (second : Option Script) (history : Option (List RawLine)) →
-    input.second ≡ second → input.history ≡ history → (lines_with (option_map script_lines second)
-    history input.tape (script_lines input.first)) ≡ input_lines input
-lines_are input second history s h =
-    ap₂ (λ (o : Option Script) (r : Option (List RawLine)). lines_with (option_map script_lines o) r
-    input.tape (script_lines input.first)) (sym s) (sym h)
+lines_are : (input : Input) (second : Option Script) (history : Option (List RawLine))
+    (replies : Option (List RawReply)) → input.second ≡ second → input.history ≡ history →
+    input.replies ≡ replies →
+    lines_by (option_map script_lines second) history replies input.tape (script_lines input.first)
+    ≡ input_lines input
+lines_are input second history replies s h r = λ i. record {
+  first = script_lines input.first;
+  second = option_map script_lines (sym s i);
+  history = sym h i;
+  replies = sym r i;
+  tape = input.tape;
+}
 
 -- ---- a script, and its tape
 
@@ -82,7 +91,7 @@ run_whole lines input s =
     let S = input.first in
     let script = script_whole true 1 lines S s.rest s.script (may_be_keyed (is_some S.keys)) in
     then_said _ script.1 (then_said _ (tape_whole S script.0 s.rest input.tape s.tape)
-    (ap Ok (lines_are input None None s.no_second s.no_history)))
+    (ap Ok (lines_are input None None None s.no_second s.no_history s.no_replies)))
 
 run_read : (lines : List Line) (t : InputLines) → read_run lines ≡ Ok t →
     InputOf (IsRunInput lines) t
@@ -91,14 +100,21 @@ run_read lines t e =
     let first = then_from (read_script true (front lines)) _ t e in
     let tape = then_from (read_tape_of first.0.0 first.0.1) _ t first.2 in
     let script = script_read true (front lines) first.0 first.1 in
-    let lines_of_input = lines_with None None tape.0 in
+    let lines_of_input = lines_by None None None tape.0 in
     record {
-      input = record { first = script.script; second = None; history = None; tape = tape.0 };
+      input = record {
+        first = script.script;
+        second = None;
+        history = None;
+        replies = None;
+        tape = tape.0;
+      };
       spelled = record {
         rest = first.0.1.rest;
         script = script.begins;
         no_second = refl;
         no_history = refl;
+        no_replies = refl;
         tape = tape_read script.script first.0.0 first.0.1 tape.0 script.is tape.1;
       };
       is = sym (ok_same (lines_of_input first.0.0) t tape.2) ∙ ap lines_of_input script.is;
@@ -120,7 +136,7 @@ view_whole lines input s =
     (sym (number_behind lines behind read.steps)) s.history) in
     then_said _ script.1 (then_said _ history.1
     (then_said _ (tape_whole S history.0 s.rest input.tape s.tape)
-    (ap Ok (lines_are input None (Some s.raw) s.no_second s.has_history))))
+    (ap Ok (lines_are input None (Some s.raw) None s.no_second s.has_history s.no_replies))))
 
 view_read : (lines : List Line) (t : InputLines) → read_view lines ≡ Ok t →
     InputOf (IsViewInput lines) t
@@ -132,9 +148,15 @@ view_read lines t e =
     let raw = history.0.0 in
     let tape = then_from (read_tape_of first.0.0 history.0.1) _ t history.2 in
     let script = script_read true (front lines) first.0 first.1 in
-    let lines_of_input = lines_with None (Some raw) tape.0 in
+    let lines_of_input = lines_by None (Some raw) None tape.0 in
     record {
-      input = record { first = script.script; second = None; history = Some raw; tape = tape.0 };
+      input = record {
+        first = script.script;
+        second = None;
+        history = Some raw;
+        replies = None;
+        tape = tape.0;
+      };
       spelled = record {
         behind_script = behind.rest;
         rest = history.0.1.rest;
@@ -144,76 +166,160 @@ view_read lines t e =
             (number_behind lines behind script.steps) (history_from behind history.0 history.1);
         no_second = refl;
         has_history = refl;
+        no_replies = refl;
         tape = tape_read script.script first.0.0 history.0.1 tape.0 script.is tape.1;
       };
       is = sym (ok_same (lines_of_input first.0.0) t tape.2) ∙ ap lines_of_input script.is;
     }
 
--- ---- two scripts of drawn words, a history, and a tape
+-- ---- two scripts of drawn words, and a history
 
-mirror_whole : (lines : List Line) (input : Input) → IsMirrorInput lines input →
-    read_mirror lines ≡ Ok (input_lines input)
-unfolding read_mirror
-mirror_whole lines input s =
-    let S = input.first in
-    let T = s.other in
+two_whole : (lines : List Line) (S T : Script) (raw : List RawLine) (rest : List Line) →
+    BeginsWithTwo lines S T raw rest →
+    Comes (read_two lines) (two_lines (record { first = S; second = T; history = raw })) rest
+unfolding read_two
+two_whole lines S T raw rest s =
     let first = script_whole false 1 lines S s.behind_script s.script
     (drawn_due S.keys s.first_drawn) in
     let behind = at first.0 s.behind_script in
-    let second = script_whole false first.0 s.behind_script T s.behind_scripts s.second
+    let second = script_whole false first.0 s.behind_script T s.behind_scripts s.other
     (drawn_due T.keys s.second_drawn) in
     let behind_both = at second.0 s.behind_scripts in
     let steps = then_steps (front lines) behind behind_both
     (script_read false (front lines) (script_lines S, behind) first.1).steps
     (script_read false behind (script_lines T, behind_both) second.1).steps in
-    let history = history_whole second.0 s.behind_scripts s.raw s.rest
-    (subst (λ n. BeginsWithHistory n s.behind_scripts s.raw s.rest)
+    let history = history_whole second.0 s.behind_scripts raw rest
+    (subst (λ n. BeginsWithHistory n s.behind_scripts raw rest)
     (sym (number_behind lines behind_both steps)) s.history) in
-    then_said _ first.1 (then_said _ second.1 (then_said _ history.1
-    (then_said _ (tape_whole S history.0 s.rest input.tape s.tape)
-    (ap Ok (lines_are input (Some T) (Some s.raw) s.has_second s.has_history)))))
+    (history.0, then_said _ first.1 (then_said _ second.1 (then_said _ history.1 refl)))
+
+-- the scripts and the history that were read
+record TwoOf (lines : List Line) (two : TwoLines) (rest : List Line) : Type 0 where
+  pub own : TwoScripts
+  pub is : two ≡ two_lines own
+  pub begins : BeginsWithTwo lines own.first own.second own.history rest
+
+two_read : (lines : List Line) (x : TwoLines × Place) → read_two lines ≡ Ok x →
+    TwoOf lines x.0 x.1.rest
+unfolding read_two
+two_read lines x e =
+    let first = then_from (read_script false (front lines)) _ x e in
+    let behind = first.0.1 in
+    let second = then_from (read_script false behind) _ x first.2 in
+    let behind_both = second.0.1 in
+    let history = then_from (read_history behind_both) _ x second.2 in
+    let raw = history.0.0 in
+    let one = script_read false (front lines) first.0 first.1 in
+    let other = script_read false behind second.0 second.1 in
+    let number = number_behind lines behind_both
+    (then_steps (front lines) behind behind_both one.steps other.steps) in
+    subst (λ (z : TwoLines × Place). TwoOf lines z.0 z.1.rest) (ok_same _ x history.2) (record {
+      own = record { first = one.script; second = other.script; history = raw };
+      is = λ i. record { first = one.is i; second = other.is i; history = raw };
+      begins = record {
+        behind_script = behind.rest;
+        behind_scripts = behind_both.rest;
+        script = one.begins;
+        other = other.begins;
+        history = subst (λ n. BeginsWithHistory n behind_both.rest raw history.0.1.rest) number
+            (history_from behind_both history.0 history.1);
+        first_drawn = due_drawn one.script.keys one.due;
+        second_drawn = due_drawn other.script.keys other.due;
+      };
+    })
+
+-- ---- with a tape
+
+mirror_whole : (lines : List Line) (input : Input) → IsMirrorInput lines input →
+    read_mirror lines ≡ Ok (input_lines input)
+unfolding read_mirror
+mirror_whole lines input s =
+    let two = two_whole lines input.first s.other s.raw s.rest s.two in
+    then_said _ two.1 (then_said _ (tape_whole input.first two.0 s.rest input.tape s.tape)
+    (ap Ok
+    (lines_are input (Some s.other) (Some s.raw) None s.has_second s.has_history s.no_replies)))
 
 mirror_read : (lines : List Line) (t : InputLines) → read_mirror lines ≡ Ok t →
     InputOf (IsMirrorInput lines) t
 unfolding read_mirror
 mirror_read lines t e =
-    let first = then_from (read_script false (front lines)) _ t e in
-    let behind = first.0.1 in
-    let second = then_from (read_script false behind) _ t first.2 in
-    let behind_both = second.0.1 in
-    let history = then_from (read_history behind_both) _ t second.2 in
-    let raw = history.0.0 in
-    let tape = then_from (read_tape_of first.0.0 history.0.1) _ t history.2 in
-    let one = script_read false (front lines) first.0 first.1 in
-    let other = script_read false behind second.0 second.1 in
-    let number = number_behind lines behind_both
-    (then_steps (front lines) behind behind_both one.steps other.steps) in
+    let first = then_from (read_two lines) _ t e in
+    let q = first.0.1 in
+    let two = two_read lines first.0 first.1 in
+    let tape = then_from (read_tape_of first.0.0.first q) _ t first.2 in
+    let is_first = ap (λ (z : TwoLines). z.first) two.is in
     record {
       input = record {
-        first = one.script;
-        second = Some other.script;
-        history = Some raw;
+        first = two.own.first;
+        second = Some two.own.second;
+        history = Some two.own.history;
+        replies = None;
         tape = tape.0;
       };
       spelled = record {
-        other = other.script;
-        behind_script = behind.rest;
-        behind_scripts = behind_both.rest;
-        rest = history.0.1.rest;
-        raw = raw;
-        script = one.begins;
-        second = other.begins;
-        history = subst (λ n. BeginsWithHistory n behind_both.rest raw history.0.1.rest) number
-            (history_from behind_both history.0 history.1);
-        first_drawn = due_drawn one.script.keys one.due;
-        second_drawn = due_drawn other.script.keys other.due;
+        other = two.own.second;
+        raw = two.own.history;
+        rest = q.rest;
+        two = two.begins;
         has_second = refl;
         has_history = refl;
-        tape = tape_read one.script first.0.0 history.0.1 tape.0 one.is tape.1;
+        no_replies = refl;
+        tape = tape_read two.own.first first.0.0.first q tape.0 is_first tape.1;
       };
-      is = sym (ok_same (lines_with (Some second.0.0) (Some raw) tape.0 first.0.0) t tape.2)
-          ∙ ap (lines_with (Some second.0.0) (Some raw) tape.0) one.is
-          ∙ ap (λ b. lines_with (Some b) (Some raw) tape.0 (script_lines one.script)) other.is;
+      is = sym (ok_same (lines_with None tape.0 first.0.0) t tape.2)
+          ∙ ap (lines_with None tape.0) two.is;
+    }
+
+-- ---- with replies and a tape
+
+wrong_whole : (lines : List Line) (input : Input) → IsWrongInput lines input →
+    read_wrong lines ≡ Ok (input_lines input)
+unfolding read_wrong
+wrong_whole lines input s =
+    let two = two_whole lines input.first s.other s.raw s.behind_history s.two in
+    let replies = replies_whole input.first.shape two.0 s.behind_history s.answers s.rest s.replies in
+    then_said _ two.1 (then_said _ replies.1
+    (then_said _ (tape_whole input.first replies.0 s.rest input.tape s.tape)
+    (ap Ok (lines_are input (Some s.other) (Some s.raw) (Some s.answers) s.has_second s.has_history
+    s.has_replies))))
+
+wrong_read : (lines : List Line) (t : InputLines) → read_wrong lines ≡ Ok t →
+    InputOf (IsWrongInput lines) t
+unfolding read_wrong
+wrong_read lines t e =
+    let first = then_from (read_two lines) _ t e in
+    let q = first.0.1 in
+    let two = two_read lines first.0 first.1 in
+    let second = then_from (read_replies first.0.0.first.numbers q) _ t first.2 in
+    let answers = second.0.0 in
+    let behind = second.0.1 in
+    let tape = then_from (read_tape_of first.0.0.first behind) _ t second.2 in
+    let is_first = ap (λ (z : TwoLines). z.first) two.is in
+    let numbers = ap (λ (z : ScriptLines). z.numbers) is_first in
+    record {
+      input = record {
+        first = two.own.first;
+        second = Some two.own.second;
+        history = Some two.own.history;
+        replies = Some answers;
+        tape = tape.0;
+      };
+      spelled = record {
+        other = two.own.second;
+        raw = two.own.history;
+        behind_history = q.rest;
+        answers = answers;
+        rest = behind.rest;
+        two = two.begins;
+        replies = replies_from two.own.first.shape q second.0
+            (ap (λ n. read_replies n q) (sym numbers) ∙ second.1);
+        has_second = refl;
+        has_history = refl;
+        has_replies = refl;
+        tape = tape_read two.own.first first.0.0.first behind tape.0 is_first tape.1;
+      };
+      is = sym (ok_same (lines_with (Some answers) tape.0 first.0.0) t tape.2)
+          ∙ ap (lines_with (Some answers) tape.0) two.is;
     }
 
 -- ---- an input of a form
@@ -223,12 +329,14 @@ spelled_is_read : (form : Form) (bytes : List ℕ) (input : Input) → Spells fo
 spelled_is_read Run bytes input s = run_whole (lines_of bytes) input s
 spelled_is_read View bytes input s = view_whole (lines_of bytes) input s
 spelled_is_read Mirror bytes input s = mirror_whole (lines_of bytes) input s
+spelled_is_read Wrong bytes input s = wrong_whole (lines_of bytes) input s
 
 input_read : (form : Form) (bytes : List ℕ) (t : InputLines) →
     read_input form (lines_of bytes) ≡ Ok t → InputOf (Spells form bytes) t
 input_read Run bytes t e = run_read (lines_of bytes) t e
 input_read View bytes t e = view_read (lines_of bytes) t e
 input_read Mirror bytes t e = mirror_read (lines_of bytes) t e
+input_read Wrong bytes t e = wrong_read (lines_of bytes) t e
 
 pub gives_inputs : GivesInputs
 gives_inputs form bytes t e =
@@ -253,7 +361,8 @@ one_of_lines : (x y : Input) → input_lines x ≡ input_lines y → x ≡ y
 one_of_lines x y e =
     same_input x y (one_script x.first y.first (ap (λ (z : InputLines). z.first) e))
     (one_second x.second y.second (ap (λ (z : InputLines). z.second) e))
-    (ap (λ (z : InputLines). z.history) e) (ap (λ (z : InputLines). z.tape) e)
+    (ap (λ (z : InputLines). z.history) e) (ap (λ (z : InputLines). z.replies) e)
+    (ap (λ (z : InputLines). z.tape) e)
 
 read_is_spelled : (form : Form) (bytes : List ℕ) (input : Input) →
     read_input form (lines_of bytes) ≡ Ok (input_lines input) → Spells form bytes input

@@ -7,6 +7,7 @@ pub mod TextLaws
 pub mod RowLaws
 pub mod RoleLaws
 pub mod SayLaws
+pub mod ReplyLaws
 pub mod ShapeLaws
 pub mod OptionLaws
 pub mod ListLaws
@@ -27,6 +28,8 @@ pub mod KeyLaws
 pub mod PartLaws
 pub mod CauseLaws
 pub mod HexLaws
+pub mod ThreeLaws
+pub mod OrderedLaws
 pub mod TapeLineLaws
 pub mod SaidLaws
 pub mod PlaceLaws

@@ -19,5 +19,7 @@ pub use Rattle.tk_script.proofs.SendingLaws.{free_after, free_after-append, of_l
 pub use Rattle.tk_script.proofs.SentLaws.{sent-is, sent-sealable, sent-once, sent-found, sent_as-is}
 -- the input of a text has the tape that its words want, and its words fit its shape
 pub use Rattle.tk_script.proofs.BookLaws.{spelled-HasTape, spelled-IsWholeTape, spelled-IsBook}
+-- the replies of an input are in range
+pub use Rattle.tk_script.proofs.ReplyLaws.{zip-replies}
 -- what a script in format 2 is
 pub use Rattle.tk_script.proofs.LiftLaws.{lifted-is}

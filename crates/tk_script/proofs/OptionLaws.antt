@@ -3,7 +3,7 @@ use Rattle.std.proofs.Common.{◌≡◌, Bool, true, false, cond, IsTrue, Option
 use Rattle.std.specs.Prelude.{IsSomeAnd, IfSome, IfOk}
 use Rattle.std.specs.Option.{IfNone}
 use Rattle.tk_script.specs.declared.cause.Cause.{Cause}
-use Rattle.tk_script.specs.Reading.{Verdict, seen_as}
+use Rattle.tk_script.specs.Reading.{Verdict, unless, seen_as}
 
 pub never : {A : Type 0} (o : Option A) (P : A → Type 0) → o ≡ None → IsSomeAnd o P → ⊥
 never o P e h = subst (λ p. IsSomeAnd p P) e h
@@ -32,6 +32,11 @@ pub verdict_if : {X : Type 0} (b : Bool) (r : Verdict X) (y : X) (c : Cause) →
     cond b r (Err c) ≡ Ok y → IsTrue b × (r ≡ Ok y)
 verdict_if true r y c e = (refl, e)
 verdict_if false r y c e = absurd (cc e)
+
+pub unless_from : {X : Type 0} (o : Option Cause) (x y : X) → unless o x ≡ Ok y →
+    (o ≡ None) × (x ≡ y)
+unless_from None x y e = (refl, ok_same x y e)
+unless_from (Some c) x y e = absurd (cc e)
 
 pub seen_from : {X Y : Type 0} (f : X → Y) (v : Verdict X) (y : Y) → seen_as f v ≡ Ok y →
     (x : X) × (v ≡ Ok x) × (f x ≡ y)

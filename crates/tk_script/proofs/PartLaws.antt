@@ -116,10 +116,10 @@ pub numbers_after-fields : (word : List ℕ) (ns : List ℕ) → LacksSpace word
 numbers_after-fields word ns lacks words =
     ap (word_then word) (parts_of-fields word ns lacks words) ∙ word_then-own word ns words
 
-some_test : (b : Bool) (o : Option (List ℕ)) (ns : List ℕ) → cond b o None ≡ Some ns →
-    IsTrue b × (o ≡ Some ns)
-some_test true o ns e = (refl, e)
-some_test false o ns e = absurd (cc e)
+pub some_test : {A : Type 0} (b : Bool) (o : Option A) (x : A) → cond b o None ≡ Some x →
+    IsTrue b × (o ≡ Some x)
+some_test true o x e = (refl, e)
+some_test false o x e = absurd (cc e)
 
 word_then-is : (word : List ℕ) (ts : List (List ℕ)) (ns : List ℕ) → word_then word ts ≡ Some ns →
     (ts ≡ word ∷ map decimal ns) × AllByRecursion IsWord ns
@@ -136,9 +136,9 @@ numbers_after-are word line ns e =
     let h = word_then-is word (parts_of line) ns e in
     (sym (join_with_byte-slice_split 0x20 line) ∙ ap fields h.0, h.1)
 
-none_by : (o : Option (List ℕ)) → ((ns : List ℕ) → o ≡ Some ns → ⊥) → o ≡ None
+pub none_by : {A : Type 0} (o : Option A) → ((x : A) → o ≡ Some x → ⊥) → o ≡ None
 none_by None never = refl
-none_by (Some ns) never = absurd (never ns refl)
+none_by (Some x) never = absurd (never x refl)
 
 -- a line that no numbers have
 pub numbers_after-none : (word line : List ℕ) →

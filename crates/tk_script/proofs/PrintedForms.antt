@@ -103,6 +103,7 @@ prints_views S turns bytes has are is =
           (length (lines_of_script S)) turns tape are number;
       no_second = refl;
       has_history = refl;
+      no_replies = refl;
       tape = drawn_tape S.shape S.keys bytes is;
     }
 
@@ -128,18 +129,21 @@ prints_mirrors S T turns bytes S_drawn T_drawn are is =
     ∙ ap (λ n. n + 1) (length-append (lines_of_script S) (lines_of_script T)) in
     record {
       other = T;
-      behind_script = lines_of (printed T ++ behind);
-      behind_scripts = lines_of behind;
-      rest = lines_of (printed_tape bytes);
       raw = numbered (length (lines_of_script S) + length (lines_of_script T) + 2) turns;
-      script = prints_scripts S S_has (printed T ++ behind);
-      second = prints_scripts T T_has behind;
-      history = turns_numbered (number_of_first lines (lines_of behind))
-          (length (lines_of_script S) + length (lines_of_script T)) turns (printed_tape bytes) are
-          number;
-      first_drawn = S_drawn;
-      second_drawn = T_drawn;
+      rest = lines_of (printed_tape bytes);
+      two = record {
+        behind_script = lines_of (printed T ++ behind);
+        behind_scripts = lines_of behind;
+        script = prints_scripts S S_has (printed T ++ behind);
+        other = prints_scripts T T_has behind;
+        history = turns_numbered (number_of_first lines (lines_of behind))
+            (length (lines_of_script S) + length (lines_of_script T)) turns (printed_tape bytes) are
+            number;
+        first_drawn = S_drawn;
+        second_drawn = T_drawn;
+      };
       has_second = refl;
       has_history = refl;
+      no_replies = refl;
       tape = tape_of_none S.shape S.keys bytes S_drawn is;
     }

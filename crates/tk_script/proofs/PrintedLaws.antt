@@ -132,6 +132,7 @@ prints_keyed S keys keyed has = record {
   script = script_alone S (prints_scripts S has);
   no_second = refl;
   no_history = refl;
+  no_replies = refl;
   tape = tape_of_keyed S.shape S.keys [] (ap is_some keyed) refl;
 }
 
@@ -143,6 +144,7 @@ prints_drawn S bytes drawn are =
       script = prints_scripts S has (printed_tape bytes);
       no_second = refl;
       no_history = refl;
+      no_replies = refl;
       tape = tape_of_drawn S.shape S.keys (lines_of (printed_tape bytes)) (kept_of S.shape bytes)
           (ap is_some drawn) (bytes, tape_alone bytes (prints_tapes bytes are), refl);
     }

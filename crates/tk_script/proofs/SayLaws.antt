@@ -3,7 +3,7 @@ use Rattle.std.proofs.Common.{◌≡◌, ◌∙◌, ◌<◌, ◌^◌, List, [], 
 use Rattle.tk_shape.specs.declared.shape.Shape.{Shape}
 use Rattle.tk_script.specs.declared.say.Say.{Say}
 use Rattle.tk_script.specs.Grammar.{Line, say_line}
-use Rattle.tk_script.specs.Reading.{named, is_by, last_when, said_unless, read_next_say}
+use Rattle.tk_script.specs.Reading.{named, is_by, last_when, unless, read_next_say}
 use Rattle.tk_script.specs.SoundScript.{is_say, are_in_order}
 use Rattle.tk_script.proofs.RowLaws.{IsLineOf}
 use Rattle.tk_script.proofs.SaidLaws.{in_order_push, read_say-said, read_say-gives, said_ok, said_is}
@@ -55,5 +55,5 @@ say_whole shape says line y more ordered h later =
     let words = say_words shape y h.1 in
     read_say-said (named shape) (last_when says) line y.phase y.tick y.log y.text words.phase
     words.tick words.log h.0
-    ∙ ap (λ o. said_unless o y) (said_ok shape (last_when says) y h.1
+    ∙ ap (λ o. unless o y) (said_ok shape (last_when says) y h.1
     (comes_by says y more ordered later))

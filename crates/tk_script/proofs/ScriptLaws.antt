@@ -28,11 +28,12 @@ same_script S T p k r y = λ i. record {
 }
 
 pub same_input : (x y : Input) → x.first ≡ y.first → x.second ≡ y.second →
-    x.history ≡ y.history → x.tape ≡ y.tape → x ≡ y
-same_input x y a b h t = λ i. record {
+    x.history ≡ y.history → x.replies ≡ y.replies → x.tape ≡ y.tape → x ≡ y
+same_input x y a b h r t = λ i. record {
   first = a i;
   second = b i;
   history = h i;
+  replies = r i;
   tape = t i;
 }
 

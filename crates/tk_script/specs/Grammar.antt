@@ -3,7 +3,7 @@
 -- digits are in either case.
 use Rattle.std.specs.Prelude.{◌≡◌, ℕ, ◌+◌, ◌<◌, ◌≤◌, ◌^◌, ◌-◌, min, ◌⊎◌, ◌==◌, cond, List, [], ◌∷◌}
 use Rattle.std.specs.Prelude.{◌++◌, length, map, take, replicate, codes, decimal, flat_map, Option}
-use Rattle.std.specs.Prelude.{Some, None, Ok}
+use Rattle.std.specs.Prelude.{Some, None, Ok, IsTrue}
 use Rattle.std.specs.List.{join_with_byte, onto_first, AllByRecursion, AllZip}
 use Rattle.hex.specs.Hex.{decode_of}
 use Rattle.tk_shape.specs.declared.shape.Shape.{Shape}
@@ -13,7 +13,7 @@ use Rattle.tk_schedule.specs.declared.raw.RawLine.{RawLine}
 use Rattle.tk_schedule.specs.declared.raw.RawKind.{RawKind}
 use Rattle.tk_schedule.specs.declared.raw.RawKind.TheVariants.{Order, Reads, End}
 use Rattle.tk_script.specs.declared.form.Form.{Form}
-use Rattle.tk_script.specs.declared.form.Form.TheVariants.{Run, View, Mirror}
+use Rattle.tk_script.specs.declared.form.Form.TheVariants.{Run, View, Mirror, Wrong}
 use Rattle.tk_shape.specs.Numbers.{numbers_of}
 use Rattle.tk_handle.specs.declared.handle.Handle.{Handle}
 use Rattle.tk_script.specs.declared.script.Script.{Script}
@@ -21,7 +21,9 @@ use Rattle.tk_script.specs.declared.role.Role.{Role}
 use Rattle.tk_script.specs.declared.say.Say.{Say}
 use Rattle.tk_script.specs.declared.keys.Keys.{Keys}
 use Rattle.tk_script.specs.declared.input.RawTape.{RawTape}
+use Rattle.tk_script.specs.declared.reply.RawReply.{RawReply}
 use Rattle.tk_script.specs.declared.input.Input.{Input}
+use Rattle.tk_script.specs.SoundReplies.{IsReply, are_ascending}
 use Rattle.tk_shape.specs.Lengths.{tape_len}
 use Rattle.tk_handle.specs.Handle.{handle_bytes}
 
@@ -157,6 +159,25 @@ pub record BeginsWithHistory (at : ℕ) (lines : List Line) (raw : List RawLine)
   pub numbered : AreRawFrom (at + 1) raw
   pub whole : lines ≡ codes "history" ∷ (map (λ (l : RawLine). raw_line l.kind) raw ++ rest)
 
+-- ---- the section of the replies
+
+-- both sums in hexadecimal, the first in front
+pub record SpellsReply (line : Line) (reply : RawReply) : Type 0 where
+  pub digits : List ℕ
+  pub whole : line ≡ fields (codes "reply" ∷ decimal reply.turn ∷ decimal reply.client
+      ∷ decimal reply.server ∷ digits ∷ [])
+  pub sums : decode_of digits ≡ Ok (reply.first ++ reply.second)
+
+abbrev pub IsReplyLine : Shape → Line → RawReply → Type 0
+IsReplyLine shape line reply = SpellsReply line reply × IsReply shape reply
+
+pub record BeginsWithReplies (shape : Shape) (lines : List Line) (replies : List RawReply)
+    (rest : List Line) : Type 0 where
+  pub reply_lines : List Line
+  pub each : AllZip (IsReplyLine shape) reply_lines replies
+  pub ascend : IsTrue (are_ascending replies)
+  pub whole : lines ≡ codes "replies" ∷ (reply_lines ++ codes "end" ∷ rest)
+
 -- ---- inputs
 
 -- the number of the first of these lines, which stand at the end of all
@@ -187,6 +208,7 @@ pub record IsRunInput (lines : List Line) (input : Input) : Type 0 where
   pub script : BeginsWithScript lines input.first rest
   pub no_second : input.second ≡ None
   pub no_history : input.history ≡ None
+  pub no_replies : input.replies ≡ None
   pub tape : EndsWithTape input.first rest input.tape
 
 -- a script, a history, and the script's tape
@@ -198,22 +220,43 @@ pub record IsViewInput (lines : List Line) (input : Input) : Type 0 where
   pub history : BeginsWithHistory (number_of_first lines behind_script) behind_script raw rest
   pub no_second : input.second ≡ None
   pub has_history : input.history ≡ Some raw
+  pub no_replies : input.replies ≡ None
   pub tape : EndsWithTape input.first rest input.tape
+
+-- two scripts of drawn words, and a history
+pub record BeginsWithTwo (lines : List Line) (first second : Script) (raw : List RawLine)
+    (rest : List Line) : Type 0 where
+  pub behind_script : List Line
+  pub behind_scripts : List Line
+  pub script : BeginsWithScript lines first behind_script
+  pub other : BeginsWithScript behind_script second behind_scripts
+  pub history : BeginsWithHistory (number_of_first lines behind_scripts) behind_scripts raw rest
+  pub first_drawn : first.keys ≡ None
+  pub second_drawn : second.keys ≡ None
 
 -- two scripts of drawn words, a history, and a tape
 pub record IsMirrorInput (lines : List Line) (input : Input) : Type 0 where
   pub other : Script
-  pub behind_script : List Line
-  pub behind_scripts : List Line
-  pub rest : List Line
   pub raw : List RawLine
-  pub script : BeginsWithScript lines input.first behind_script
-  pub second : BeginsWithScript behind_script other behind_scripts
-  pub history : BeginsWithHistory (number_of_first lines behind_scripts) behind_scripts raw rest
-  pub first_drawn : input.first.keys ≡ None
-  pub second_drawn : other.keys ≡ None
+  pub rest : List Line
+  pub two : BeginsWithTwo lines input.first other raw rest
   pub has_second : input.second ≡ Some other
   pub has_history : input.history ≡ Some raw
+  pub no_replies : input.replies ≡ None
+  pub tape : EndsWithTape input.first rest input.tape
+
+-- two scripts of drawn words, a history, replies of the first script's shape, and a tape
+pub record IsWrongInput (lines : List Line) (input : Input) : Type 0 where
+  pub other : Script
+  pub raw : List RawLine
+  pub behind_history : List Line
+  pub answers : List RawReply
+  pub rest : List Line
+  pub two : BeginsWithTwo lines input.first other raw behind_history
+  pub replies : BeginsWithReplies input.first.shape behind_history answers rest
+  pub has_second : input.second ≡ Some other
+  pub has_history : input.history ≡ Some raw
+  pub has_replies : input.replies ≡ Some answers
   pub tape : EndsWithTape input.first rest input.tape
 
 -- the bytes are a text of the form that spells this input
@@ -221,3 +264,4 @@ abbrev pub Spells : Form → List ℕ → Input → Type 0
 Spells Run bytes input = IsRunInput (lines_of bytes) input
 Spells View bytes input = IsViewInput (lines_of bytes) input
 Spells Mirror bytes input = IsMirrorInput (lines_of bytes) input
+Spells Wrong bytes input = IsWrongInput (lines_of bytes) input

@@ -1,4 +1,6 @@
+pub mod Ordered
 pub mod SoundScript
+pub mod SoundReplies
 pub mod Sent
 pub mod SentLaws
 pub mod Book

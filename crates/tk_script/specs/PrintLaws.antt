@@ -33,7 +33,13 @@ PrintsTapes = (bytes : List ℕ) → IsBytes bytes → ReadsPrintedTape bytes
 -- a printed script of keys is all of an input
 abbrev pub PrintsKeyed : Type 0
 PrintsKeyed = (S : Script) (keys : Keys) → S.keys ≡ Some keys → HasKeys S.keys →
-    Spells Run (printed S) (record { first = S; second = None; history = None; tape = None })
+    Spells Run (printed S) (record {
+      first = S;
+      second = None;
+      history = None;
+      replies = None;
+      tape = None;
+    })
 
 -- a printed script of drawn words and a printed tape are an input
 abbrev pub PrintsDrawn : Type 0
@@ -42,6 +48,7 @@ PrintsDrawn = (S : Script) (bytes : List ℕ) → S.keys ≡ None → IsBytes by
       first = S;
       second = None;
       history = None;
+      replies = None;
       tape = Some (kept_of S.shape bytes);
     })
 
@@ -58,6 +65,7 @@ PrintsViews = (S : Script) (turns : List RawKind) (bytes : List ℕ) → HasKeys
       first = S;
       second = None;
       history = Some (numbered (length (lines_of_script S) + 2) turns);
+      replies = None;
       tape = kept_behind_script S.shape S.keys bytes;
     })
 
@@ -72,5 +80,6 @@ PrintsMirrors = (S T : Script) (turns : List RawKind) (bytes : List ℕ) → S.k
       second = Some T;
       history =
           Some (numbered (length (lines_of_script S) + length (lines_of_script T) + 2) turns);
+      replies = None;
       tape = Some (kept_of S.shape bytes);
     })

@@ -20,11 +20,14 @@ use Rattle.tk_script.specs.declared.cause.Cause.{Cause}
 use Rattle.tk_script.specs.declared.cause.Cause.TheVariants as cause
 use Rattle.tk_script.specs.declared.say.Say.{Say}
 use Rattle.tk_script.specs.SoundScript.{is_ascending}
+use Rattle.tk_script.specs.SoundReplies.{may_follow}
 use Rattle.tk_script.specs.declared.role.Role.{Role}
 use Rattle.tk_script.specs.declared.keys.Keys.{Keys}
 use Rattle.tk_script.specs.declared.script.Script.{Script}
 use Rattle.tk_script.specs.declared.input.RawTape.{RawTape}
+use Rattle.tk_script.specs.declared.reply.RawReply.{RawReply}
 use Rattle.tk_script.specs.declared.input.Input.{Input}
+use Rattle.tk_script.specs.declared.two_scripts.TwoScripts.{TwoScripts}
 use Rattle.tk_handle.specs.declared.handle.Handle.{Handle}
 use Rattle.tk_schedule.specs.declared.item.Item.{Item}
 use Rattle.tk_schedule.specs.declared.item.Item.TheVariants.{Client, Publish}
@@ -32,7 +35,7 @@ use Rattle.tk_schedule.specs.declared.raw.RawLine.{RawLine}
 use Rattle.tk_schedule.specs.declared.raw.RawKind.{RawKind}
 use Rattle.tk_schedule.specs.declared.raw.RawKind.TheVariants.{Order, Reads, End}
 use Rattle.tk_script.specs.declared.form.Form.{Form}
-use Rattle.tk_script.specs.declared.form.Form.TheVariants.{Run, View, Mirror}
+use Rattle.tk_script.specs.declared.form.Form.TheVariants.{Run, View, Mirror, Wrong}
 use Rattle.tk_script.specs.Grammar.{Line, kept}
 
 -- what a line gives, or the cause for which it is refused
@@ -48,6 +51,11 @@ IsRead f (Err c) said = said ≡ Err c
 abbrev pub IsTaken : {X : Type 0} → Option X → Verdict X → Type 0
 IsTaken (Some x) said = said ≡ Ok x
 IsTaken None said = said ≡ Err cause.Form
+
+-- this, unless there is a cause against it
+abbrev pub unless : {X : Type 0} → Option Cause → X → Verdict X
+unless None x = Ok x
+unless (Some c) x = Err c
 
 -- what a line gives, seen so
 abbrev pub seen_as : {X Y : Type 0} → (X → Y) → Verdict X → Verdict Y
@@ -86,6 +94,32 @@ word_then word (w ∷ ts) = cond (bytes_eq w word) (numbers_spelled ts) None
 -- the numbers of a line that is a word and numbers
 abbrev pub numbers_after : List ℕ → Line → Option (List ℕ)
 numbers_after word line = word_then word (parts_of line)
+
+-- three numbers, and a text
+abbrev pub ThreeAndText : Type 0
+ThreeAndText = ℕ × ℕ × ℕ × List ℕ
+
+abbrev pub three_with : List ℕ → Option (List ℕ) → Option ThreeAndText
+three_with text None = None
+three_with text (Some []) = None
+three_with text (Some (a ∷ [])) = None
+three_with text (Some (a ∷ b ∷ [])) = None
+three_with text (Some (a ∷ b ∷ c ∷ [])) = Some (a, b, c, text)
+three_with text (Some (a ∷ b ∷ c ∷ more ∷ ns)) = None
+
+abbrev pub three_in : List ℕ → List (List ℕ) → Option ThreeAndText
+three_in word [] = None
+three_in word (w ∷ []) = None
+three_in word (w ∷ a ∷ []) = None
+three_in word (w ∷ a ∷ b ∷ []) = None
+three_in word (w ∷ a ∷ b ∷ c ∷ []) = None
+three_in word (w ∷ a ∷ b ∷ c ∷ x ∷ parts) =
+    cond (bytes_eq w word)
+    (three_with (join_with_byte 0x20 (x ∷ parts)) (numbers_spelled (a ∷ b ∷ c ∷ []))) None
+
+-- three numbers after a word, and all after the space that follows them
+abbrev pub three_after : List ℕ → Line → Option ThreeAndText
+three_after word line = three_in word (parts_of line)
 
 -- ---- the line of the format
 
@@ -320,35 +354,66 @@ abbrev pub why_not : Numbers → When → ℕ → ℕ → ℕ → List ℕ → O
 why_not n last phase tick log text =
     why_behind n last (phase, tick) text (out_of_range n phase tick log)
 
-abbrev pub said_unless : Option Cause → Say → Verdict Say
-said_unless None say = Ok say
-said_unless (Some c) say = Err c
-
-abbrev pub say_numbers : Numbers → When → List ℕ → Option (List ℕ) → Verdict Say
-say_numbers n last text None = Err cause.Form
-say_numbers n last text (Some []) = Err cause.Form
-say_numbers n last text (Some (phase ∷ [])) = Err cause.Form
-say_numbers n last text (Some (phase ∷ tick ∷ [])) = Err cause.Form
-say_numbers n last text (Some (phase ∷ tick ∷ log ∷ [])) =
-    said_unless (why_not n last phase tick log text)
-    (record { phase = phase; tick = tick; log = log; text = text })
-say_numbers n last text (Some (phase ∷ tick ∷ log ∷ more ∷ ns)) = Err cause.Form
-
--- the text is all after the space that follows the log's number
-abbrev pub say_parts : Numbers → When → List (List ℕ) → Verdict Say
-say_parts n last [] = Err cause.Form
-say_parts n last (w ∷ []) = Err cause.Form
-say_parts n last (w ∷ p ∷ []) = Err cause.Form
-say_parts n last (w ∷ p ∷ t ∷ []) = Err cause.Form
-say_parts n last (w ∷ p ∷ t ∷ g ∷ []) = Err cause.Form
-say_parts n last (w ∷ p ∷ t ∷ g ∷ x ∷ parts) =
-    cond (bytes_eq w (codes "say"))
-    (say_numbers n last (join_with_byte 0x20 (x ∷ parts)) (numbers_spelled (p ∷ t ∷ g ∷ [])))
-    (Err cause.Form)
+-- the text of three numbers and bytes, after one that is said at the last
+abbrev pub say_fields : Numbers → When → Option ThreeAndText → Verdict Say
+say_fields n last None = Err cause.Form
+say_fields n last (Some x) =
+    unless (why_not n last x.0 x.1 x.2 x.3)
+    (record { phase = x.0; tick = x.1; log = x.2; text = x.3 })
 
 -- the text of a line, after one that is said at the last
 abbrev pub read_say : Numbers → When → Line → Verdict Say
-read_say n last line = say_parts n last (parts_of line)
+read_say n last line = say_fields n last (three_after (codes "say") line)
+
+-- ---- the lines of the replies
+
+-- a turn, a client and a server
+abbrev pub Whose : Type 0
+Whose = ℕ × ℕ × ℕ
+
+-- bytes of a sum
+abbrev pub width_in : Numbers → ℕ
+width_in n = n.depth * (16 + n.block)
+
+-- the first of turn, client and server that is out of range
+abbrev pub whose_out : Numbers → Whose → Option ℕ
+whose_out n whose =
+    cond (nat_lt whose.0 (n.phases * n.ticks))
+    (cond (nat_lt whose.1 n.clients)
+    (cond (is_between 1 n.servers whose.2) None (Some whose.2)) (Some whose.1))
+    (Some whose.0)
+
+-- a number out of range, else a reply that doesn't ascend
+abbrev pub why_unanswered : Bool → Option ℕ → Option Cause
+why_unanswered ascends (Some k) = Some (cause.Number k)
+why_unanswered ascends None = cond ascends None (Some cause.Order)
+
+-- the reply of two sums, the first in front
+abbrev pub reply_with : Numbers → Whose → List ℕ → RawReply
+reply_with n whose sums =
+    record {
+      turn = whose.0;
+      client = whose.1;
+      server = whose.2;
+      first = take (width_in n) sums;
+      second = drop (width_in n) sums;
+    }
+
+-- the sums are read before the numbers are tried
+abbrev pub reply_sums : Numbers → List RawReply → Whose → Verdict (List ℕ) → Verdict RawReply
+reply_sums n before whose (Err c) = Err c
+reply_sums n before whose (Ok sums) =
+    let reply = reply_with n whose sums in
+    unless (why_unanswered (may_follow before reply) (whose_out n whose)) reply
+
+abbrev pub reply_fields : Numbers → List RawReply → Option ThreeAndText → Verdict RawReply
+reply_fields n before None = Err cause.Form
+reply_fields n before (Some x) =
+    reply_sums n before (x.0, x.1, x.2) (counted (2 * width_in n) (bytes_in x.3))
+
+-- the reply of a line, which comes after those before it
+abbrev pub read_reply : Numbers → List RawReply → Line → Verdict RawReply
+read_reply n before line = reply_fields n before (three_after (codes "reply") line)
 
 -- ---- lines in a row
 
@@ -489,11 +554,18 @@ read_end None want p = do
   none ← no_line tape.1.line tape.1.rest
   Ok (Some tape.0)
 
+-- the replies of a run of these numbers
+unfoldable pub read_replies : Numbers → Place → Result (List RawReply × Place) Refusal
+read_replies n p = do
+  first ← next_line (read_words (codes "replies")) p
+  to_end (read_reply n) [] first.1.line first.1.rest
+
 -- what the lines of an input say
 pub record InputLines : Type 0 where
   pub first : ScriptLines
   pub second : Option ScriptLines
   pub history : Option (List RawLine)
+  pub replies : Option (List RawReply)
   pub tape : Option RawTape
 
 -- the tape after a script's form
@@ -508,7 +580,7 @@ unfoldable pub read_run : List Line → Result InputLines Refusal
 read_run lines = do
   script ← read_script true (front lines)
   tape ← read_tape_of script.0 script.1
-  Ok (record { first = script.0; second = None; history = None; tape = tape })
+  Ok (record { first = script.0; second = None; history = None; replies = None; tape = tape })
 
 -- a script, a history, and the script's tape
 unfoldable pub read_view : List Line → Result InputLines Refusal
@@ -516,27 +588,60 @@ read_view lines = do
   script ← read_script true (front lines)
   history ← read_history script.1
   tape ← read_tape_of script.0 history.1
-  Ok (record { first = script.0; second = None; history = Some history.0; tape = tape })
+  Ok (record {
+    first = script.0;
+    second = None;
+    history = Some history.0;
+    replies = None;
+    tape = tape;
+  })
+
+-- what the lines of two scripts and a history say
+pub record TwoLines : Type 0 where
+  pub first : ScriptLines
+  pub second : ScriptLines
+  pub history : List RawLine
+
+-- two scripts of drawn words, and a history
+unfoldable pub read_two : List Line → Result (TwoLines × Place) Refusal
+read_two lines = do
+  first ← read_script false (front lines)
+  second ← read_script false first.1
+  history ← read_history second.1
+  Ok (record { first = first.0; second = second.0; history = history.0 }, history.1)
+
+-- the lines of an input that begins with these
+abbrev pub lines_with : Option (List RawReply) → Option RawTape → TwoLines → InputLines
+lines_with replies tape two =
+    record {
+      first = two.first;
+      second = Some two.second;
+      history = Some two.history;
+      replies = replies;
+      tape = tape;
+    }
 
 -- two scripts of drawn words, a history, and a tape
 unfoldable pub read_mirror : List Line → Result InputLines Refusal
 read_mirror lines = do
-  first ← read_script false (front lines)
-  second ← read_script false first.1
-  history ← read_history second.1
-  tape ← read_tape_of first.0 history.1
-  Ok (record {
-    first = first.0;
-    second = Some second.0;
-    history = Some history.0;
-    tape = tape;
-  })
+  two ← read_two lines
+  tape ← read_tape_of two.0.first two.1
+  Ok (lines_with None tape two.0)
+
+-- two scripts of drawn words, a history, replies of the first script's shape, and a tape
+unfoldable pub read_wrong : List Line → Result InputLines Refusal
+read_wrong lines = do
+  two ← read_two lines
+  replies ← read_replies two.0.first.numbers two.1
+  tape ← read_tape_of two.0.first replies.1
+  Ok (lines_with (Some replies.0) tape two.0)
 
 -- what the lines of an input of a form say, or else the first that is refused, with its cause
 abbrev pub read_input : Form → List Line → Result InputLines Refusal
 read_input Run lines = read_run lines
 read_input View lines = read_view lines
 read_input Mirror lines = read_mirror lines
+read_input Wrong lines = read_wrong lines
 
 -- ---- values and what their lines say
 
@@ -544,11 +649,20 @@ abbrev pub script_lines : Script → ScriptLines
 script_lines S =
     record { numbers = named S.shape; keys = S.keys; roles = S.roles; says = S.says }
 
+abbrev pub two_lines : TwoScripts → TwoLines
+two_lines two =
+    record {
+      first = script_lines two.first;
+      second = script_lines two.second;
+      history = two.history;
+    }
+
 abbrev pub input_lines : Input → InputLines
 input_lines input =
     record {
       first = script_lines input.first;
       second = option_map script_lines input.second;
       history = input.history;
+      replies = input.replies;
       tape = input.tape;
     }

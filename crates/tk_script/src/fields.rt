@@ -1,4 +1,4 @@
-ghost use Rattle.std.specs.Prelude.{◌≡◌, ◌<◌, ◌^◌, ◌∷◌, ◌++◌, ℕ, List, map, decimal, length};
+ghost use Rattle.std.specs.Prelude.{◌≡◌, ◌<◌, ◌^◌, [], ◌∷◌, ◌++◌, ℕ, List, map, decimal, length};
 ghost use Rattle.std.specs.Prelude.{IfOk, IfSome, IsSomeAnd};
 ghost use Rattle.std.specs.List.{AllByRecursion};
 ghost use Rattle.tk_script.specs.Fields.{IsFieldEnd, LacksSpace};
@@ -50,6 +50,25 @@ pub(crate) fn next_number(text: &[u8]) -> Option<(u32, &[u8])>
     let (field, rest) = next_field(text);
     let number = number_of(field)?;
     Some((number, rest))
+}
+
+/// Three numbers after a word, and all after the space that follows them.
+pub(crate) fn three_behind<'a>(word: &[u8], line: &'a [u8]) -> Option<(u32, u32, u32, &'a [u8])>
+    ensures found { IfSome result (λ x. line.now
+        ≡ fields (word.now ∷ decimal x.0 ∷ decimal x.1 ∷ decimal x.2 ∷ x.3.now ∷ [])) }
+    ensures first { IfSome result (λ x. x.0 < 2 ^ 32) }
+    ensures second { IfSome result (λ x. x.1 < 2 ^ 32) }
+    ensures third { IfSome result (λ x. x.2 < 2 ^ 32) }
+    ensures only { (a b c : ℕ) (text : List ℕ) → a < 2 ^ 32 → b < 2 ^ 32 → c < 2 ^ 32 →
+        line.now ≡ fields (word.now ∷ decimal a ∷ decimal b ∷ decimal c ∷ text ∷ []) →
+        IsSomeAnd result (λ x. (x.0 ≡ a) × (x.1 ≡ b) × (x.2 ≡ c) × (x.3.now ≡ text)) }
+{
+    let rest = rest_behind(line, word)?;
+    let (first, rest) = next_number(rest)?;
+    let (second, rest) = next_number(rest)?;
+    let (third, rest) = next_number(rest)?;
+    let text = rest_behind(rest, b" ")?;
+    Some((first, second, third, text))
 }
 
 /// The numbers of a line that is a word and numbers, with one space in front of each.

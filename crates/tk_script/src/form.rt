@@ -7,4 +7,6 @@ pub enum Form {
     View,
     /// Two scripts of drawn words, a history and a tape.
     Mirror,
+    /// Two scripts of drawn words, a history, replies and a tape.
+    Wrong,
 }

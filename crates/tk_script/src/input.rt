@@ -1,4 +1,4 @@
-use crate::Script;
+use crate::{RawReplies, Script};
 use tk_schedule::RawHistory;
 use tk_shape::Bytes;
 
@@ -10,12 +10,13 @@ pub struct RawTape {
     pub got: u64,
 }
 
-/// What a text spells: a script, or two; a history as it was read, where the form has one; and a
-/// tape where words are drawn.
+/// What a text spells: a script, or two; a history and replies as they were read, where the form
+/// has them; and a tape where words are drawn.
 #[derive(Debug, Drop)]
 pub struct Input {
     pub first: Script,
     pub second: Option<Script>,
     pub history: Option<RawHistory>,
+    pub replies: Option<RawReplies>,
     pub tape: Option<RawTape>,
 }

@@ -1,5 +1,6 @@
 //! The text that describes a group, its logs and what is said: a script and, where its words are
-//! drawn, their tape; and what else stands in the forms of an input, a history and a second script.
+//! drawn, their tape; and what else stands in the forms of an input: a second script, a history and
+//! the replies of servers that answer what they like.
 #![tactic(auto)]
 
 mod book;
@@ -25,6 +26,8 @@ mod piece;
 mod place;
 mod print_laws;
 mod printing;
+mod reply;
+mod reply_lines;
 mod role;
 mod role_lines;
 mod role_text;
@@ -39,6 +42,7 @@ mod shape_line;
 mod tape;
 mod tape_text;
 mod turn_line;
+mod two_scripts;
 
 pub use book::BookError;
 pub use cause::Cause;
@@ -55,6 +59,7 @@ pub use numbers::plain_number;
 pub use parsing::parse;
 pub use print_laws::printed_reads;
 pub use printing::print;
+pub use reply::{RawReplies, RawReply};
 pub use role::{Role, Roles};
 pub use round_trip::{parse_printed, parse_printed_with};
 pub use say::{Say, Says};

@@ -3,13 +3,15 @@ ghost use Rattle.tk_shape.specs.Lengths.{tape_len};
 ghost use Rattle.tk_script.specs.Answer.{Gives, Agrees};
 ghost use Rattle.tk_script.specs.Grammar.{lines_of, Spells};
 ghost use Rattle.tk_script.specs.Reading.{front, input_lines, read_end, read_input, read_mirror};
-ghost use Rattle.tk_script.specs.Reading.{read_run, read_view};
+ghost use Rattle.tk_script.specs.Reading.{read_run, read_view, read_wrong};
 ghost use Rattle.tk_script.specs.Stands.{stands};
 
 use crate::history_section::history_of;
 use crate::place::Place;
+use crate::reply_lines::replies_of;
 use crate::section::script_of;
 use crate::tape::tape_of;
+use crate::two_scripts::two_of;
 use crate::{Form, Input, RawTape, Script, ScriptError};
 use std::alloc::Global;
 
@@ -31,6 +33,7 @@ fn input_of(alloc: Global, text: &[u8], form: Form) -> Result<Input, ScriptError
         Form::Run => run_of(alloc, text),
         Form::View => view_of(alloc, text),
         Form::Mirror => mirror_of(alloc, text),
+        Form::Wrong => wrong_of(alloc, text),
     }
 }
 
@@ -44,6 +47,7 @@ fn run_of(alloc: Global, text: &[u8]) -> Result<Input, ScriptError>
         first,
         second: None,
         history: None,
+        replies: None,
         tape,
     })
 }
@@ -59,6 +63,7 @@ fn view_of(alloc: Global, text: &[u8]) -> Result<Input, ScriptError>
         first,
         second: None,
         history: Some(history),
+        replies: None,
         tape,
     })
 }
@@ -67,16 +72,19 @@ fn view_of(alloc: Global, text: &[u8]) -> Result<Input, ScriptError>
 fn mirror_of(alloc: Global, text: &[u8]) -> Result<Input, ScriptError>
     ensures { Agrees input_lines result (read_mirror (lines_of text.now)) }
 {
-    let (first, rest) = script_of(alloc, false, Place::front(text))?;
-    let (second, rest) = script_of(alloc, false, rest)?;
-    let (history, rest) = history_of(alloc, rest)?;
-    let tape = tape_behind(alloc, &first, rest)?;
-    Ok(Input {
-        first,
-        second: Some(second),
-        history: Some(history),
-        tape,
-    })
+    let (two, rest) = two_of(alloc, text)?;
+    let tape = tape_behind(alloc, &two.first, rest)?;
+    Ok(two.with(None, tape))
+}
+
+/// Two scripts of drawn words, a history, replies, and the tape, both of the first script's shape.
+fn wrong_of(alloc: Global, text: &[u8]) -> Result<Input, ScriptError>
+    ensures { Agrees input_lines result (read_wrong (lines_of text.now)) }
+{
+    let (two, rest) = two_of(alloc, text)?;
+    let (replies, rest) = replies_of(alloc, &two.first.shape, rest)?;
+    let tape = tape_behind(alloc, &two.first, rest)?;
+    Ok(two.with(Some(replies), tape))
 }
 
 /// The tape after a script of drawn words, where it is all that stands from here on; after a

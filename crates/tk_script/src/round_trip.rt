@@ -11,7 +11,13 @@ use std::alloc::Global;
 pub fn parse_printed(alloc: Global, script: &Script) -> Result<Input, ScriptError>
     ensures same { (keys : Keys) → script.now.keys ≡ Some keys →
         Gives result (λ input. input ≡
-        record { first = script.now; second = None; history = None; tape = None }) }
+        record {
+          first = script.now;
+          second = None;
+          history = None;
+          replies = None;
+          tape = None;
+        }) }
 {
     let mut text = Vec::new(alloc);
     print(script, &mut text)?;
@@ -27,6 +33,7 @@ pub fn parse_printed_with(alloc: Global, script: &Script, tape: &[u8]) -> Result
           first = script.now;
           second = None;
           history = None;
+          replies = None;
           tape = Some (kept_of script.now.shape tape.now);
         }) }
 {

@@ -1,11 +1,11 @@
-ghost use Rattle.std.specs.Prelude.{◌≡◌, ◌<◌, ◌^◌, ℕ, List, [], IfOk, IfSome, IsSomeAnd};
+ghost use Rattle.std.specs.Prelude.{◌≡◌, [], IfOk};
 ghost use Rattle.tk_script.specs.Answer.{Agrees};
-ghost use Rattle.tk_script.specs.Grammar.{lines_of, say_line};
+ghost use Rattle.tk_script.specs.Grammar.{lines_of};
 ghost use Rattle.tk_script.specs.Reading.{is_by, last_when, named, out_of_range, read_next_say};
 ghost use Rattle.tk_script.specs.Reading.{read_say, to_end, why_not};
 ghost use Rattle.tk_script.specs.Stands.{stands};
 
-use crate::fields::{next_number, rest_behind};
+use crate::fields::three_behind;
 use crate::place::Place;
 use crate::rows::{LineKind, up_to_end};
 use crate::{Cause, Say, Says, ScriptError};
@@ -70,7 +70,7 @@ fn say_of(
 ) -> Result<Result<Say, Cause>, Memory>
     ensures { IfOk result (λ r. r ≡ read_say (named shape.now) last line.now) }
 {
-    let Some((phase, tick, log, text)) = fields_of(line) else {
+    let Some((phase, tick, log, text)) = three_behind(b"say", line) else {
         return Ok(Err(Cause::Form));
     };
     if let Some(cause) = why_not(shape, last, (phase, tick), log, text) {
@@ -82,25 +82,6 @@ fn say_of(
         log,
         text: Bytes::from_slice(alloc, text)?,
     }))
-}
-
-/// The phase, the tick, the log and the text of a line.
-fn fields_of(line: &[u8]) -> Option<(u32, u32, u32, &[u8])>
-    ensures found { IfSome result (λ x. line.now
-        ≡ say_line (record { phase = x.0; tick = x.1; log = x.2; text = x.3.now })) }
-    ensures phase { IfSome result (λ x. x.0 < 2 ^ 32) }
-    ensures tick { IfSome result (λ x. x.1 < 2 ^ 32) }
-    ensures log { IfSome result (λ x. x.2 < 2 ^ 32) }
-    ensures only { (p t g : ℕ) (text : List ℕ) → p < 2 ^ 32 → t < 2 ^ 32 → g < 2 ^ 32 →
-        line.now ≡ say_line (record { phase = p; tick = t; log = g; text = text }) →
-        IsSomeAnd result (λ x. (x.0 ≡ p) × (x.1 ≡ t) × (x.2 ≡ g) × (x.3.now ≡ text)) }
-{
-    let rest = rest_behind(line, b"say")?;
-    let (phase, rest) = next_number(rest)?;
-    let (tick, rest) = next_number(rest)?;
-    let (log, rest) = next_number(rest)?;
-    let text = rest_behind(rest, b" ")?;
-    Some((phase, tick, log, text))
 }
 
 /// Why a text may not be said on a log, in a phase and a tick, after one of the phase and tick

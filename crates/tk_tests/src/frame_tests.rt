@@ -3,7 +3,7 @@ use std::alloc::{AllocError, Global};
 use std::test::Fail;
 use tk_frames::{
     FrameError, Name, WriteFrame, decode_placed, decode_read, decode_reply, decode_write,
-    encode_placed, encode_read, encode_reply, encode_write,
+    encode_placed, encode_read, encode_record, encode_reply, encode_write,
 };
 use tk_shape::Shape;
 
@@ -274,6 +274,21 @@ fn round_trips(rt: HostRuntime) -> Result<(), Fail> {
         assert!(rt; is_spelled_again(*frame, rt.alloc(), &shape, bytes));
     }
     assert!(rt; is_spelled_again(Reply, rt.alloc(), &shape, &reply(rt.alloc())?));
+    Ok(())
+}
+
+#[test]
+fn record_of_a_frame(rt: HostRuntime) -> Result<(), Fail> {
+    let write = decode_write(rt.alloc(), &small_shape()?, WRITE)
+        .ok()
+        .ok_or("write")?;
+    let mut frame = Vec::new(rt.alloc());
+    encode_write(&write, &mut frame).ok().ok_or("frame")?;
+    let mut record = Vec::new(rt.alloc());
+    encode_record(1, frame.as_slice(), &mut record)
+        .ok()
+        .ok_or("record")?;
+    assert!(rt; record.as_slice() == RECORD);
     Ok(())
 }
 

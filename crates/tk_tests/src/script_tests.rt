@@ -2,7 +2,7 @@ use crate::shapes::SMALL;
 use std::alloc::Global;
 use std::test::Fail;
 use tk_schedule::{Item, RawKind, RawLine};
-use tk_script::{Cause, Form, Input, Keys, Script, ScriptError, parse, plain_number};
+use tk_script::{Cause, Form, Input, Keys, RawReply, Script, ScriptError, parse, plain_number};
 use tk_shape::{Field, Memory};
 
 /// The front of a script of drawn words, and the rest of it.
@@ -369,6 +369,80 @@ fn mirror_input(rt: HostRuntime) -> Result<(), Fail> {
     let history = read.history.expect(&rt, "a history");
     assert!(rt; are_lines(history.as_slice(), [13, 14, 15, 16]));
     assert!(rt; read.tape.is_some());
+    Ok(())
+}
+
+/// Two sums of the shape in digits.
+const ZEROS: [u8; 640] = [b'0'; 640];
+
+/// One sum in digits.
+const HALF: [u8; 320] = [b'0'; 320];
+
+/// Whether they are two replies, of which the first begins with a byte of ones.
+fn are_replies(replies: &[RawReply]) -> bool {
+    let [first, second] = replies else {
+        return false;
+    };
+    (first.turn, first.client, first.server) == (0, 1, 2)
+        && (second.turn, second.client, second.server) == (1, 0, 1)
+        && first.first.as_slice().first() == Some(&0xFF)
+        && first.second.as_slice().len() == 160
+        && second.first.as_slice() == [0; 160].as_slice()
+}
+
+#[test]
+fn wrong_input(rt: HostRuntime) -> Result<(), Fail> {
+    let parts = [
+        HEAD,
+        SCRIPT,
+        HEAD,
+        SCRIPT,
+        HISTORY,
+        b"replies\nreply 0 1 2 fF",
+        &ZEROS[2..],
+        b"\nreply 1 0 1 ",
+        &ZEROS,
+        b"\nend\n",
+        TAPE,
+    ];
+    let read = parsed_as(rt.alloc(), &parts, Form::Wrong)?;
+    assert!(rt; are_replies(read.replies.expect(&rt, "replies").as_slice()));
+    assert!(rt; read.second.is_some() && read.history.is_some() && read.tape.is_some());
+    Ok(())
+}
+
+/// What stands after two scripts, of which the second says nothing, and a history; the line that is
+/// refused, and why.
+const REFUSED_REPLIES: [(Parts, u64, Cause); 6] = [
+    (&[TAPE], 18, Cause::Form),
+    (&[b"replies\n"], 19, Cause::Early),
+    (&[b"replies\nreply 9 9 9 ", &HALF], 19, Cause::Form),
+    (
+        &[b"replies\nreply 2 9 9 ", &ZEROS],
+        19,
+        Cause::Number { value: 2 },
+    ),
+    (
+        &[b"replies\nreply 1 1 0 ", &ZEROS],
+        19,
+        Cause::Number { value: 0 },
+    ),
+    (
+        &[b"replies\nreply 0 1 1 ", &ZEROS, b"\nreply 0 0 2 ", &ZEROS],
+        20,
+        Cause::Order,
+    ),
+];
+
+#[test]
+fn first_bad_line_of_replies_named(rt: HostRuntime) -> Result<(), Fail> {
+    for &(parts, line, cause) in &REFUSED_REPLIES {
+        let mut text = Vec::new(rt.alloc());
+        join(&[HEAD, SCRIPT, HEAD, SCRIPT, HISTORY], &mut text)?;
+        join(parts, &mut text)?;
+        let error = parse(rt.alloc(), &text, Form::Wrong).err();
+        assert!(rt; error == Some(ScriptError::Line { line, cause }));
+    }
     Ok(())
 }
 

@@ -11,23 +11,30 @@ use tk_words::{Book, DrawnDraws, Draws, KeyedDraws, LogSeeds, Tape, TapeError};
 
 const SECRET: [u8; 32] = *b"abcdefghijklmnopqrstuvwxyz012345";
 
+// A message's log, and its number there.
+#[derive(Clone, Copy)]
+struct Numbered {
+    log: u32,
+    number: u32,
+}
+
 // Seals a text and opens the block again: there is always a text, and always this one.
 fn there_and_back<D: Draws>(
     draws: &D,
-    log: u32,
-    number: u32,
+    at: Numbered,
     text: &[u8],
     block: &mut [u8],
     out: &mut [u8],
 ) -> usize
-    requires log_in { log < (D.shape draws.now).logs }
-    requires number_in { number < turn_count (D.shape draws.now) }
+    requires log_in { at.log < (D.shape draws.now).logs }
+    requires number_in { at.number < turn_count (D.shape draws.now) }
     requires block_room { length block.old ≡ (D.shape draws.now).block }
     requires out_room { length out.old + 18 ≡ (D.shape draws.now).block }
     requires allowed { IsTrue (is_allowed text.now) }
     requires fits { length text.now + 18 ≤ (D.shape draws.now).block }
     ensures { take result out.new ≡ text.now }
 {
+    let Numbered { log, number } = at;
     draws.seal(log, number, text, block);
     match draws.open(log, number, block, out) {
         Some(len) => len,
@@ -73,7 +80,8 @@ fn gives_sealed<D: Draws>(draws: &D, given: &Given) -> bool
     }
     let mut block = [9; 24];
     let mut out = [9; 6];
-    let len = there_and_back(draws, 0, 1, text, &mut block, &mut out);
+    let first = Numbered { log: 0, number: 1 };
+    let len = there_and_back(draws, first, text, &mut block, &mut out);
     if len != 2 || block != given.sealed || out != [0x68, 0x69, 0, 0, 0, 0] {
         return false;
     }

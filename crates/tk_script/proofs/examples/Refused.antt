@@ -1,5 +1,5 @@
 -- Refused lines and their causes, computed.
-use Rattle.std.specs.Prelude.{◌≡◌, ℕ, ⊤, List, ◌++◌, codes, Ok, Err, Result}
+use Rattle.std.specs.Prelude.{◌≡◌, ℕ, ⊤, List, ◌++◌, replicate, codes, Ok, Err, Result}
 use Rattle.std.specs.Int.Count.{ones}
 use Rattle.std.specs.Fmt.{digits}
 use Rattle.std.specs.Str.{is_utf8, chars}
@@ -10,16 +10,16 @@ use Rattle.tk_shape.specs.declared.field.Field.TheVariants.{Servers, Buckets, Ta
 use Rattle.tk_script.specs.declared.cause.Cause.{Cause}
 use Rattle.tk_script.specs.declared.cause.Cause.TheVariants.{Early, Form, Shape, Number, Order, Room, Text, After}
 use Rattle.tk_script.specs.declared.form.Form.{Form as InputForm}
-use Rattle.tk_script.specs.declared.form.Form.TheVariants.{Run, View, Mirror}
+use Rattle.tk_script.specs.declared.form.Form.TheVariants.{Run, View, Mirror, Wrong}
 use Rattle.tk_script.specs.Grammar.{lines_of}
-use Rattle.tk_script.specs.Reading.{Refusal, InputLines, read_head, read_keys, read_script, read_history, read_tape, read_end, read_run, read_view, read_mirror, read_input}
+use Rattle.tk_script.specs.Reading.{Refusal, InputLines, read_head, read_keys, read_script, read_history, read_replies, read_tape, read_end, read_run, read_view, read_two, read_mirror, read_wrong, read_input}
 
 unfoldable reading : ⊤
-unfolding read_head read_keys read_script read_history read_tape read_end
+unfolding read_head read_keys read_script read_history read_replies read_tape read_end
 reading = tt
 
 unfoldable forms : ⊤
-unfolding read_run read_view read_mirror reading
+unfolding read_run read_view read_two read_mirror read_wrong reading
 forms = tt
 
 unfoldable computing : ⊤
@@ -185,3 +185,42 @@ keyed_mirror : said_in Mirror
     (codes "talek 1\nshape 2 8 4 4 24 64 1 0 2 2 1 1\nkeyed\nlog 0 1\n") ≡ refused 3 Form
 unfolding computing
 keyed_mirror = refl
+
+-- ---- replies
+
+-- two scripts of which a sum has 40 bytes, a history, and these lines of replies
+abbrev said_replies : List ℕ → Result (Unit {0}) Refusal
+said_replies text =
+    let script = codes "talek 1\nshape 2 8 1 4 24 64 1 0 2 2 1 1\ndrawn\nlog 0 1\nend\n" in
+    said_in Wrong (script ++ script ++ codes "history\nend\nreplies\n" ++ text)
+
+abbrev zeros : List ℕ
+zeros = replicate 160 0x30
+
+replies : said_replies (codes "reply 0 1 2 " ++ zeros ++ codes "\nreply 1 0 1 " ++ zeros
+    ++ codes "\nend\ntape\nend\n") ≡ accepted
+unfolding computing
+replies = refl
+
+-- the digits are looked at before the numbers
+short_sums : said_replies (codes "reply 9 9 9 " ++ replicate 158 0x30 ++ codes "\n")
+    ≡ refused 14 Form
+unfolding computing
+short_sums = refl
+
+turn_first : said_replies (codes "reply 2 9 9 " ++ zeros) ≡ refused 14 (Number 2)
+unfolding computing
+turn_first = refl
+
+server_0 : said_replies (codes "reply 0 0 0 " ++ zeros) ≡ refused 14 (Number 0)
+unfolding computing
+server_0 = refl
+
+said_twice : said_replies (codes "reply 0 0 1 " ++ zeros ++ codes "\nreply 0 0 1 " ++ zeros)
+    ≡ refused 15 Order
+unfolding computing
+said_twice = refl
+
+no_replies : said_replies (codes "reply 0 0 1 " ++ zeros ++ codes "\n") ≡ refused 15 Early
+unfolding computing
+no_replies = refl

@@ -11,7 +11,13 @@ pub returns : goal.returns
 returns c = record {
   same = λ keys keyed.
       let S = c.args.script.now in
-      let input : Input = record { first = S; second = None; history = None; tape = None } in
+      let input : Input = record {
+        first = S;
+        second = None;
+        history = None;
+        replies = None;
+        tape = None;
+      } in
       let text : c.as_slice.result.now ≡ printed S = search rules in
       let spells = prints_keyed S keys keyed c.in_ok-print.ensures.has in
       c.parse.ensures.only input (subst (λ t. Spells Run t input) (sym text) spells);

@@ -16,6 +16,7 @@ returns c = record {
         first = S;
         second = None;
         history = None;
+        replies = None;
         tape = Some (kept_of S.shape bytes);
       } in
       let text : c.as_slice.result.now ≡ printed S ++ printed_tape bytes = search rules in
