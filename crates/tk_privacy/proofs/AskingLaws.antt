@@ -15,10 +15,11 @@ use Rattle.tk_client.specs.Reader.{target, at_epoch}
 use Rattle.tk_client.specs.Asked.{frame_for, asked, shown_by}
 use Rattle.tk_client.specs.Looking.{FollowerState, looked_for}
 use Rattle.tk_report.specs.Clients.{follower_before}
-use Rattle.tk_report.specs.Exchange.{read_pair, read_at}
+use Rattle.tk_report.specs.Exchange.{read_pair}
 use Rattle.tk_report.specs.Report.{target_at, read_over, reader_before}
 use Rattle.tk_report.specs.Ledgers.{IsLeftBy}
 use Rattle.tk_report.specs.declared.marked.Marked.{Marked}
+use Rattle.tk_privacy.specs.Privacy.{pairs_read, read_for}
 
 -- a filter that shows what the writes before the epoch's mark do
 abbrev pub Shows : Script → WordBook → History → ℕ → ℕ → List Bool → Type 0
@@ -67,10 +68,11 @@ pub read-is : (S : Script) (b : WordBook) (H : History) (g c e j : ℕ) (marks :
     s ≡ follower_before S (words_of S.shape b) H g c → e ≡ epoch_at H g c →
     Shows S b H g c marks → 1 ≤ j → j ≤ S.shape.servers →
     frames ≡ asked s.shape b g c e (looked_for (words_of s.shape b) marks e s) →
-    x ≡ slice_index_or frames (j - 1) x → x ≡ read_at S b H g c j
-unfolding read_at read_pair
+    x ≡ slice_index_or frames (j - 1) x →
+    x ≡ read_for S.shape b H (pairs_read S b H g c) g c j
+unfolding read_pair
 read-is S b H g c e j marks s frames x was epoch shows low high are here =
-    let pair = read_pair S (words_of S.shape b) H g c in
+    let pair = pairs_read S b H g c in
     let within : j - 1 < S.shape.servers = omega (arith, low, high) in
     let at : 1 + (j - 1) ≡ j = omega (arith, low) in
     here

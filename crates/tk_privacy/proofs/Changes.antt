@@ -6,18 +6,17 @@ use Rattle.std.specs.List.{list_all}
 use Rattle.std.proofs.lemmas.Bool.{and_parts}
 use Rattle.tk_shape.specs.declared.shape.Shape.{Shape}
 use Rattle.tk_shape.specs.Lengths.{turn_count, cell_len, read_cell_len, tape_len}
-use Rattle.tk_schedule.specs.declared.history.History.{History}
 use Rattle.tk_script.specs.declared.script.Script.{Script}
 use Rattle.tk_script.specs.declared.role.Role.{Role}
 use Rattle.tk_script.specs.SoundScript.{is_role, is_ascending}
 use Rattle.tk_script.specs.Sent.{Sending, sent, sent_as, writer_of, blank_role}
 use Rattle.tk_script.proofs.Offers.{sent-is, sent-found, sent_as-is}
-use Rattle.tk_words.specs.Words.{BookWords, drawn, words_of, write_cell, read_cell, keyed_cell}
+use Rattle.tk_words.specs.Words.{drawn, words_of, write_cell, read_cell, keyed_cell}
 use Rattle.tk_words.specs.CellLaws.{length-keyed_cell}
-use Rattle.tk_report.specs.Exchange.{read_pair}
-use Rattle.tk_privacy.specs.Privacy.{masked_cell, shown_write_cell, shown_keyed_cell}
+use Rattle.tk_privacy.specs.Privacy.{Pairs, masked_cell, shown_write_cell, shown_keyed_cell}
 use Rattle.tk_privacy.specs.Privacy.{hidden_write_cell, hidden_keyed_cell, shown_read_cell}
-use Rattle.tk_privacy.specs.Privacy.{read_cell_changed, normal, regained, unnormal}
+use Rattle.tk_privacy.specs.Privacy.{read_cell_for, normal_for, regained, with_reads_for}
+use Rattle.tk_privacy.specs.Privacy.{unnormal_for}
 use Rattle.tk_privacy.proofs.Tapes.{IsTape, tape_of-IsTape, tape_of-own, same-tape_of}
 use Rattle.tk_privacy.proofs.Masks.{length-masked_cell, masked_twice}
 use Rattle.tk_privacy.proofs.ReadCells.{length-shown, front-shown, shown-twice}
@@ -97,27 +96,27 @@ module _ (S : Script) (u : List ℕ) (whole : length u ≡ tape_len S.shape) whe
       length-masked_cell S.shape y.text (write_cell S.shape u y.turn (writer_of S log))
       (turn_len log s y low e)
 
-  changed_len : (H : History) (h g c : ℕ) → g < turn_count S.shape → c < S.shape.clients →
-      length (read_cell_changed S H h u g c) ≡ read_cell_len S.shape
-  changed_len H h g c turn client =
-      length-shown S.shape (read_cell S.shape u g c) (read_len g c turn client) h
-      (read_pair S (words_of S.shape (drawn u)) H g c)
+  changed_len : (h : ℕ) (pairs : Pairs) (g c : ℕ) → g < turn_count S.shape →
+      c < S.shape.clients →
+      length (read_cell_for S.shape h pairs u g c) ≡ read_cell_len S.shape
+  changed_len h pairs g c turn client =
+      length-shown S.shape (read_cell S.shape u g c) (read_len g c turn client) h (pairs g c)
 
   -- ---- the tapes
 
-  pub normal-IsTape : (H : History) (h : ℕ) →
+  pub normal-IsTape : (h : ℕ) (pairs : Pairs) →
       IsTape S.shape (λ g c. shown_write_cell S.shape u g c (sent S g c))
-      (read_cell_changed S H h u)
+      (read_cell_for S.shape h pairs u)
       (λ log s. shown_keyed_cell S.shape u (writer_of S log) log s (sent_as S log s))
-      (normal S H h u)
-  unfolding normal
-  normal-IsTape H h =
+      (normal_for S h pairs u)
+  unfolding normal_for
+  normal-IsTape h pairs =
       tape_of-IsTape S.shape (λ g c. shown_write_cell S.shape u g c (sent S g c))
-      (read_cell_changed S H h u)
+      (read_cell_for S.shape h pairs u)
       (λ log s. shown_keyed_cell S.shape u (writer_of S log) log s (sent_as S log s))
       (record {
         write_sized = λ g turn c client. shown_write_len g c (sent S g c) refl turn client;
-        read_sized = λ g turn c client. changed_len H h g c turn client;
+        read_sized = λ g turn c client. changed_len h pairs g c turn client;
         keyed_sized = λ log low s less. shown_keyed_len log s (sent_as S log s) refl low less;
       })
 
@@ -137,35 +136,37 @@ module _ (S : Script) (u : List ℕ) (whole : length u ≡ tape_len S.shape) whe
       })
 
 -- the tape with the reads of another changed
-abbrev IsUndone : Script → History → ℕ → List ℕ → List ℕ → Type 0
-IsUndone S H h r w = IsTape S.shape (write_cell S.shape r) (read_cell_changed S H h r)
+abbrev pub IsUndone : Script → ℕ → Pairs → List ℕ → List ℕ → Type 0
+IsUndone S h pairs r w = IsTape S.shape (write_cell S.shape r) (read_cell_for S.shape h pairs r)
     (keyed_cell S.shape r) w
 
-unnormal-IsTape : (S : Script) (H : History) (h : ℕ) (v : List ℕ) → length v ≡ tape_len S.shape →
-    IsUndone S H h (regained S v) (unnormal S H h v)
-unfolding unnormal
-unnormal-IsTape S H h v whole =
+unnormal-IsTape : (S : Script) (h : ℕ) (pairs : Pairs) (v : List ℕ) →
+    length v ≡ tape_len S.shape →
+    IsUndone S h pairs (regained S v) (unnormal_for S h pairs v)
+unfolding with_reads_for
+unnormal-IsTape S h pairs v whole =
     let r : List ℕ = regained S v in
     let kept : length r ≡ tape_len S.shape = (regained-IsTape S v whole).whole in
-    tape_of-IsTape S.shape (write_cell S.shape r) (read_cell_changed S H h r) (keyed_cell S.shape r)
+    tape_of-IsTape S.shape (write_cell S.shape r) (read_cell_for S.shape h pairs r)
+    (keyed_cell S.shape r)
     (record {
       write_sized = λ g turn c client. write_len S r kept g c turn client;
-      read_sized = λ g turn c client. changed_len S r kept H h g c turn client;
+      read_sized = λ g turn c client. changed_len S r kept h pairs g c turn client;
       keyed_sized = λ log low s less. keyed_len S r kept log s low less;
     })
 
 -- ---- undone after the change
 
-module _ (S : Script) (H : History) (h : ℕ) (low : 1 ≤ h) (u : List ℕ)
+module _ (S : Script) (h : ℕ) (low : 1 ≤ h) (pairs : Pairs) (u : List ℕ)
     (whole : length u ≡ tape_len S.shape) where
   v : List ℕ
-  v = normal S H h u
+  v = normal_for S h pairs u
 
   tv : IsTape S.shape (λ g c. shown_write_cell S.shape u g c (sent S g c))
-      (read_cell_changed S H h u)
+      (read_cell_for S.shape h pairs u)
       (λ log s. shown_keyed_cell S.shape u (writer_of S log) log s (sent_as S log s)) v
   unfolding v
-  tv = normal-IsTape S u whole H h
+  tv = normal-IsTape S u whole h pairs
 
   r : List ℕ
   r = regained S v
@@ -212,7 +213,7 @@ module _ (S : Script) (H : History) (h : ℕ) (low : 1 ≤ h) (u : List ℕ)
       ∙ keyed_back log s (sent_as S log s) refl in_logs less
 
   reads_kept : (g c : ℕ) → g < turn_count S.shape → c < S.shape.clients → read_cell S.shape r g c
-      ≡ read_cell_changed S H h u g c
+      ≡ read_cell_for S.shape h pairs u g c
   reads_kept g c turn client = tr.reads g c turn client ∙ tv.reads g c turn client
 
   fronts_kept : (g c : ℕ) → g < turn_count S.shape → c < S.shape.clients →
@@ -220,30 +221,43 @@ module _ (S : Script) (H : History) (h : ℕ) (low : 1 ≤ h) (u : List ℕ)
   fronts_kept g c turn client =
       ap (take 8) (reads_kept g c turn client)
       ∙ front-shown S.shape (read_cell S.shape u g c) (read_len S u whole g c turn client) h
-      (read_pair S (words_of S.shape (drawn u)) H g c)
+      (pairs g c)
 
   words_back : words_of S.shape (drawn r) ≡ words_of S.shape (drawn u)
   words_back = words-same S.shape r u tr.whole whole writes_back fronts_kept keyeds_back
 
   reads_back : (g c : ℕ) → g < turn_count S.shape → c < S.shape.clients →
-      read_cell_changed S H h r g c ≡ read_cell S.shape u g c
+      read_cell_for S.shape h pairs r g c ≡ read_cell S.shape u g c
   reads_back g c turn client =
-      ap₂ (λ (w : BookWords) (cell : List ℕ). shown_read_cell S.shape h (read_pair S w H g c) cell)
-      words_back (reads_kept g c turn client)
+      ap (shown_read_cell S.shape h (pairs g c)) (reads_kept g c turn client)
       ∙ shown-twice S.shape (read_cell S.shape u g c) (read_len S u whole g c turn client) h
-      (read_pair S (words_of S.shape (drawn u)) H g c) low
+      (pairs g c) low
 
-  pub unnormal-normal : unnormal S H h (normal S H h u) ≡ u
-  unfolding unnormal v r
+  -- what is regained has the words that were drawn
+  pub words-regained : words_of S.shape (drawn (regained S (normal_for S h pairs u)))
+      ≡ words_of S.shape (drawn u)
+  unfolding v r
+  words-regained = words_back
+
+  -- and its read cells, changed again, are those that were drawn
+  pub reads-regained : (g c : ℕ) → g < turn_count S.shape → c < S.shape.clients →
+      read_cell_for S.shape h pairs (regained S (normal_for S h pairs u)) g c
+      ≡ read_cell S.shape u g c
+  unfolding v r
+  reads-regained = reads_back
+
+  pub unnormal-normal : unnormal_for S h pairs (normal_for S h pairs u) ≡ u
+  unfolding with_reads_for v r
   unnormal-normal =
-      same-tape_of S.shape (write_cell S.shape r) (read_cell_changed S H h r) (keyed_cell S.shape r)
+      same-tape_of S.shape (write_cell S.shape r) (read_cell_for S.shape h pairs r)
+      (keyed_cell S.shape r)
       (write_cell S.shape u) (read_cell S.shape u) (keyed_cell S.shape u) writes_back reads_back
       keyeds_back
       ∙ tape_of-own S.shape u whole
 
 -- ---- changed after the undoing
 
-module _ (S : Script) (H : History) (h : ℕ) (low : 1 ≤ h) (z : List ℕ)
+module _ (S : Script) (h : ℕ) (low : 1 ≤ h) (pairs : Pairs) (z : List ℕ)
     (whole : length z ≡ tape_len S.shape) where
   q : List ℕ
   q = regained S z
@@ -254,18 +268,18 @@ module _ (S : Script) (H : History) (h : ℕ) (low : 1 ≤ h) (z : List ℕ)
   tq = regained-IsTape S z whole
 
   w : List ℕ
-  w = unnormal S H h z
+  w = unnormal_for S h pairs z
 
-  tw : IsUndone S H h q w
+  tw : IsUndone S h pairs q w
   unfolding w q
-  tw = unnormal-IsTape S H h z whole
+  tw = unnormal-IsTape S h pairs z whole
 
   fronts_same : (g c : ℕ) → g < turn_count S.shape → c < S.shape.clients →
       take 8 (read_cell S.shape w g c) ≡ take 8 (read_cell S.shape q g c)
   fronts_same g c turn client =
       ap (take 8) (tw.reads g c turn client)
       ∙ front-shown S.shape (read_cell S.shape q g c) (read_len S q tq.whole g c turn client) h
-      (read_pair S (words_of S.shape (drawn q)) H g c)
+      (pairs g c)
 
   words_kept : words_of S.shape (drawn w) ≡ words_of S.shape (drawn q)
   words_kept = words-same S.shape w q tw.whole tq.whole tw.writes fronts_same tw.keyeds
@@ -300,25 +314,68 @@ module _ (S : Script) (H : History) (h : ℕ) (low : 1 ≤ h) (z : List ℕ)
       ∙ ap₂ (keyed_cell S.shape z) found.of_log found.of_number
 
   reads_again : (g c : ℕ) → g < turn_count S.shape → c < S.shape.clients →
-      read_cell_changed S H h w g c ≡ read_cell S.shape z g c
+      read_cell_for S.shape h pairs w g c ≡ read_cell S.shape z g c
   reads_again g c turn client =
-      ap₂ (λ (x : BookWords) (cell : List ℕ). shown_read_cell S.shape h (read_pair S x H g c) cell)
-      words_kept (tw.reads g c turn client)
+      ap (shown_read_cell S.shape h (pairs g c)) (tw.reads g c turn client)
       ∙ shown-twice S.shape (read_cell S.shape q g c) (read_len S q tq.whole g c turn client) h
-      (read_pair S (words_of S.shape (drawn q)) H g c) low
+      (pairs g c) low
       ∙ tq.reads g c turn client
 
-  pub length-unnormal : length (unnormal S H h z) ≡ tape_len S.shape
+  -- the tape has the words that were regained
+  pub words-undone : words_of S.shape (drawn (unnormal_for S h pairs z))
+      ≡ words_of S.shape (drawn (regained S z))
+  unfolding w q
+  words-undone = words_kept
+
+  -- and the read cells that were regained, changed
+  pub reads-undone : (g c : ℕ) → g < turn_count S.shape → c < S.shape.clients →
+      read_cell S.shape (unnormal_for S h pairs z) g c
+      ≡ read_cell_for S.shape h pairs (regained S z) g c
+  unfolding w q
+  reads-undone = tw.reads
+
+  pub length-unnormal : length (unnormal_for S h pairs z) ≡ tape_len S.shape
   unfolding w
   length-unnormal = tw.whole
 
-  pub normal-unnormal : normal S H h (unnormal S H h z) ≡ z
-  unfolding normal w
+  pub normal-unnormal : normal_for S h pairs (unnormal_for S h pairs z) ≡ z
+  unfolding normal_for w
   normal-unnormal =
       same-tape_of S.shape (λ g c. shown_write_cell S.shape w g c (sent S g c))
-      (read_cell_changed S H h w)
+      (read_cell_for S.shape h pairs w)
       (λ log s. shown_keyed_cell S.shape w (writer_of S log) log s (sent_as S log s))
       (write_cell S.shape z) (read_cell S.shape z) (keyed_cell S.shape z)
       (λ g c turn client. write_again g c (sent S g c) refl turn client) reads_again
       (λ log s in_logs less. keyed_again log s (sent_as S log s) refl in_logs less)
       ∙ tape_of-own S.shape z whole
+
+-- ---- only the buckets of the run matter
+
+abbrev SameIn : Shape → Pairs → Pairs → Type 0
+SameIn shape pairs pairs' =
+    (g c : ℕ) → g < turn_count shape → c < shape.clients → pairs g c ≡ pairs' g c
+
+pub same-normal_for : (S : Script) (h : ℕ) (pairs pairs' : Pairs) (u : List ℕ) →
+    SameIn S.shape pairs pairs' → normal_for S h pairs u ≡ normal_for S h pairs' u
+unfolding normal_for
+same-normal_for S h pairs pairs' u same =
+    let write : ℕ → ℕ → List ℕ = λ g c. shown_write_cell S.shape u g c (sent S g c) in
+    let keyed : ℕ → ℕ → List ℕ =
+    λ log s. shown_keyed_cell S.shape u (writer_of S log) log s (sent_as S log s) in
+    same-tape_of S.shape write (read_cell_for S.shape h pairs u) keyed write
+    (read_cell_for S.shape h pairs' u) keyed (λ g c turn client. refl)
+    (λ g c turn client. ap (λ (pair : ℕ × ℕ). shown_read_cell S.shape h pair
+    (read_cell S.shape u g c)) (same g c turn client))
+    (λ log s low less. refl)
+
+pub same-unnormal_for : (S : Script) (h : ℕ) (pairs pairs' : Pairs) (v : List ℕ) →
+    SameIn S.shape pairs pairs' → unnormal_for S h pairs v ≡ unnormal_for S h pairs' v
+unfolding with_reads_for
+same-unnormal_for S h pairs pairs' v same =
+    let r : List ℕ = regained S v in
+    same-tape_of S.shape (write_cell S.shape r) (read_cell_for S.shape h pairs r)
+    (keyed_cell S.shape r) (write_cell S.shape r) (read_cell_for S.shape h pairs' r)
+    (keyed_cell S.shape r) (λ g c turn client. refl)
+    (λ g c turn client. ap (λ (pair : ℕ × ℕ). shown_read_cell S.shape h pair
+    (read_cell S.shape r g c)) (same g c turn client))
+    (λ log s low less. refl)

@@ -15,9 +15,10 @@ use Rattle.tk_frames.specs.InOrder.{IsOrder, IsNext}
 use Rattle.tk_frames.specs.Spelling.{placed_frame, read_frame}
 use Rattle.tk_frames.proofs.Offers.{order-push, order-none}
 use Rattle.tk_report.specs.Entries.{write_at, entries_at, entries_before}
-use Rattle.tk_report.specs.Exchange.{turn_frames, frames_before, read_seen}
+use Rattle.tk_report.specs.Exchange.{turn_frames, frames_before, read_at, view}
 use Rattle.tk_report.specs.Turns.{placed_before}
 use Rattle.tk_report.proofs.Offers.{flat_map-next}
+use Rattle.tk_privacy.specs.Privacy.{Pairs, pairs_read, read_for, view_for}
 use Rattle.tk_privacy.specs.Hiding.{read_in}
 use Rattle.tk_privacy.specs.Reads.{all_reads}
 use Rattle.tk_privacy.specs.Views.{HasCounted, HasEntered, frame_in}
@@ -86,19 +87,27 @@ frames-next S w H reads g old now new before entered asked =
 -- ---- all
 
 -- with the reads that a server sees the frames are those that it sees
-pub frames-seen : (S : Script) (b : WordBook) (H : History) (j : ℕ) (reads : List ReadFrame) →
-    reads ≡ all_reads S b H j →
+pub frames-seen : (S : Script) (b : WordBook) (H : History) (pairs : Pairs) (j : ℕ)
+    (reads : List ReadFrame) → reads ≡ all_reads S.shape b H pairs j →
     frames_before S.shape H (write_at S (words_of S.shape b)) (frame_in S.shape reads)
     (turn_count S.shape)
-    ≡ frames_before S.shape H (write_at S (words_of S.shape b)) (read_seen S b H j)
-    (turn_count S.shape)
+    ≡ view_for S b H pairs j
 unfolding frames_before
-frames-seen S b H j reads are =
+frames-seen S b H pairs j reads are =
     let write = write_at S (words_of S.shape b) in
-    same-flat (turn_frames S.shape H write (frame_in S.shape reads))
-    (turn_frames S.shape H write (read_seen S b H j)) 0 (turn_count S.shape)
+    let seen : ℕ → ℕ → List (List ℕ) =
+    λ g c. read_frame (read_for S.shape b H (pairs g c) g c j) ∷ []
+    in
+    same-flat (turn_frames S.shape H write (frame_in S.shape reads)) (turn_frames S.shape H write seen)
+    0 (turn_count S.shape)
     (λ g within. ap (λ (xs : List (List ℕ)). map placed_frame (entries_at write H g) ++ xs)
-    (same-flat (frame_in S.shape reads g) (read_seen S b H j g) 0 S.shape.clients
+    (same-flat (frame_in S.shape reads g) (seen g) 0 S.shape.clients
     (λ c low. ap (λ (r : ReadFrame). read_frame r ∷ [])
     (ap (λ (xs : List ReadFrame). read_in S.shape xs g c) are
-    ∙ read-in S b H j g c (omega (arith, within)) (omega (arith, low))))))
+    ∙ read-in S.shape b H pairs j g c (omega (arith, within)) (omega (arith, low))))))
+
+-- a run reads the buckets that are read with its words
+pub view-for : (S : Script) (b : WordBook) (H : History) (j : ℕ) →
+    view S b H j ≡ view_for S b H (pairs_read S b H) j
+unfolding read_at
+view-for S b H j = refl

@@ -4,6 +4,7 @@ pub mod ReadCells
 pub mod SameWords
 pub mod Changes
 pub mod Seen
+pub mod Offers
 pub mod PrivacyLaws
 pub mod Computing
 pub mod ExchangingLaws

@@ -120,6 +120,12 @@ sized-vectors shape ps are =
     sized-map (piece_vector shape) (piece_len shape) (vector_len shape) ps
     (λ p long. omega (arith, long, length-drop (seed_len shape) p)) are.sized
 
+-- server h gets of these pieces for a bucket what the last server gets of others
+abbrev pub GetsLast : Shape → ℕ → ℕ → List (List ℕ) → List (List ℕ) → Type 0
+GetsLast shape h bucket others ps =
+    get_or (completed (vector_len shape) bucket (vectors_in shape ps)) (h - 1) []
+    ≡ get_or (completed (vector_len shape) bucket (vectors_in shape others)) (shape.servers - 1) []
+
 module _ (shape : Shape) (h bucket : ℕ) (ps : List (List ℕ)) (high : h < shape.servers)
     (are : ArePieces shape ps) where
   place : h - 1 < length ps
@@ -217,6 +223,21 @@ module _ (shape : Shape) (h bucket : ℕ) (ps : List (List ℕ)) (high : h < sha
           ∙ ap (piece_seed shape) (get_or-set_other ps (h - 1) (j - 1) changed []
           (λ same. differ (omega (arith, same, low, j_low))))
           ∙ sym (get-map (piece_seed shape) ps (j - 1) here)
+
+  -- the hidden server gets of the changed pieces what the last one gets of these
+  pub hidden-last : GetsLast shape h bucket ps (with_hidden shape h bucket ps)
+  hidden-last =
+      let size = vector_len shape in
+      let vectors = vectors_in shape ps in
+      let count = length-mapped (piece_vector shape) ps in
+      let changed = set vectors (h - 1) share in
+      let within : h - 1 < length vectors = omega (arith, place, count) in
+      let counted : length changed ≡ length vectors = length-set vectors (h - 1) share in
+      ap (λ (vs : List (List ℕ)). get_or (completed size bucket vs) (h - 1) []) vectors-hidden
+      ∙ get_or_append_left changed (last_share size bucket changed ∷ []) [] (h - 1)
+      (omega (arith, within, counted))
+      ∙ get_or-set_same vectors (h - 1) share [] within
+      ∙ sym (get_or_push vectors share [] (shape.servers - 1) (omega (arith, are.count, count)))
 
 -- where the hidden server is the last, that of any other
 module _ (shape : Shape) (h j bucket : ℕ) (ps : List (List ℕ)) (low : shape.servers ≤ h)
@@ -522,4 +543,43 @@ module _ (shape : Shape) (cell : List ℕ) (whole : length cell ≡ read_cell_le
               subst (AreShown h j pair (cell_pieces shape cell))
               (sym (pieces-changed_read h pair less)) (changed-shown less)
           | false ↦ λ e. open-shown (ltb-false h shape.servers e)
+        ] refl
+
+  -- what the hidden server gets for either bucket
+  pub record GetsLastOfBoth (h : ℕ) (pair : ℕ × ℕ) (others ps : BothBuckets) : Type 0 where
+    pub first : GetsLast shape h pair.0 others.first ps.first
+    pub second : GetsLast shape h pair.1 others.second ps.second
+
+  module _ (h : ℕ) (pair : ℕ × ℕ) where
+    changed-hidden : h < shape.servers →
+        GetsLastOfBoth h pair (cell_pieces shape cell)
+        (changed shape h pair (cell_pieces shape cell))
+    unfolding changed
+    changed-hidden less =
+        let ps = cell_pieces shape cell in
+        record {
+          first = hidden-last shape h pair.0 ps.first less both.first;
+          second = hidden-last shape h pair.1 ps.second less both.second;
+        }
+
+    pub pieces-hidden : h ≤ shape.servers →
+        GetsLastOfBoth h pair (cell_pieces shape cell)
+        (cell_pieces shape (shown_read_cell shape h pair cell))
+    pieces-hidden high =
+        let ps = cell_pieces shape cell in
+        let size = vector_len shape in
+        elim (nat_lt h shape.servers) as (λ b. nat_lt h shape.servers ≡ b →
+        GetsLastOfBoth h pair ps (cell_pieces shape (cond b (changed_read shape h pair cell) cell))) [
+          | true ↦ λ e.
+              let less = ltb-true h shape.servers e in
+              subst (GetsLastOfBoth h pair ps) (sym (pieces-changed_read h pair less))
+              (changed-hidden less)
+          | false ↦ λ e.
+              let last : h ≡ shape.servers = omega (arith, high, ltb-false h shape.servers e) in
+              record {
+                first = ap (λ k. get_or (completed size pair.0 (vectors_in shape ps.first)) (k - 1)
+                    []) last;
+                second = ap (λ k. get_or (completed size pair.1 (vectors_in shape ps.second)) (k - 1)
+                    []) last;
+              }
         ] refl

@@ -32,10 +32,9 @@ use Rattle.tk_client.specs.Asked.{frame_with}
 use Rattle.tk_client.proofs.Offers.{told-alike}
 use Rattle.tk_report.specs.Queues.{waiting_of}
 use Rattle.tk_report.specs.Entries.{write_at, placed_from, placed_after, entries_before}
-use Rattle.tk_report.specs.Exchange.{read_pair, read_at, turn_frames, frames_before, read_seen}
-use Rattle.tk_report.specs.Exchange.{view}
-use Rattle.tk_privacy.specs.Privacy.{shown_write_cell, shown_keyed_cell, read_cell_changed}
-use Rattle.tk_privacy.specs.Privacy.{shown_read, normal, cells_view}
+use Rattle.tk_report.specs.Exchange.{turn_frames, frames_before}
+use Rattle.tk_privacy.specs.Privacy.{Pairs, shown_write_cell, shown_keyed_cell, read_cell_for}
+use Rattle.tk_privacy.specs.Privacy.{shown_read, normal_for, cells_view, read_for, view_for}
 use Rattle.tk_privacy.proofs.Tapes.{IsTape}
 use Rattle.tk_privacy.proofs.Masks.{cell_write-masked}
 use Rattle.tk_privacy.proofs.ReadCells.{both, AreShown, pieces-shown}
@@ -104,18 +103,18 @@ module _ (shape : Shape) (H : History) (legal : IsLegal shape H) (f f' : ℕ →
 
 -- ---- one script
 
-module _ (S : Script) (H : History) (h j : ℕ) (u : List ℕ) (legal : IsLegal S.shape H)
-    (whole : length u ≡ tape_len S.shape)
+module _ (S : Script) (H : History) (h j : ℕ) (pairs : Pairs) (u : List ℕ)
+    (legal : IsLegal S.shape H) (whole : length u ≡ tape_len S.shape)
     (low : 1 ≤ h) (high : h ≤ S.shape.servers) (j_low : 1 ≤ j) (j_high : j ≤ S.shape.servers)
     (differ : j ≢ h) where
   v : List ℕ
-  v = normal S H h u
+  v = normal_for S h pairs u
 
   tv : IsTape S.shape (λ g c. shown_write_cell S.shape u g c (sent S g c))
-      (read_cell_changed S H h u)
+      (read_cell_for S.shape h pairs u)
       (λ log s. shown_keyed_cell S.shape u (writer_of S log) log s (sent_as S log s)) v
   unfolding v
-  tv = normal-IsTape S u whole H h
+  tv = normal-IsTape S u whole h pairs
 
   -- the write of a turn is the shown write cell, whether a text is sent or not
   write_shown : (g c : ℕ) (o : Option Sending) → sent S g c ≡ o →
@@ -136,16 +135,16 @@ module _ (S : Script) (H : History) (h j : ℕ) (u : List ℕ) (legal : IsLegal 
       ∙ ap (λ cell. dummy g c (cell_write S.shape cell)) (sym (tv.writes g c turn client))
 
   pieces_kept : (g c : ℕ) → g < turn_count S.shape → c < S.shape.clients →
-      cell_pieces S.shape (read_cell_changed S H h u g c)
+      cell_pieces S.shape (read_cell_for S.shape h pairs u g c)
       ≡ cell_pieces S.shape (read_cell S.shape v g c)
   pieces_kept g c turn client = ap (cell_pieces S.shape) (sym (tv.reads g c turn client))
 
   read_shown : (g c : ℕ) → g < turn_count S.shape → c < S.shape.clients →
-      read_at S (drawn u) H g c j ≡ shown_read S.shape H h v j g c
-  unfolding read_at frame_with shown_read fresh_seeds fresh_vectors
+      read_for S.shape (drawn u) H (pairs g c) g c j ≡ shown_read S.shape H h v j g c
+  unfolding frame_with shown_read fresh_seeds fresh_vectors
   read_shown g c turn client =
       let cell = read_cell S.shape u g c in
-      let pair = read_pair S (words_of S.shape (drawn u)) H g c in
+      let pair = pairs g c in
       let size = length-read_cell S.shape u g c whole turn client in
       let own = cell_pieces S.shape cell in
       let counted = both S.shape cell size in
@@ -175,10 +174,12 @@ module _ (S : Script) (H : History) (h j : ℕ) (u : List ℕ) (legal : IsLegal 
         seeds = told i;
       }
 
-  pub view-is : view S (drawn u) H j ≡ cells_view S.shape H h (normal S H h u) j
+  -- whichever buckets are read
+  pub view-is : view_for S (drawn u) H pairs j ≡ cells_view S.shape H h (normal_for S h pairs u) j
   unfolding cells_view v
   view-is =
       same-frames S.shape H legal (write_at S (words_of S.shape (drawn u)))
       (λ g c. dummy g c (cell_write S.shape (write_cell S.shape v g c))) writes_seen
-      (read_seen S (drawn u) H j) (λ g c. read_frame (shown_read S.shape H h v j g c) ∷ [])
+      (λ g c. read_frame (read_for S.shape (drawn u) H (pairs g c) g c j) ∷ [])
+      (λ g c. read_frame (shown_read S.shape H h v j g c) ∷ [])
       (λ g c turn client. ap (λ (f : ReadFrame). read_frame f ∷ []) (read_shown g c turn client))

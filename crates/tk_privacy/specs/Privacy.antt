@@ -9,13 +9,14 @@ use Rattle.tk_schedule.specs.Schedule.{epoch_at}
 use Rattle.tk_script.specs.declared.script.Script.{Script}
 use Rattle.tk_script.specs.Sent.{Sending, sent, sent_as, writer_of}
 use Rattle.tk_bits.specs.Shares.{last_share}
-use Rattle.tk_words.specs.Words.{drawn, cell_words, cell_sealed, cell_write, words_of}
+use Rattle.tk_words.specs.Words.{WordBook, drawn, words_of, cell_words, cell_sealed, cell_write}
 use Rattle.tk_words.specs.Words.{cell_pieces, piece_seed, piece_vector}
 use Rattle.tk_words.specs.Words.{write_cell, read_cell, keyed_cell}
 use Rattle.tk_frames.specs.declared.read_frame.ReadFrame.{ReadFrame}
 use Rattle.tk_frames.specs.Spelling.{read_frame}
-use Rattle.tk_client.specs.Asked.{seeds_told}
+use Rattle.tk_client.specs.Asked.{frame_for, seeds_told}
 use Rattle.tk_client.specs.Writes.{dummy}
+use Rattle.tk_report.specs.Entries.{write_at}
 use Rattle.tk_report.specs.Exchange.{read_pair, frames_before}
 
 -- ---- a tape from its cells
@@ -85,18 +86,26 @@ abbrev pub shown_read_cell : Shape → ℕ → ℕ × ℕ → List ℕ → List 
 shown_read_cell shape h pair cell =
     cond (nat_lt h shape.servers) (changed_read shape h pair cell) cell
 
--- the read cell of a client's turn over a tape, changed by the buckets that are read over it
-abbrev pub read_cell_changed : Script → History → ℕ → List ℕ → ℕ → ℕ → List ℕ
-read_cell_changed S H h u g c =
-    shown_read_cell S.shape h (read_pair S (words_of S.shape (drawn u)) H g c)
-    (read_cell S.shape u g c)
+-- the two buckets of each turn's and client's read of a run
+abbrev pub Pairs : Type 0
+Pairs = ℕ → ℕ → ℕ × ℕ
+
+-- the read cell of a client's turn over a tape, changed by its two buckets
+abbrev pub read_cell_for : Shape → ℕ → Pairs → List ℕ → ℕ → ℕ → List ℕ
+read_cell_for shape h pairs u g c = shown_read_cell shape h (pairs g c) (read_cell shape u g c)
+
+-- those that are read with the words of a book
+abbrev pub pairs_read : Script → WordBook → History → Pairs
+pairs_read S b H g c = read_pair S (words_of S.shape b) H g c
 
 -- ---- the change
 
--- the tape of what is shown to all servers but h: it names no text and no target
-unfoldable pub normal : Script → History → ℕ → List ℕ → List ℕ
-normal S H h u =
-    tape_of S.shape (λ g c. shown_write_cell S.shape u g c (sent S g c)) (read_cell_changed S H h u)
+-- the tape of what is shown to all servers but h where these buckets are read: it names no text and
+-- no target
+unfoldable pub normal_for : Script → ℕ → Pairs → List ℕ → List ℕ
+normal_for S h pairs u =
+    tape_of S.shape (λ g c. shown_write_cell S.shape u g c (sent S g c))
+    (read_cell_for S.shape h pairs u)
     (λ log s. shown_keyed_cell S.shape u (writer_of S log) log s (sent_as S log s))
 
 -- the write and keyed cells regained, the read cells as they are
@@ -105,12 +114,23 @@ regained S v =
     tape_of S.shape (λ g c. hidden_write_cell S.shape v g c (sent S g c)) (read_cell S.shape v)
     (λ log s. hidden_keyed_cell S.shape v (writer_of S log) log s (sent_as S log s))
 
--- the tape that shows this to all servers but h: the writes are undone first, and the buckets found
--- over what is so regained
+-- a tape of which the read cells alone are changed
+unfoldable pub with_reads_for : Shape → ℕ → Pairs → List ℕ → List ℕ
+with_reads_for shape h pairs u =
+    tape_of shape (write_cell shape u) (read_cell_for shape h pairs u) (keyed_cell shape u)
+
+-- the tape that shows this to all servers but h where these buckets are read: the writes are undone
+-- first
+abbrev pub unnormal_for : Script → ℕ → Pairs → List ℕ → List ℕ
+unnormal_for S h pairs v = with_reads_for S.shape h pairs (regained S v)
+
+-- the same where the buckets are those that are read over the tape, and for the second over what is
+-- regained
+unfoldable pub normal : Script → History → ℕ → List ℕ → List ℕ
+normal S H h u = normal_for S h (pairs_read S (drawn u) H) u
+
 unfoldable pub unnormal : Script → History → ℕ → List ℕ → List ℕ
-unnormal S H h v =
-    let u = regained S v in
-    tape_of S.shape (write_cell S.shape u) (read_cell_changed S H h u) (keyed_cell S.shape u)
+unnormal S H h v = unnormal_for S h (pairs_read S (drawn (regained S v)) H) v
 
 -- the tape with which B shows what A shows with u
 abbrev pub mirror : Script → Script → History → ℕ → List ℕ → List ℕ
@@ -142,3 +162,15 @@ unfoldable pub cells_view : Shape → History → ℕ → List ℕ → ℕ → L
 cells_view shape H h v j =
     frames_before shape H (λ g c. dummy g c (cell_write shape (write_cell shape v g c)))
     (λ g c. read_frame (shown_read shape H h v j g c) ∷ []) (turn_count shape)
+
+-- ---- what is seen of a run that reads given buckets
+
+-- the read frame that a client sends to server j in a turn for these two buckets
+abbrev pub read_for : Shape → WordBook → History → ℕ × ℕ → ℕ → ℕ → ℕ → ReadFrame
+read_for shape b H pair g c j = frame_for shape b g c (epoch_at H g c) pair j
+
+-- the frames that server j sees
+abbrev pub view_for : Script → WordBook → History → Pairs → ℕ → List (List ℕ)
+view_for S b H pairs j =
+    frames_before S.shape H (write_at S (words_of S.shape b))
+    (λ g c. read_frame (read_for S.shape b H (pairs g c) g c j) ∷ []) (turn_count S.shape)

@@ -1,29 +1,31 @@
 -- A history as far as it was gone through for the reads that one server sees.
 use Rattle.std.specs.Prelude.{◌≡◌, ℕ, List, map, flat_map}
 use Rattle.std.specs.List.{range_with_len}
+use Rattle.tk_shape.specs.declared.shape.Shape.{Shape}
 use Rattle.tk_shape.specs.Lengths.{turn_count}
 use Rattle.tk_schedule.specs.declared.history.History.{History}
 use Rattle.tk_script.specs.declared.script.Script.{Script}
 use Rattle.tk_words.specs.Words.{WordBook, words_of}
 use Rattle.tk_frames.specs.declared.read_frame.ReadFrame.{ReadFrame}
 use Rattle.tk_report.specs.Clients.{known_first, AreFollowers, follower_before}
-use Rattle.tk_report.specs.Exchange.{read_at}
 use Rattle.tk_report.specs.Ledgers.{Keeps}
 use Rattle.tk_report.specs.Groups.{IsGroup}
 use Rattle.tk_report.specs.Turns.{placed_before}
+use Rattle.tk_privacy.specs.Privacy.{Pairs, pairs_read, read_for}
 use Rattle.tk_privacy.specs.declared.reads.Fold.{Fold}
 
--- the read frames that server j sees in turn g, by client
-abbrev pub reads_at : Script → WordBook → History → ℕ → ℕ → List ReadFrame
-reads_at S b H j g = map (λ c. read_at S b H g c j) (range_with_len 0 S.shape.clients)
+-- the read frames that server j sees in turn g of a run that reads these buckets, by client
+abbrev pub reads_at : Shape → WordBook → History → Pairs → ℕ → ℕ → List ReadFrame
+reads_at shape b H pairs j g =
+    map (λ c. read_for shape b H (pairs g c) g c j) (range_with_len 0 shape.clients)
 
 -- and in the turns before it, turn after turn
-unfoldable pub reads_before : Script → WordBook → History → ℕ → ℕ → List ReadFrame
-reads_before S b H j g = flat_map (reads_at S b H j) (range_with_len 0 g)
+unfoldable pub reads_before : Shape → WordBook → History → Pairs → ℕ → ℕ → List ReadFrame
+reads_before shape b H pairs j g = flat_map (reads_at shape b H pairs j) (range_with_len 0 g)
 
 -- all those of a run
-abbrev pub all_reads : Script → WordBook → History → ℕ → List ReadFrame
-all_reads S b H j = reads_before S b H j (turn_count S.shape)
+abbrev pub all_reads : Shape → WordBook → History → Pairs → ℕ → List ReadFrame
+all_reads shape b H pairs j = reads_before shape b H pairs j (turn_count shape)
 
 -- before turn g all is as the definitions say of it, and the reads so far are those of server j
 pub record IsFoldBefore (S : Script) (b : WordBook) (H : History) (j g : ℕ) (f : Fold)
@@ -32,4 +34,4 @@ pub record IsFoldBefore (S : Script) (b : WordBook) (H : History) (j g : ℕ) (f
   pub followers : AreFollowers S.shape.clients (follower_before S (words_of S.shape b) H g)
       f.followers.items
   pub ledger : Keeps S.shape (placed_before S (words_of S.shape b) H g) f.ledger
-  pub reads : f.reads.items ≡ reads_before S b H j g
+  pub reads : f.reads.items ≡ reads_before S.shape b H (pairs_read S b H) j g

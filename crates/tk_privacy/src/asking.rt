@@ -2,9 +2,9 @@ ghost use Rattle.std.specs.Prelude.{◌≡◌, ◌+◌, ◌<◌, ◌≤◌, IfOk
 ghost use Rattle.tk_shape.specs.Lengths.{turn_count};
 ghost use Rattle.tk_words.specs.Words.{words_of};
 ghost use Rattle.tk_report.specs.Clients.{AreFollowers, follower_before};
-ghost use Rattle.tk_report.specs.Exchange.{read_at};
 ghost use Rattle.tk_report.specs.Ledgers.{Keeps};
 ghost use Rattle.tk_report.specs.Turns.{placed_before};
+ghost use Rattle.tk_privacy.specs.Privacy.{pairs_read, read_for};
 ghost use Rattle.tk_privacy.specs.Reads.{reads_at};
 
 use std::alloc::Global;
@@ -39,9 +39,11 @@ pub(crate) fn ask_turn<D: Draws>(
         let words = words_of S.shape (D.book plan.now.draws.now) in
         AreFollowers S.shape.clients (follower_before S words plan.now.history.now spot.turn)
         followers.old }
-    ensures asked { let book = D.book plan.now.draws.now in
+    ensures asked { let S = plan.now.script.now in
+        let book = D.book plan.now.draws.now in
+        let H = plan.now.history.now in
         IfOk result (λ found. found.items
-        ≡ reads_at plan.now.script.now book plan.now.history.now spot.server spot.turn) }
+        ≡ reads_at S.shape book H (pairs_read S book H) spot.server spot.turn) }
     ensures same { OnOk result (followers.new ≡ followers.old) }
 {
     let mut reads = Vec::new(alloc);
@@ -70,9 +72,11 @@ fn ask_one<D: Draws>(
     requires follower { let S = plan.now.script.now in
         let words = words_of S.shape (D.book plan.now.draws.now) in
         follower.old ≡ follower_before S words plan.now.history.now spot.turn number }
-    ensures read { let book = D.book plan.now.draws.now in
-        IfOk result (λ r. r ≡ read_at plan.now.script.now book plan.now.history.now spot.turn
-        number spot.server) }
+    ensures read { let S = plan.now.script.now in
+        let book = D.book plan.now.draws.now in
+        let H = plan.now.history.now in
+        IfOk result (λ r. r ≡ read_for S.shape book H (pairs_read S book H spot.turn number)
+        spot.turn number spot.server) }
     ensures same { follower.new ≡ follower.old }
 {
     let due = plan.history.epoch(spot.turn, number);

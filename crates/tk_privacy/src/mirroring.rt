@@ -1,4 +1,5 @@
-ghost use Rattle.std.specs.Prelude.{◌≡◌, ◌*◌, ◌≤◌, length, None, IfOk, IfErr, OnOk};
+ghost use Rattle.std.specs.Prelude.{◌≡◌, ◌*◌, ◌≤◌, length, Some, None, IfOk, IfErr, OnOk};
+ghost use Rattle.tk_words.specs.Words.{drawn};
 ghost use Rattle.tk_shape.specs.Lengths.{tape_len, turn_count};
 ghost use Rattle.tk_schedule.specs.Schedule.{IsLegal};
 ghost use Rattle.tk_privacy.specs.Privacy as told;
@@ -14,8 +15,8 @@ use tk_frames::ReadFrame;
 use tk_report::{Plan, all_sent};
 use tk_schedule::History;
 use tk_script::Script;
-use tk_shape::Memory;
-use tk_words::{DrawnDraws, Tape};
+use tk_shape::{Memory, Shape};
+use tk_words::{DrawnDraws, Draws, Tape};
 
 /// The tape over which one script shows every server but the hidden one what another of the same
 /// shape shows over a tape. The tape is lost with a refusal: shapes that differ come first, then
@@ -36,19 +37,31 @@ pub fn mirror(
     ensures refused { IfErr result (IsMirrorRefusal
         (mirror_refusal a.now.shape b.now.shape hidden)) }
 {
-    if let Some(differs) = a.shape.differs(&b.shape) {
+    check_mirror(&a.shape, &b.shape, hidden)?;
+    let shown = normal(alloc, a, history, hidden, tape.as_bytes())?;
+    let mirrored = unnormal(alloc, b, history, hidden, shown.as_slice())?;
+    Ok(tape_of(b, mirrored))
+}
+
+/// Refuses shapes that differ, and then a hidden server that isn't one of the shape's.
+pub fn check_mirror(a: &Shape, b: &Shape, hidden: u32) -> Result<(), MirrorError>
+    ensures kept { OnOk result (mirror_refusal a.now b.now hidden ≡ None) }
+    ensures refused { IfErr result (λ e. mirror_refusal a.now b.now hidden ≡ Some e) }
+    ensures one_shape { OnOk result (a.now ≡ b.now) }
+    ensures low { OnOk result (1 ≤ hidden) }
+    ensures high { OnOk result (hidden ≤ a.now.servers) }
+{
+    if let Some(differs) = a.differs(b) {
         return Err(MirrorError::Shapes(differs));
     }
-    let servers = a.shape.servers;
+    let servers = a.servers;
     if hidden < 1 || hidden > servers {
         return Err(MirrorError::Hidden {
             got: hidden,
             servers,
         });
     }
-    let shown = normal(alloc, a, history, hidden, tape.as_bytes())?;
-    let mirrored = unnormal(alloc, b, history, hidden, shown.as_slice())?;
-    Ok(tape_of(b, mirrored))
+    Ok(())
 }
 
 /// The tape of what a script shows to all servers but the hidden one.
@@ -112,11 +125,10 @@ fn last_reads(
     ensures counted { let shape = script.now.shape in
         IfOk result (λ reads. length reads.items ≡ turn_count shape * shape.clients) }
     ensures reads { IfOk result (λ reads.
-        AreLastReads script.now history.now tape.now reads.items) }
+        AreLastReads script.now.shape history.now
+        (told.pairs_read script.now (drawn tape.now) history.now) tape.now reads.items) }
 {
-    let mut bytes = Vec::new(alloc);
-    push(tape, &mut bytes)?;
-    let draws = DrawnDraws::new(&script.shape, tape_of(script, bytes));
+    let draws = draws_over(alloc, script, tape)?;
     let plan = Plan {
         script,
         draws: &draws,
@@ -125,8 +137,20 @@ fn last_reads(
     all_reads(alloc, &plan, script.shape.servers)
 }
 
+/// The words of a tape, which is copied.
+pub fn draws_over(alloc: Global, script: &Script, tape: &[u8]) -> Result<DrawnDraws, Memory>
+    requires whole { length tape.now ≡ tape_len script.now.shape }
+    ensures shape { IfOk result (λ draws.
+        ⟦<DrawnDraws as Draws>⟧.shape draws ≡ script.now.shape) }
+    ensures book { IfOk result (λ draws. ⟦<DrawnDraws as Draws>⟧.book draws ≡ drawn tape.now) }
+{
+    let mut bytes = Vec::new(alloc);
+    push(tape, &mut bytes)?;
+    Ok(DrawnDraws::new(&script.shape, tape_of(script, bytes)))
+}
+
 /// These bytes as a tape of a script.
-fn tape_of(script: &Script, bytes: Vec<u8>) -> Tape
+pub fn tape_of(script: &Script, bytes: Vec<u8>) -> Tape
     requires { length bytes.items ≡ tape_len script.now.shape }
     ensures { result ≡ bytes.items }
 {

@@ -2,6 +2,7 @@ ghost use Rattle.std.specs.Prelude.{◌≡◌, ℕ, ◌+◌, ◌<◌, ◌≤◌,
 ghost use Rattle.tk_shape.specs.Lengths.{turn_count};
 ghost use Rattle.tk_schedule.specs.declared.history.History.{History};
 ghost use Rattle.tk_words.specs.Words.{WordBook};
+ghost use Rattle.tk_privacy.specs.Privacy.{pairs_read};
 ghost use Rattle.tk_privacy.specs.Reads as reads;
 
 use crate::asking::{Spot, ask_turn};
@@ -31,8 +32,11 @@ pub(crate) fn all_reads<D: Draws>(
 ) -> Result<Vec<ReadFrame>, Memory>
     requires low { 1 ≤ server }
     requires high { server ≤ plan.now.script.now.shape.servers }
-    ensures { IfOk result (λ found. found.items ≡ reads.all_reads plan.now.script.now
-        (D.book plan.now.draws.now) plan.now.history.now server) }
+    ensures { let S = plan.now.script.now in
+        let book = D.book plan.now.draws.now in
+        let H = plan.now.history.now in
+        IfOk result (λ found. found.items
+        ≡ reads.all_reads S.shape book H (pairs_read S book H) server) }
 {
     let mut fold = open_fold(alloc, plan.script)?;
     'turns: for turn in 0..plan.script.shape.turns() {

@@ -1,11 +1,10 @@
 //! The two steps from a script's tape to the one over which another shows the same.
-ghost use Rattle.std.specs.Prelude.{◌≡◌, ◌≤◌, ◌*◌, ◌++◌, length, map, IfOk, OnOk};
+ghost use Rattle.std.specs.Prelude.{◌≡◌, ℕ, ◌≤◌, ◌*◌, ◌++◌, length, map, IfOk, OnOk};
 ghost use Rattle.std.specs.List.{range_with_len};
 ghost use Rattle.tk_shape.specs.Lengths.{tape_len, turn_count};
 ghost use Rattle.tk_schedule.specs.declared.history.History.{History};
-ghost use Rattle.tk_words.specs.Words.{write_cell, keyed_cell};
 ghost use Rattle.tk_report.specs.Listings.{sent_by};
-ghost use Rattle.tk_privacy.specs.Privacy.{tape_of, read_cell_changed, normal, regained};
+ghost use Rattle.tk_privacy.specs.Privacy.{Pairs, normal_for, regained, with_reads_for};
 ghost use Rattle.tk_privacy.specs.Steps.{AreLastReads, reads_changed};
 
 use crate::cells::Cells;
@@ -20,30 +19,27 @@ use tk_shape::Memory;
 
 /// A script with what each client sends, and the server that is hidden.
 #[derive(Drop)]
-pub(crate) struct Steps<'a> {
+pub struct Steps<'a> {
     pub script: &'a Script,
     pub sent: &'a [Sendings<'a>],
     pub hidden: u32,
-    ghost all_sent: { sent.now ≡ map (sent_by script.now)
+    pub ghost all_sent: { sent.now ≡ map (sent_by script.now)
         (range_with_len 0 script.now.shape.clients) },
-    ghost low: { 1 ≤ hidden },
-    ghost high: { hidden ≤ script.now.shape.servers },
+    pub ghost low: { 1 ≤ hidden },
+    pub ghost high: { hidden ≤ script.now.shape.servers },
 }
 
 impl<'a> Steps<'a> {
     /// The normal tape: of what is shown to all servers but the hidden one.
-    pub(crate) fn normal(
-        &self,
-        alloc: Global,
-        tape: &[u8],
-        reads: &[ReadFrame],
-    ) -> Result<Vec<u8>, Memory>
+    pub fn normal(&self, alloc: Global, tape: &[u8], reads: &[ReadFrame]) -> Result<Vec<u8>, Memory>
         requires whole { length tape.now ≡ tape_len self.now.script.now.shape }
         requires counted { let shape = self.now.script.now.shape in
             length reads.now ≡ turn_count shape * shape.clients }
         ensures { let S = self.now.script.now in
-            (H : History) → AreLastReads S H tape.now reads.now
-            → IfOk result (λ bytes. bytes.items ≡ normal S H self.now.hidden tape.now) }
+            (H : History) (pairs : Pairs)
+            → AreLastReads S.shape H pairs tape.now reads.now
+            → IfOk result (λ bytes.
+            bytes.items ≡ normal_for S self.now.hidden pairs tape.now) }
     {
         let cells = Cells {
             shape: &self.script.shape,
@@ -63,7 +59,7 @@ impl<'a> Steps<'a> {
     }
 
     /// The tape whose cells of writes are regained from a normal one.
-    pub(crate) fn regained(&self, alloc: Global, tape: &[u8]) -> Result<Vec<u8>, Memory>
+    pub fn regained(&self, alloc: Global, tape: &[u8]) -> Result<Vec<u8>, Memory>
         requires { length tape.now ≡ tape_len self.now.script.now.shape }
         ensures { IfOk result (λ bytes.
             bytes.items ≡ regained self.now.script.now tape.now) }
@@ -86,7 +82,7 @@ impl<'a> Steps<'a> {
     }
 
     /// The tape with its read cells changed.
-    pub(crate) fn with_reads_changed(
+    pub fn with_reads_changed(
         &self,
         alloc: Global,
         tape: &[u8],
@@ -96,9 +92,10 @@ impl<'a> Steps<'a> {
         requires counted { let shape = self.now.script.now.shape in
             length reads.now ≡ turn_count shape * shape.clients }
         ensures { let S = self.now.script.now in
-            (H : History) → AreLastReads S H tape.now reads.now
-            → IfOk result (λ bytes. bytes.items ≡ tape_of S.shape (write_cell S.shape tape.now)
-            (read_cell_changed S H self.now.hidden tape.now) (keyed_cell S.shape tape.now)) }
+            (H : History) (pairs : Pairs)
+            → AreLastReads S.shape H pairs tape.now reads.now
+            → IfOk result (λ bytes.
+            bytes.items ≡ with_reads_for S.shape self.now.hidden pairs tape.now) }
     {
         let cells = Cells {
             shape: &self.script.shape,
@@ -122,9 +119,10 @@ impl<'a> Steps<'a> {
         requires counted { let shape = self.now.script.now.shape in
             length reads.now ≡ turn_count shape * shape.clients }
         ensures { let S = self.now.script.now in
-            (H : History) → AreLastReads S H cells.now.bytes.now reads.now
+            (H : History) (pairs : Pairs)
+            → AreLastReads S.shape H pairs cells.now.bytes.now reads.now
             → OnOk result (out.new.items ≡ out.old.items
-            ++ reads_changed S H self.now.hidden cells.now.bytes.now) }
+            ++ reads_changed S.shape self.now.hidden pairs cells.now.bytes.now) }
     {
         if self.hidden == self.script.shape.servers {
             return push(cells.read_part(), out);

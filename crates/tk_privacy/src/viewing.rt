@@ -56,8 +56,9 @@ pub fn view<D: Draws>(
     Ok(())
 }
 
-/// The frames of a run with these reads.
-fn all_frames<D: Draws>(
+/// The frames that a server sees of a run: turn after turn its entries in order, and then these reads
+/// of it, by client.
+pub fn all_frames<D: Draws>(
     alloc: Global,
     plan: &Plan<D>,
     reads: &[ReadFrame],

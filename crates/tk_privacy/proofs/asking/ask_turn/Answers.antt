@@ -7,7 +7,7 @@ use Rattle.std.proofs.lemmas.List.{set-get_or}
 use Rattle.std.proofs.lemmas.List.FromFn.{map-range_with_len_more}
 use Rattle.tk_client.specs.Looking.{FollowerState}
 use Rattle.tk_frames.specs.declared.read_frame.ReadFrame.{ReadFrame}
-use Rattle.tk_report.specs.Exchange.{read_at}
+use Rattle.tk_privacy.specs.Privacy.{pairs_read, read_for}
 use Rattle.tk_privacy.proofs.asking.ask_turn.Goals as goal
 
 pub ask_one-requires-clause-follower : goal.ask_one-requires-clause-follower
@@ -28,7 +28,9 @@ loop-number-preserved g c =
     let H = c.args.plan.now.history.now in
     let spot = c.args.spot in
     let number = c.loop-number.number in
-    let read = λ (k : ℕ). read_at S book H spot.turn k spot.server in
+    let read : ℕ → ReadFrame =
+    λ k. read_for S.shape book H (pairs_read S book H spot.turn k) spot.turn k spot.server
+    in
     let so_far = c.loop-number.invariant in
     let followers = c.loop-number.followers in
     let now = c.index-followers-number.result in
@@ -60,4 +62,5 @@ returns-clause-asked g c =
     )
     in
     so_far.asked
-    ∙ ap (λ (n : ℕ). map (λ k. read_at S book H spot.turn k spot.server) (range_with_len 0 n)) all
+    ∙ ap (λ (n : ℕ). map (λ k. read_for S.shape book H (pairs_read S book H spot.turn k) spot.turn k
+    spot.server) (range_with_len 0 n)) all

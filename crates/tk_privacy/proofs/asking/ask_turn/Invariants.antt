@@ -1,7 +1,7 @@
 -- The reads of the clients so far are found, and nobody who follows knows more.
 use Rattle.std.proofs.Common.{◌≡◌, map}
 use Rattle.std.specs.List.{range_with_len}
-use Rattle.tk_report.specs.Exchange.{read_at}
+use Rattle.tk_privacy.specs.Privacy.{pairs_read, read_for}
 use Rattle.tk_privacy.proofs.asking.ask_turn.Given as goal
 
 abbrev pub invariant-loop-number : goal.invariant-loop-number
@@ -11,6 +11,7 @@ invariant-loop-number g l =
     let H = l.plan.history.now in
     record {
       asked : l.reads.items
-          ≡ map (λ c. read_at S book H l.spot.turn c l.spot.server) (range_with_len 0 l.number);
+          ≡ map (λ c. read_for S.shape book H (pairs_read S book H l.spot.turn c) l.spot.turn c
+          l.spot.server) (range_with_len 0 l.number);
       same : l.followers ≡ l.fn.followers;
     }

@@ -1,8 +1,8 @@
 -- What is regained is a tape of the shape, and its reads are changed.
 use Rattle.std.proofs.Common.{◌≡◌, ◌∙◌, ℕ, List, ap, sym, subst, length}
 use Rattle.std.specs.Prelude.{IfOk}
-use Rattle.tk_words.specs.Words.{write_cell, keyed_cell}
-use Rattle.tk_privacy.specs.Privacy.{tape_of, read_cell_changed, unnormal}
+use Rattle.tk_words.specs.Words.{drawn}
+use Rattle.tk_privacy.specs.Privacy.{pairs_read, with_reads_for, unnormal}
 use Rattle.tk_privacy.specs.Steps.{AreLastReads}
 use Rattle.tk_privacy.proofs.Changes.{regained-IsTape}
 use Rattle.tk_privacy.proofs.mirroring.unnormal.Goals as goal
@@ -24,11 +24,12 @@ returns c =
     let H = c.args.history.now in
     let h = c.args.hidden in
     let tape = c.as_slice-3.result.now in
-    let are : AreLastReads S H tape c.as_slice-4.result.now =
-    subst (AreLastReads S H tape) (sym c.as_slice-4.ensures.value)
-    (subst (λ (u : List ℕ). AreLastReads S H u c.in_ok-reads.reads.items)
+    let regained_is = c.as_slice-3.ensures.value ∙ c.in_ok-regained.ensures in
+    let are : AreLastReads S.shape H (pairs_read S (drawn tape) H) tape c.as_slice-4.result.now =
+    subst (AreLastReads S.shape H (pairs_read S (drawn tape) H) tape) (sym c.as_slice-4.ensures.value)
+    (subst (λ (u : List ℕ). AreLastReads S.shape H (pairs_read S (drawn u) H) u c.in_ok-reads.reads.items)
     (c.as_slice-2.ensures.value ∙ sym c.as_slice-3.ensures.value) c.in_ok-reads.ensures.reads)
     in
     subst (λ (u : List ℕ). IfOk c.with_reads_changed.result (λ v. v.items
-    ≡ tape_of S.shape (write_cell S.shape u) (read_cell_changed S H h u) (keyed_cell S.shape u)))
-    (c.as_slice-3.ensures.value ∙ c.in_ok-regained.ensures) (c.with_reads_changed.ensures H are)
+    ≡ with_reads_for S.shape h (pairs_read S (drawn u) H) u))
+    regained_is (c.with_reads_changed.ensures H (pairs_read S (drawn tape) H) are)

@@ -2,6 +2,7 @@
 use Rattle.std.proofs.Common.{◌∙◌}
 use Rattle.tk_words.specs.Words.{words_of}
 use Rattle.tk_report.proofs.Offers.{followers-first, group-first, keeps-first}
+use Rattle.tk_privacy.specs.Privacy.{pairs_read}
 use Rattle.tk_privacy.proofs.ReadsLaws.{reads-none}
 use Rattle.tk_privacy.proofs.reads.open_fold.Goals as goal
 
@@ -15,5 +16,5 @@ returns c b H j =
       followers = followers-first S words H c.in_ok-open_followers.field-0.items
           c.in_ok-open_followers.ensures;
       ledger = keeps-first S words H c.in_ok-open-2.field-0 c.in_ok-open-2.ensures;
-      reads = c.new.ensures.items ∙ reads-none S b H j;
+      reads = c.new.ensures.items ∙ reads-none S.shape b H (pairs_read S b H) j;
     }

@@ -8,6 +8,7 @@ use Rattle.tk_report.specs.Clients.{AreFollowers, follower_before, known_first}
 use Rattle.tk_report.specs.Ledgers.{Keeps}
 use Rattle.tk_report.specs.Turns.{placed_before}
 use Rattle.tk_report.proofs.Offers.{turn-done}
+use Rattle.tk_privacy.specs.Privacy.{pairs_read}
 use Rattle.tk_privacy.proofs.ReadsLaws.{reads-next}
 use Rattle.tk_privacy.proofs.reads.take_turn.Goals as goal
 
@@ -67,5 +68,5 @@ returns g c =
           c.in_ok-append.ensures.items
           ∙ ap₂ (λ (xs ys : List ReadFrame). xs ++ ys) c.requires.fold.reads
           c.in_ok-asked.ensures.asked
-          ∙ sym (reads-next S book H spot.server spot.turn);
+          ∙ sym (reads-next S.shape book H (pairs_read S book H) spot.server spot.turn);
     }

@@ -8,7 +8,7 @@ use Rattle.tk_privacy.proofs.StepsLaws.{reads-hidden, reads-open}
 use Rattle.tk_privacy.proofs.steps.Steps.push_reads.Goals as goal
 
 pub returns-then-self : goal.returns-then-self
-returns-then-self c = λ H are.
+returns-then-self c = λ H pairs are.
     let e = c.args.self.now in
     let S = e.script.now in
     let cells = c.args.cells.now in
@@ -18,13 +18,13 @@ returns-then-self c = λ H are.
     let all =
     c.read_part.ensures
     ∙ ap (λ (shape : Shape). read_part shape u) c.requires.one_shape
-    ∙ reads-open S H e.hidden u last whole
+    ∙ reads-open S.shape H e.hidden pairs u last whole
     in
     subst (λ (bytes : List ℕ). OnOk c.push.result
     (c.push.new.out.items ≡ c.args.out.now.items ++ bytes)) all c.push.ensures
 
 pub returns : goal.returns
-returns c = λ H are.
+returns c = λ H pairs are.
     let e = c.args.self.now in
     let S = e.script.now in
     let u = c.args.cells.now.bytes.now in
@@ -32,7 +32,7 @@ returns c = λ H are.
     let high : e.hidden < S.shape.servers = omega (arith, e.high, c.if-self.false) in
     let all =
     ap (λ (shape : Shape). reads_hidden shape reads e.hidden u) c.requires.one_shape
-    ∙ reads-hidden S H e.hidden u reads high are
+    ∙ reads-hidden S.shape H e.hidden pairs u reads high are
     in
     subst (λ (bytes : List ℕ). OnOk c.push_reads.result
     (c.push_reads.new.out.items ≡ c.args.out.now.items ++ bytes)) all c.push_reads.ensures
