@@ -1,0 +1,12 @@
+pub mod Even
+pub mod Sized
+pub mod Gathered
+pub mod Padding
+pub mod Packed
+pub mod Rows
+pub mod Totals
+pub mod Row
+pub mod Dividing
+pub mod Changing
+pub mod TestBlocks
+pub mod Ranges

@@ -1,0 +1,54 @@
+-- Sums that are made range by range.
+use Rattle.std.specs.Prelude.{◌≡◌, ℕ, ◌<◌, List, [], ◌∷◌, length, map, slice_index_or, Vec, Result, Ok, Err, IfOk}
+use Rattle.std.specs.Global.{Global}
+use Rattle.std.specs.Fork.{slice_chunk}
+use Rattle.std.specs.List.{All}
+use Rattle.tk_shape.specs.declared.memory.Memory.{Memory}
+use Rattle.tk_kernel.specs.Xor.{xor_bytes}
+use Rattle.tk_kernel.specs.Pieces.{AllSized}
+use Rattle.tk_shards.specs.Ranged.{Ranged, part_of, Reaches}
+
+-- the sums over one range, a sum for each vector, if there was memory
+abbrev pub Part : Type 0
+Part = Result (Vec (List ℕ) Global) Memory
+
+-- a range of blocks of one size, for each of which the vectors have a bit
+pub record IsAsked (vectors : List (List ℕ)) (r : Ranged) : Type 0 where
+  pub sized : AllSized r.width r.blocks
+  pub reach : All (Reaches r) vectors
+
+-- each part that was made has the sums over its range, and there is one for each range
+pub record HasParts (rs : List Ranged) (vectors : List (List ℕ)) (parts : List Part) : Type 0 where
+  pub count : length parts ≡ length rs
+  pub each : (n : ℕ) (d : Part) (e : Ranged) → n < length parts →
+      IfOk (slice_index_or parts n d)
+      (λ sums. sums.items ≡ map (part_of (slice_index_or (slice_chunk rs 1 n) 0 e)) vectors)
+
+-- the sums of one list added to those of another
+abbrev pub xor_rows : List (List ℕ) → List (List ℕ) → List (List ℕ)
+xor_rows [] ys = []
+xor_rows (x ∷ xs) [] = []
+xor_rows (x ∷ xs) (y ∷ ys) = xor_bytes x y ∷ xor_rows xs ys
+
+-- a part whose sums have these lengths, if it was made
+abbrev pub HasLengths : List ℕ → Part → Type 0
+HasLengths lengths (Ok part) = map length part.items ≡ lengths
+HasLengths lengths (Err refusal) = Unit {0}
+
+-- at least one part; and the sums of the others are as long as those of the first
+abbrev pub AreAlike : List Part → Type 0
+AreAlike [] = ⊥
+AreAlike (Ok part ∷ parts) = All (HasLengths (map length part.items)) parts
+AreAlike (Err refusal ∷ parts) = Unit {0}
+
+-- there was memory for each of these parts, and added to the start they make all
+abbrev pub AddUp : List (List ℕ) → List Part → List (List ℕ) → Type 0
+AddUp start [] all = all ≡ start
+AddUp start (Ok part ∷ parts) all = AddUp (xor_rows start part.items) parts all
+AddUp start (Err refusal ∷ parts) all = ⊥
+
+-- the same of all parts, the first of which is the start
+abbrev pub IsTotal : List Part → List (List ℕ) → Type 0
+IsTotal [] all = ⊥
+IsTotal (Ok part ∷ parts) all = AddUp part.items parts all
+IsTotal (Err refusal ∷ parts) all = ⊥

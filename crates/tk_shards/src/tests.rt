@@ -1,0 +1,205 @@
+//! Sums over blocks that are divided in different ways.
+ghost use Rattle.std.specs.Prelude.{◌≡◌, ◌*◌, ◌<◌, ◌≤◌, [], ◌∷◌, length, IfOk};
+ghost use Rattle.std.specs.List.{All};
+ghost use Rattle.tk_kernel.specs.Pieces.{all_pieces};
+ghost use Rattle.tk_shards.specs.Shards.{AreSameBut};
+
+use crate::{Division, DivisionError, ShardSet, ranges_make_the_sum};
+use std::alloc::Global;
+use std::process::Abort;
+use std::test::Fail;
+use std::thread::Threads;
+use tk_answer::{Blocks, answer};
+use tk_shape::{Bytes, Memory};
+
+/// Eight blocks of 41 bytes, all together.
+#[derive(Drop)]
+struct Eight {
+    bytes: [u8; 328],
+}
+
+impl Blocks for Eight {
+    ghost blocks = { λ e. all_pieces 41 e.bytes };
+
+    ghost width = { λ _. 41 };
+
+    fn count(&self) -> u32 {
+        8
+    }
+
+    fn width(&self) -> u32 {
+        41
+    }
+
+    fn run(&self, i: u32) -> &[u8] {
+        &self.bytes[i as usize * 41..328]
+    }
+}
+
+/// Block i has all bytes i + 1.
+fn ascending() -> Eight {
+    let mut bytes = [0; 328];
+    for (i, byte) in bytes.iter_mut().enumerate() {
+        *byte = (i / 41) as u8 + 1;
+    }
+    Eight { bytes }
+}
+
+/// The same blocks, but for the first.
+fn with_first(old: &Eight, first: u8) -> Eight
+    ensures { AreSameBut (0 ∷ []) (all_pieces 41 result.bytes) (all_pieces 41 old.now.bytes) }
+{
+    let mut bytes = old.bytes;
+    bytes[..41].fill(first);
+    Eight { bytes }
+}
+
+/// Twenty-four blocks of 5 bytes, all together.
+#[derive(Drop)]
+struct Many {
+    bytes: [u8; 120],
+}
+
+impl Blocks for Many {
+    ghost blocks = { λ m. all_pieces 5 m.bytes };
+
+    ghost width = { λ _. 5 };
+
+    fn count(&self) -> u32 {
+        24
+    }
+
+    fn width(&self) -> u32 {
+        5
+    }
+
+    fn run(&self, i: u32) -> &[u8] {
+        &self.bytes[i as usize * 5..120]
+    }
+}
+
+/// No two bytes of a block are alike, and no two blocks.
+fn varied() -> Many {
+    let mut bytes = [0; 120];
+    for (i, byte) in bytes.iter_mut().enumerate() {
+        *byte = (i as u8).wrapping_mul(77) ^ (i / 3) as u8;
+    }
+    Many { bytes }
+}
+
+/// So many vectors of three bytes.
+fn vectors(alloc: Global, count: u8) -> Result<Vec<Bytes>, Memory>
+    ensures { IfOk result (λ vs. All (λ v. length v ≡ 3) vs.items) }
+{
+    let mut vectors = Vec::new(alloc);
+    for i in 0..count {
+        let bits = [
+            i.wrapping_mul(37),
+            i.wrapping_mul(91) ^ 0x5a,
+            0xff ^ i.wrapping_mul(13),
+        ];
+        vectors.push(Bytes::from_slice(alloc, &bits)?)?;
+    }
+    Ok(vectors)
+}
+
+/// Whether a set gives the sums over these blocks for each vector.
+fn agrees<R: Threads + Sync>(
+    rt: &R,
+    blocks: &Many,
+    set: &ShardSet,
+    vectors: &[Bytes],
+) -> Result<bool, Memory>
+    requires bits { All (λ v. length v ≡ 3) vectors.now }
+    requires blocks { length set.now.blocks ≡ 24 }
+{
+    let sums = set.answer_all(rt, vectors)?;
+    for (vector, sum) in vectors.iter().zip(sums.iter()) {
+        let mut want = [0xff; 5];
+        answer(blocks, vector.as_slice(), &mut want);
+        if sum.as_slice() != want.as_slice() {
+            return Ok(false);
+        }
+    }
+    Ok(sums.len() == vectors.len())
+}
+
+/// The sum of the blocks of one vector, of which all bytes are alike.
+fn sum_of<R: Threads + Sync>(rt: &R, set: &ShardSet, vector: u8) -> Result<[u8; 41], Memory>
+    requires width { set.now.width ≡ 41 }
+    requires blocks { length set.now.blocks ≡ 8 }
+{
+    let mut sum = [0xff; 41];
+    set.answer(rt, &[vector], &mut sum)?;
+    Ok(sum)
+}
+
+#[test]
+fn three_ranges_recut_and_updated(rt: HostRuntime) -> Result<(), Fail> {
+    let alloc = rt.alloc();
+    let blocks = ascending();
+    let mut set = ShardSet::open(alloc, &blocks, Division::of(alloc, 8, &[3, 5])?)?;
+    assert_eq!(rt; sum_of(&rt, &set, 0x05)?, [0x02; 41]);
+    assert_eq!(rt; sum_of(&rt, &set, 0x00)?, [0x00; 41]);
+    assert_eq!(rt; sum_of(&rt, &set, 0xa0)?, [0x0e; 41]);
+    assert_eq!(rt; sum_of(&rt, &set, 0xa5)?, [0x0c; 41]);
+    set.recut(Division::of(alloc, 8, &[1])?)?;
+    assert_eq!(rt; sum_of(&rt, &set, 0xa5)?, [0x0c; 41]);
+    set.update(&with_first(&blocks, 0x11), &[0]);
+    assert_eq!(rt; sum_of(&rt, &set, 0xa5)?, [0x1c; 41]);
+    Ok(())
+}
+
+#[test]
+fn cuts_out_of_order_or_beyond(rt: HostRuntime) -> Result<(), Fail> {
+    let alloc = rt.alloc();
+    let back = Division::of(alloc, 8, &[5, 3]);
+    assert!(rt; matches!(back, Err(DivisionError::Cut { at: 1 })));
+    let beyond = Division::of(alloc, 8, &[9]);
+    assert!(rt; matches!(beyond, Err(DivisionError::Cut { at: 0 })));
+    let empty = Division::of(alloc, 8, &[3, 3])?;
+    assert_eq!(rt; empty.buckets(), 8);
+    Ok(())
+}
+
+#[test]
+fn laws_can_be_called(_rt: HostRuntime) {
+    ranges_make_the_sum();
+}
+
+#[test]
+fn any_even_division(rt: HostRuntime) -> Result<(), Fail> {
+    let alloc = rt.alloc();
+    let blocks = varied();
+    let many = vectors(alloc, 30)?;
+    let few = vectors(alloc, 3)?;
+    for shards in [1, 2, 3, 5, 24, 64] {
+        let set = ShardSet::open(alloc, &blocks, Division::even(alloc, 24, shards)?)?;
+        assert!(rt; agrees(&rt, &blocks, &set, &many)?, "{shards} ranges");
+        assert!(rt; agrees(&rt, &blocks, &set, &few)?, "{shards} ranges");
+    }
+    Ok(())
+}
+
+#[test]
+fn empty_ranges_and_ranges_of_one(rt: HostRuntime) -> Result<(), Fail> {
+    let alloc = rt.alloc();
+    let blocks = varied();
+    let vectors = vectors(alloc, 30)?;
+    let division = Division::of(alloc, 24, &[0, 0, 3, 3, 4, 5, 13, 24, 24])?;
+    let set = ShardSet::open(alloc, &blocks, division)?;
+    assert!(rt; agrees(&rt, &blocks, &set, &vectors)?);
+    let mut again = ShardSet::open(alloc, &set, Division::of(alloc, 24, &[7, 17])?)?;
+    assert!(rt; agrees(&rt, &blocks, &again, &vectors)?);
+    again.update(&blocks, &[]);
+    assert!(rt; agrees(&rt, &blocks, &again, &vectors)?);
+    Ok(())
+}
+
+#[test]
+fn no_vectors(rt: HostRuntime) -> Result<(), Fail> {
+    let alloc = rt.alloc();
+    let set = ShardSet::open(alloc, &ascending(), Division::even(alloc, 8, 2)?)?;
+    assert!(rt; set.answer_all(&rt, &[])?.is_empty());
+    Ok(())
+}
