@@ -1,0 +1,13 @@
+-- What a computation of the definitions unfolds.
+use Rattle.std.specs.Prelude.{⊤}
+use Rattle.tk_kernel.specs.Chosen.{chosen_sum}
+use Rattle.tk_place.specs.Place.{levels_from, search_end}
+use Rattle.tk_table.specs.Table.{layout_with, layout_on}
+use Rattle.tk_privacy.proofs.Offers as privacy
+use Rattle.tk_hostile.specs.Choice.{replies_by}
+use Rattle.tk_hostile.specs.Wrong.{reader_asking, wrong_normal, wrong_unnormal}
+
+unfoldable pub computing : ⊤
+unfolding privacy.computing chosen_sum levels_from search_end layout_with layout_on replies_by
+    reader_asking wrong_normal wrong_unnormal
+computing = tt

@@ -1,0 +1,11 @@
+pub mod GivenLaws
+pub mod Regained
+pub mod WrongLaws
+pub mod WalkLaws
+pub mod AskingLaws
+pub mod ReplyingLaws
+pub mod ReadingLaws
+pub mod Computing
+pub mod examples
+pub mod FollowingLaws
+pub mod MirroringLaws

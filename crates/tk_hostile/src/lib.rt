@@ -1,0 +1,24 @@
+//! What clients read where all servers but one reply as they please: whatever they reply, no server
+//! but the one that is hidden can tell two scripts of one shape apart by what it sees.
+#![tactic(auto)]
+
+mod following;
+mod laws;
+mod mirroring;
+mod reading;
+mod replies;
+mod replying;
+mod sides;
+mod sums;
+mod viewing;
+mod walking;
+
+pub use following::wrong_logs;
+pub use laws::{one_to_one, same_view};
+pub use mirroring::wrong_mirror;
+pub use replies::Replies;
+pub use tk_shape::Memory;
+pub use viewing::wrong_view;
+
+#[cfg(test)]
+mod tests;
