@@ -38,6 +38,8 @@ mod traces;
 mod view_tests;
 #[cfg(test)]
 mod word_tests;
+#[cfg(test)]
+mod wrong_tests;
 
 use std::env;
 use std::io::{ErrorKind, Write};

@@ -46,7 +46,7 @@ const FRAMES: &str =
 ";
 
 /// Three servers' script of one text, the same without it, a history, and a tape of the first.
-const MIRRORED: &[u8] = b"talek 1
+pub(crate) const MIRRORED: &[u8] = b"talek 1
 shape 3 8 4 4 24 64 1 0 2 1 1 1
 drawn
 log 0 1
@@ -71,7 +71,7 @@ end
 ";
 
 /// Its tape as it is printed.
-const TAPE: &str = "tape
+pub(crate) const TAPE: &str = "tape
 x 1515151515151515151515151515151515151515151515151515151515151515
 x 1515151512121212121212121212121212121212121212121212121212121212
 x 12121212121212122121212121212121212121210000000000000000a00bc00d
@@ -82,7 +82,7 @@ end
 
 /// The tapes over which the script without a text shows the same to all servers but the first, the
 /// second, the third.
-const OTHERS: [&str; 3] = [
+pub(crate) const OTHERS: [&str; 3] = [
     "tape
 x 3131313131313131313131313133595831313131313131313131313131313131
 x 3131313112121212121212121212121212121212121212121212121212121212
@@ -178,7 +178,12 @@ const REFUSED: [(bool, usize, &str, &str, Status); 10] = [
 ];
 
 /// Some lines of a text, from 1 on.
-fn lines_from(alloc: Global, text: &[u8], from: usize, to: usize) -> Result<Vec<u8>, AllocError> {
+pub(crate) fn lines_from(
+    alloc: Global,
+    text: &[u8],
+    from: usize,
+    to: usize,
+) -> Result<Vec<u8>, AllocError> {
     let mut found = Vec::new(alloc);
     for (i, line) in text.split(|byte| *byte == b'\n').enumerate() {
         if from <= i + 1 && i < to {

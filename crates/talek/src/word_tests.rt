@@ -33,6 +33,8 @@ fn words(rt: HostRuntime) -> Result<(), Fail> {
         &["tally", "01"],
         &["tally"],
         &["mirror"],
+        &["wrong"],
+        &["wrong", "01"],
         &["view", "01"],
         &["view", "4294967296"],
         &["handle", "0"],

@@ -26,7 +26,7 @@ use Rattle.tk_cli.specs.declared.status.Status.TheVariants as status
 use Rattle.tk_cli.specs.Errors.{book_status, history_status}
 use Rattle.tk_cli.specs.Inputs.{Reads, IsOfRuns, Refuses, Stops}
 use Rattle.tk_cli.specs.Inputs.{form_of, tape_refusal, wide_refusal, shapes_refusal, history_refusal}
-use Rattle.tk_cli.specs.Inputs.{server_refusal, difference, bad_history_line, refusal_of}
+use Rattle.tk_cli.specs.Inputs.{server_refusal, difference, bad_history_line, hiding_refusal, refusal_of}
 use Rattle.tk_cli.specs.Endings.{IsAnswer, IsMade}
 
 -- ---- how much was taken
@@ -114,6 +114,15 @@ refuses-stops r s left left' f f' input read refuses =
 -- ---- what refuses an input, one after the other
 
 -- the tape of another length
+hiding-tape : (h : ℕ) (input : Input) (want got : ℕ) →
+    IsOtherTape input.first.shape input.tape want got →
+    hiding_refusal h input ≡ Some (status.Tape want got)
+hiding-tape h input want got other =
+    let S = input.first.shape in
+    other-refused S input.tape (shapes_refusal (difference S input.second)
+    (history_refusal (bad_history_line S input.history) (server_refusal h S.servers)))
+    want got other
+
 refusal-tape : (r : Request) (input : Input) (want got : ℕ) →
     IsOtherTape input.first.shape input.tape want got →
     refusal_of r input ≡ Some (status.Tape want got)
@@ -121,11 +130,8 @@ refusal-tape (request.View j) input want got other =
     let S = input.first.shape in
     other-refused S input.tape
     (history_refusal (bad_history_line S input.history) (server_refusal j S.servers)) want got other
-refusal-tape (request.Mirror h) input want got other =
-    let S = input.first.shape in
-    other-refused S input.tape (shapes_refusal (difference S input.second)
-    (history_refusal (bad_history_line S input.history) (server_refusal h S.servers)))
-    want got other
+refusal-tape (request.Mirror h) input want got other = hiding-tape h input want got other
+refusal-tape (request.Wrong h) input want got other = hiding-tape h input want got other
 refusal-tape request.Lift input want got other =
     let S = input.first.shape in
     other-refused S input.tape (wide_refusal S input.tape None) want got other

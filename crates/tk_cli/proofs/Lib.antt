@@ -5,3 +5,5 @@ pub mod EndingLaws
 pub mod WordLaws
 pub mod LiftLaws
 pub mod CompleteLaws
+pub mod HidingLaws
+pub mod ChosenLaws

@@ -1,6 +1,6 @@
 -- What refuses a script to be lifted, and what it is lifted to.
 use Rattle.std.proofs.Common.{◌≡◌, ◌∙◌, ◌≤◌, ◌<◌, ◌++◌, append-nil, refl, ap, sym, subst, ℕ, List, [], length, cond, Option, Some, arith}
-use Rattle.std.specs.Prelude.{None, IsSome, nat_lt, Result, Err}
+use Rattle.std.specs.Prelude.{None, IsSome, nat_lt}
 use Rattle.std.proofs.lemmas.Bool.Decides.{nat_tests}
 use Rattle.tk_shape.specs.declared.shape.Shape.{Shape}
 use Rattle.tk_shape.specs.Lengths.{tape_len}

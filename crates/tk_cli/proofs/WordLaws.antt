@@ -46,6 +46,9 @@ view-reads j = record { source = λ no. no; how = λ e old new how. how }
 pub mirror-reads : (h : ℕ) → ReadsInput (request.Mirror h)
 mirror-reads h = record { source = λ no. no; how = λ e old new how. how }
 
+pub wrong-reads : (h : ℕ) → ReadsInput (request.Wrong h)
+wrong-reads h = record { source = λ no. no; how = λ e old new how. how }
+
 pub lift-reads : ReadsInput request.Lift
 lift-reads = record { source = λ no. no; how = λ e old new how. how }
 
@@ -169,6 +172,9 @@ plain-view j old new = record { taps = λ input H. tt; back = λ input H e nothi
 
 pub plain-mirror : (h : ℕ) (old new : Outside) → IsPlain (request.Mirror h) old new
 plain-mirror h old new = record { taps = λ input H. tt; back = λ input H e nothing. nothing }
+
+pub plain-wrong : (h : ℕ) (old new : Outside) → IsPlain (request.Wrong h) old new
+plain-wrong h old new = record { taps = λ input H. tt; back = λ input H e nothing. nothing }
 
 pub plain-lift : (old new : Outside) → IsPlain request.Lift old new
 plain-lift old new = record { taps = λ input H. tt; back = λ input H e nothing. nothing }

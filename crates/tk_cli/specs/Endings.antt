@@ -13,6 +13,8 @@ use Rattle.tk_words.specs.Lifting.{lifted_book}
 use Rattle.tk_report.specs.Report.{report}
 use Rattle.tk_report.specs.Exchange.{exchange, view, bytes_of}
 use Rattle.tk_privacy.specs.Privacy.{mirror}
+use Rattle.tk_hostile.specs.Choice.{Choice}
+use Rattle.tk_hostile.specs.Wrong.{wrong_mirror}
 use Rattle.tk_report.specs.declared.outcome.Outcome.{Outcome}
 use Rattle.tk_report.specs.Outcomes.{IsLeftBy}
 use Rattle.tk_report.specs.Shown.{ShowsHistory}
@@ -25,6 +27,7 @@ use Rattle.tk_cli.specs.declared.status.Status.{Status}
 use Rattle.tk_cli.specs.declared.status.Status.TheVariants as status
 use Rattle.tk_cli.specs.declared.ended.Ended.{Ended}
 use Rattle.tk_cli.specs.Handles.{hex_lines}
+use Rattle.tk_cli.specs.Chosen.{chosen}
 use Rattle.tk_cli.specs.Puts.{PutsSome}
 use Rattle.tk_cli.specs.Texts.{IsTextOf}
 use Rattle.tk_cli.specs.Inputs.{Reads, IsDue, IsHistoryFor, Stops, form_of, kept_in, refusal_of}
@@ -47,6 +50,11 @@ view_in server input H = hex_lines (view input.first (book_of input) H server)
 abbrev pub mirror_of : ℕ → Script → Option Script → History → List ℕ → List ℕ
 mirror_of hidden A None H tape = []
 mirror_of hidden A (Some B) H tape = printed_tape (mirror A B H hidden tape)
+
+-- the same where the servers reply so
+abbrev pub wrong_of : ℕ → Script → Option Script → History → Choice → List ℕ → List ℕ
+wrong_of hidden A None H F tape = []
+wrong_of hidden A (Some B) H F tape = printed_tape (wrong_mirror A B H hidden F tape)
 
 -- a script, and the tape of a drawn one
 abbrev pub tape_section : WordBook → List ℕ
@@ -74,6 +82,9 @@ output_of (request.Run workers) input H = report_in input H
 output_of (request.View server) input H = view_in server input H
 output_of (request.Mirror hidden) input H =
     mirror_of hidden input.first input.second H (kept_in input.tape)
+output_of (request.Wrong hidden) input H =
+    wrong_of hidden input.first input.second H (chosen input.first.shape input.replies)
+    (kept_in input.tape)
 output_of request.Lift input H = lifted_in input
 output_of _ input H = []
 

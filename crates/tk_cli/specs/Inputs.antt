@@ -33,6 +33,7 @@ use Rattle.tk_cli.specs.declared.status.Status.TheVariants as status
 abbrev pub form_of : Request → Form
 form_of (request.View server) = form.View
 form_of (request.Mirror hidden) = form.Mirror
+form_of (request.Wrong hidden) = form.Wrong
 form_of _ = form.Run
 
 -- these bytes were taken, and they were all that was left
@@ -98,6 +99,15 @@ abbrev pub server_refusal : ℕ → ℕ → Option Status
 server_refusal got servers =
     cond (got == 0 || nat_lt servers got) (Some (status.Hidden got servers)) None
 
+-- the first that refuses an input of two scripts where a server is hidden
+abbrev pub hiding_refusal : ℕ → Input → Option Status
+hiding_refusal hidden input =
+    let shape = input.first.shape in
+    tape_refusal shape input.tape
+    (shapes_refusal (difference shape input.second)
+    (history_refusal (bad_history_line shape input.history)
+    (server_refusal hidden shape.servers)))
+
 -- the first that refuses an input of a request
 abbrev pub refusal_of : Request → Input → Option Status
 refusal_of (request.View server) input =
@@ -105,12 +115,8 @@ refusal_of (request.View server) input =
     tape_refusal shape input.tape
     (history_refusal (bad_history_line shape input.history)
     (server_refusal server shape.servers))
-refusal_of (request.Mirror hidden) input =
-    let shape = input.first.shape in
-    tape_refusal shape input.tape
-    (shapes_refusal (difference shape input.second)
-    (history_refusal (bad_history_line shape input.history)
-    (server_refusal hidden shape.servers)))
+refusal_of (request.Mirror hidden) input = hiding_refusal hidden input
+refusal_of (request.Wrong hidden) input = hiding_refusal hidden input
 refusal_of request.Lift input =
     let shape = input.first.shape in
     tape_refusal shape input.tape (wide_refusal shape input.tape None)
@@ -141,16 +147,20 @@ pub record IsSpelled (f : Form) (input : Input) : Type 0 where
   pub bytes : List ℕ
   pub spelled : Spells f bytes input
 
+-- the status is that of what refuses an input, or memory runs out
+abbrev pub IsOfRefusal : Option Status → Status → Type 0
+IsOfRefusal refusal status.Done = ⊥
+IsOfRefusal refusal status.Memory = Unit {0}
+IsOfRefusal refusal status.Usage = ⊥
+IsOfRefusal refusal (status.Script line c) = ⊥
+IsOfRefusal refusal status.Read = ⊥
+IsOfRefusal refusal status.Write = ⊥
+IsOfRefusal refusal status.TooLong = ⊥
+IsOfRefusal refusal s = refusal ≡ Some s
+
 -- how a request ends that an input refuses, or for which memory runs out
 abbrev pub Refuses : Request → Input → Status → Type 0
-Refuses r input status.Done = ⊥
-Refuses r input status.Memory = Unit {0}
-Refuses r input status.Usage = ⊥
-Refuses r input (status.Script line c) = ⊥
-Refuses r input status.Read = ⊥
-Refuses r input status.Write = ⊥
-Refuses r input status.TooLong = ⊥
-Refuses r input s = refusal_of r input ≡ Some s
+Refuses r input = IsOfRefusal (refusal_of r input)
 
 -- a run, serial or with threads
 abbrev pub IsOfRuns : Request → Type 0
@@ -181,6 +191,7 @@ IsHistoryFor request.Serial input H = H ≡ serial_history input.first.shape
 IsHistoryFor (request.Run workers) input H = IsLegal input.first.shape H
 IsHistoryFor (request.View server) input H = TellsIn input.first.shape input.history H
 IsHistoryFor (request.Mirror hidden) input H = TellsIn input.first.shape input.history H
+IsHistoryFor (request.Wrong hidden) input H = TellsIn input.first.shape input.history H
 IsHistoryFor request.Lift input H = Unit {0}
 IsHistoryFor _ input H = ⊥
 

@@ -8,6 +8,8 @@ pub mod Puts
 pub mod Texts
 pub mod Errors
 pub mod Inputs
+pub mod Chosen
+pub mod Hidings
 pub mod Endings
 pub mod PassingOver
 pub mod Completeness

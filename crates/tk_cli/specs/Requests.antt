@@ -43,6 +43,11 @@ abbrev pub AsksMirror : Words → (hidden : ℕ) → Type 0
 AsksMirror (word ∷ number ∷ []) hidden = (word ≡ codes "mirror") × IsSmall hidden number
 AsksMirror _ hidden = ⊥
 
+-- the same tape where all servers but the hidden one reply as they please
+abbrev pub AsksWrong : Words → (hidden : ℕ) → Type 0
+AsksWrong (word ∷ number ∷ []) hidden = (word ≡ codes "wrong") × IsSmall hidden number
+AsksWrong _ hidden = ⊥
+
 -- the script that is made from a number
 abbrev pub AsksMake : Words → ℕ → Type 0
 AsksMake (word ∷ number ∷ []) n = (word ≡ codes "make") × IsLong n number
@@ -63,8 +68,8 @@ AsksHandle (word ∷ number ∷ digits ∷ []) id root =
     (word ≡ codes "handle") × IsLong id number × SpellsRoot digits root
 AsksHandle _ id root = ⊥
 
--- a run by some workers, the view of some server, some mirrored tape, the handle of some log, some
--- script that is made, and what comes of it
+-- a run by some workers, the view of some server, some mirrored tape, also under wrong replies, the handle
+-- of some log, some script that is made, and what comes of it
 abbrev pub AsksSomeRun : Words → Type 0
 AsksSomeRun words = (workers : ℕ) × AsksRun words workers
 
@@ -73,6 +78,9 @@ AsksSomeView words = (server : ℕ) × AsksView words server
 
 abbrev pub AsksSomeMirror : Words → Type 0
 AsksSomeMirror words = (hidden : ℕ) × AsksMirror words hidden
+
+abbrev pub AsksSomeWrong : Words → Type 0
+AsksSomeWrong words = (hidden : ℕ) × AsksWrong words hidden
 
 abbrev pub AsksSomeHandle : Words → Type 0
 AsksSomeHandle words = (id : ℕ) × (root : List ℕ) × AsksHandle words id root
@@ -87,13 +95,15 @@ AsksSomeTally words = (n : ℕ) × AsksTally words n
 abbrev pub AsksNothing : Words → Type 0
 AsksNothing words =
     ¬ (AsksSerial words ⊎ AsksSomeRun words ⊎ AsksSomeView words ⊎ AsksSomeMirror words
-    ⊎ AsksSomeHandle words ⊎ AsksSomeMake words ⊎ AsksSomeTally words ⊎ AsksLift words)
+    ⊎ AsksSomeHandle words ⊎ AsksSomeMake words ⊎ AsksSomeTally words ⊎ AsksLift words
+    ⊎ AsksSomeWrong words)
 
 abbrev pub Asks : Words → Request → Type 0
 Asks words request.Serial = AsksSerial words
 Asks words (request.Run workers) = AsksRun words workers
 Asks words (request.View server) = AsksView words server
 Asks words (request.Mirror hidden) = AsksMirror words hidden
+Asks words (request.Wrong hidden) = AsksWrong words hidden
 Asks words (request.Handle id root) = AsksHandle words id root
 Asks words (request.Make n) = AsksMake words n
 Asks words (request.Tally n) = AsksTally words n

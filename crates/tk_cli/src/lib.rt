@@ -5,6 +5,7 @@ mod ended;
 mod ending;
 mod exit;
 mod handle_word;
+mod hiding;
 mod input;
 mod laws;
 mod lift_word;
@@ -18,6 +19,7 @@ mod tally_word;
 mod telling;
 mod top;
 mod view_word;
+mod wrong_word;
 
 pub use ended::Ended;
 pub use exit::{Exit, exit_after, exit_with};

@@ -5,14 +5,14 @@ ghost use Rattle.tk_cli.specs.Endings.{IsAnswer, IsMade};
 ghost use Rattle.tk_cli.specs.Inputs.{IsSpelled, Refuses, Stops};
 ghost use Rattle.tk_cli.specs.Limits.{input_limit};
 
-use crate::input::{history_in, input_from, server_in, tape_in};
+use crate::hiding::{Hiding, hiding_in, tape_text};
+use crate::input::input_from;
 use crate::request::Request;
 use crate::status::Status;
 use std::alloc::Global;
 use tk_io::Source;
 use tk_privacy::mirror;
-use tk_script::{Form, Input, print_tape};
-use tk_shape::Differs;
+use tk_script::{Form, Input};
 
 /// The mirrored tape of an input's two scripts, in its one printed form.
 pub(crate) fn mirror_text<S: Source>(
@@ -38,24 +38,16 @@ fn mirrored(alloc: Global, hidden: u32, input: Input) -> Result<Vec<u8>, Status>
     ensures answer { IfOk result (λ text. IsAnswer (Request.Mirror hidden) input text.items) }
     ensures refused { IfErr result (Refuses (Request.Mirror hidden) input) }
 {
-    let Input {
+    let Hiding {
         first,
         second,
         history,
         tape,
-    } = input;
-    let Some(second) = second else { unreachable!() };
-    let tape = tape_in(&first.shape, tape)?;
-    if let Some(Differs { field, a, b }) = first.shape.differs(&second.shape) {
-        return Err(Status::Shapes { field, a, b });
-    }
-    let history = history_in(alloc, &first.shape, history)?;
-    server_in(&first.shape, hidden)?;
+        ..
+    } = hiding_in(alloc, hidden, input)?;
     // the shapes and the server were asked before, so that only memory may be wanting
     let Ok(tape) = mirror(alloc, &first, &second, &history, hidden, tape) else {
         return Err(Status::Memory);
     };
-    let mut text = Vec::new(alloc);
-    print_tape(&tape, &mut text)?;
-    Ok(text)
+    Ok(tape_text(alloc, &tape)?)
 }

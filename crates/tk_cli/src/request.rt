@@ -16,6 +16,8 @@ pub(crate) enum Request {
     View { server: u32 },
     /// The tape over which another script shows the same to all servers but one.
     Mirror { hidden: u32 },
+    /// The same tape where all servers but the hidden one reply as they please.
+    Wrong { hidden: u32 },
     /// The handle of a log, from a root.
     Handle { id: u64, root: [u8; 32] },
     /// The script that is made from a number.
@@ -116,6 +118,9 @@ fn asked_server(word: &[u8], number: &[u8]) -> Request
     }
     if word == b"mirror".as_slice() {
         return Request::Mirror { hidden: number };
+    }
+    if word == b"wrong".as_slice() {
+        return Request::Wrong { hidden: number };
     }
     Request::Nothing
 }

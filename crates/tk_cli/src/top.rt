@@ -16,6 +16,7 @@ use crate::status::Status;
 use crate::tally_word::tally_text;
 use crate::telling::answer;
 use crate::view_word::view_text;
+use crate::wrong_word::wrong_text;
 use std::alloc::AllocGlobal;
 use std::sync::Wait;
 use std::thread::Threads;
@@ -46,6 +47,7 @@ pub fn talek<R: Threads + Wait + Sync + AllocGlobal, S: Source, K: Sink, T: Taps
         Request::Run { workers } => run_threads(&Crew { rt, gate, workers }, source, sink, taps),
         Request::View { server } => answer(view_text(alloc, server, source), sink),
         Request::Mirror { hidden } => answer(mirror_text(alloc, hidden, source), sink),
+        Request::Wrong { hidden } => answer(wrong_text(alloc, hidden, source), sink),
         Request::Handle { id, root } => answer(handle_line(alloc, id, &root), sink),
         Request::Make { number } => answer(make_text(alloc, number), sink),
         Request::Tally { number } => answer(tally_text(alloc, number), sink),

@@ -1,6 +1,5 @@
 -- The text is what was printed of the script in format 2.
-use Rattle.std.proofs.Common.{◌≡◌, ◌∙◌, ◌++◌, ap, ℕ, List}
-use Rattle.std.specs.Prelude.{None}
+use Rattle.std.proofs.Common.{◌∙◌, ◌++◌, ap, ℕ, List}
 use Rattle.tk_script.specs.Printing.{printed}
 use Rattle.tk_cli.proofs.lift_word.keyed_text.Goals as goal
 

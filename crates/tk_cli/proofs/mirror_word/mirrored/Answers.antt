@@ -1,105 +1,24 @@
 -- What refuses the input, and what it is answered with.
-use Rattle.std.proofs.Common.{◌≡◌, ◌∙◌, ◌++◌, ap, sym, subst, ℕ, List, Option}
-use Rattle.std.specs.Prelude.{Err}
-use Rattle.tk_shape.specs.declared.differs.Differs.{Differs}
-use Rattle.tk_script.specs.declared.form.Form.TheVariants as form
-use Rattle.tk_script.specs.declared.script.Script.{Script}
-use Rattle.tk_script.specs.Book.{HasTape}
-use Rattle.tk_script.specs.Printing.{printed_tape}
-use Rattle.tk_privacy.specs.Privacy.{mirror}
-use Rattle.tk_cli.specs.Endings.{mirror_of}
-use Rattle.tk_script.proofs.Offers.{spelled-HasTape}
+use Rattle.std.proofs.Common.{◌≡◌, sym, subst}
 use Rattle.tk_cli.specs.declared.request.Request.TheVariants.{Mirror}
 use Rattle.tk_cli.specs.declared.status.Status.{Status}
-use Rattle.tk_cli.specs.Errors.{book_status, history_status}
-use Rattle.tk_cli.specs.Inputs.{Refuses, bad_history_line, difference, shapes_refusal}
-use Rattle.tk_cli.specs.Inputs.{history_refusal, kept_in, server_refusal}
+use Rattle.tk_cli.specs.Inputs.{Refuses}
 use Rattle.tk_cli.proofs.ErrorLaws.{err_then}
-use Rattle.tk_cli.proofs.InputLaws.{whole-not_refused, book-refuses, history-refuses, server-refuses}
+use Rattle.tk_cli.proofs.HidingLaws.{mirror-two, mirror-answers}
 use Rattle.tk_cli.proofs.mirror_word.mirrored.Goals as goal
 
-pub tape_in-requires : goal.tape_in-requires
-tape_in-requires c =
-    let input = c.args.input in
-    subst (λ k. HasTape input.first.shape k input.tape) c.requires.spelled.first_drawn
-    (spelled-HasTape form.Mirror c.requires.bytes input c.requires.spelled)
+pub hiding_in-requires : goal.hiding_in-requires
+hiding_in-requires c = mirror-two c.requires.bytes c.args.input c.requires.spelled
 
-pub returns-in_err-tape-clause-refused : goal.returns-in_err-tape-clause-refused
-returns-in_err-tape-clause-refused c =
-    let input = c.args.input in
+pub returns-in_err-first-clause-refused : goal.returns-in_err-first-clause-refused
+returns-in_err-first-clause-refused c =
     let r = Mirror c.args.hidden in
-    let e = c.in_err-tape.field-0.0 in
-    err_then (λ (s : Status). s ≡ book_status e) (Refuses r input) c.from_residual.result
-    c.from_residual.ensures.1 (λ s is. subst (Refuses r input) (sym is) (book-refuses e r input
-    (λ want got tells. c.in_err-tape.ensures.other want got (ap Err tells))))
-
-pub returns-in-Some-differs-clause-refused : goal.returns-in-Some-differs-clause-refused
-returns-in-Some-differs-clause-refused c =
-    let input = c.args.input in
-    let S = input.first.shape in
-    let rest = history_refusal (bad_history_line S input.history)
-    (server_refusal c.args.hidden S.servers) in
-    whole-not_refused S input.tape (shapes_refusal (difference S input.second) rest)
-    c.in_ok-tape.ensures.whole
-    ∙ ap (λ (d : Option Differs). shapes_refusal d rest)
-    (ap (difference S) c.in-Some.is ∙ sym c.in-Some-differs.ensures.first)
-
-pub returns-in_err-history-clause-refused : goal.returns-in_err-history-clause-refused
-returns-in_err-history-clause-refused c =
-    let input = c.args.input in
-    let S = input.first.shape in
-    let r = Mirror c.args.hidden in
-    let e = c.in_err-history.field-0.0 in
-    let behind = server_refusal c.args.hidden S.servers in
-    let rest = history_refusal (bad_history_line S input.history) behind in
-    err_then (λ (s : Status). s ≡ history_status e) (Refuses r input)
-    c.from_residual-in_err-history.result c.from_residual-in_err-history.ensures.1
-    (λ s is. subst (Refuses r input) (sym is) (history-refuses e (bad_history_line S input.history)
-    r input behind c.in_err-history.ensures.bad
-    (whole-not_refused S input.tape (shapes_refusal (difference S input.second) rest)
-    c.in_ok-tape.ensures.whole
-    ∙ ap (λ (d : Option Differs). shapes_refusal d rest)
-    (ap (difference S) c.in-Some.is ∙ sym c.differs.ensures.first ∙ c.in_default-differs.is))))
-
-pub returns-in_err-server_in-clause-refused : goal.returns-in_err-server_in-clause-refused
-returns-in_err-server_in-clause-refused c =
-    let input = c.args.input in
-    let S = input.first.shape in
-    let r = Mirror c.args.hidden in
-    let e = c.in_err-server_in.field-0.0 in
-    let behind = server_refusal c.args.hidden S.servers in
-    let rest = history_refusal (bad_history_line S input.history) behind in
-    err_then (λ (s : Status). s ≡ e) (Refuses r input) c.from_residual-in_err-server_in.result
-    c.from_residual-in_err-server_in.ensures.1 (λ s is. subst (Refuses r input) (sym is)
-    (server-refuses c.args.hidden S.servers e r input c.in_err-server_in.ensures.hidden
-    (whole-not_refused S input.tape (shapes_refusal (difference S input.second) rest)
-    c.in_ok-tape.ensures.whole
-    ∙ ap (λ (d : Option Differs). shapes_refusal d rest)
-    (ap (difference S) c.in-Some.is ∙ sym c.differs.ensures.first ∙ c.in_default-differs.is)
-    ∙ ap (λ (b : Option ℕ). history_refusal b behind) c.in_ok-history.ensures.bad
-    ∙ c.in_err-server_in.ensures.err)))
+    let e = c.in_err-first.field-0.0 in
+    err_then (λ (s : Status). s ≡ e) (Refuses r c.args.input) c.from_residual.result
+    c.from_residual.ensures.1
+    (λ s is. subst (Refuses r c.args.input) (sym is) c.in_err-first.ensures.refused)
 
 pub returns-clause-answer : goal.returns-clause-answer
 returns-clause-answer c =
-    let input = c.args.input in
-    let S = input.first.shape in
-    let H = c.in_ok-history.history in
-    let behind = server_refusal c.args.hidden S.servers in
-    let rest = history_refusal (bad_history_line S input.history) behind in
-    let mirrored = λ (u : List ℕ). mirror input.first c.in-Some.second H c.args.hidden u in
-    record {
-      history = H;
-      accepted =
-          whole-not_refused S input.tape (shapes_refusal (difference S input.second) rest)
-          c.in_ok-tape.ensures.whole
-          ∙ ap (λ (d : Option Differs). shapes_refusal d rest)
-          (ap (difference S) c.in-Some.is ∙ sym c.differs.ensures.first ∙ c.in_default-differs.is)
-          ∙ ap (λ (b : Option ℕ). history_refusal b behind) c.in_ok-history.ensures.bad
-          ∙ c.in_ok-server_in.ensures.ok;
-      due = c.in_ok-history.ensures.told;
-      made = c.in_ok-print_tape.ensures.ok
-          ∙ ap (λ (xs : List ℕ). xs ++ printed_tape c.in-Ok.tape) c.new-text.ensures.items
-          ∙ ap printed_tape (c.in-Ok.ensures.mirrored ∙ ap mirrored c.in_ok-tape.ensures.kept)
-          ∙ sym (ap (λ (o : Option Script). mirror_of c.args.hidden input.first o H
-          (kept_in input.tape)) c.in-Some.is);
-    }
+    mirror-answers c.args.hidden c.args.input _ c.in_ok-first.ensures.parts c.in-Ok.tape
+    c.in_ok-tape_text.ensures c.in-Ok.ensures.mirrored

@@ -4,8 +4,8 @@ use Rattle.tk_cli.specs.declared.request.Request.TheVariants as request
 use Rattle.tk_cli.specs.Endings.{Ends}
 use Rattle.tk_cli.specs.Outside.{outside}
 use Rattle.tk_cli.proofs.EndingLaws.{usage-is, ends-as}
-use Rattle.tk_cli.proofs.WordLaws.{text-ends, view-reads, mirror-reads, lift-reads}
-use Rattle.tk_cli.proofs.WordLaws.{plain-view, plain-mirror, plain-lift}
+use Rattle.tk_cli.proofs.WordLaws.{text-ends, view-reads, mirror-reads, wrong-reads, lift-reads}
+use Rattle.tk_cli.proofs.WordLaws.{plain-view, plain-mirror, plain-wrong, plain-lift}
 use Rattle.tk_cli.proofs.WordLaws.{text-written, usage-ends}
 use Rattle.tk_cli.proofs.WordLaws.{handle-reads_nothing, make-reads_nothing, tally-reads_nothing}
 use Rattle.tk_cli.proofs.RequestLaws.{crew-of}
@@ -89,6 +89,35 @@ returns-in-Mirror g c =
     record {
       usage = usage-is words q e old new c.in-Mirror.ensures ends;
       ends = ends-as words q e old new c.in-Mirror.ensures ends;
+    }
+
+pub returns-in-Wrong : goal.returns-in-Wrong
+returns-in-Wrong g c =
+    let words = c.args.words.now in
+    let q = request.Wrong c.in-Wrong.hidden in
+    let e = c.answer-in-Wrong.result in
+    let told = c.answer-in-Wrong.ensures in
+    let old = outside (g.S.Source.left c.args.source.now) (g.S.Source.faults c.args.source.now)
+    (g.K.Sink.held c.args.sink.now) (g.K.Sink.faults c.args.sink.now)
+    (g.T.Taps.tap c.args.taps.now) (g.T.Taps.faults c.args.taps.now) in
+    let new = outside (g.S.Source.left c.wrong_text.new.source)
+    (g.S.Source.faults c.wrong_text.new.source) (g.K.Sink.held c.answer-in-Wrong.new.sink)
+    (g.K.Sink.faults c.answer-in-Wrong.new.sink) (g.T.Taps.tap c.args.taps.now)
+    (g.T.Taps.faults c.args.taps.now) in
+    let ends : Ends q e old new =
+    text-ends q (wrong-reads c.in-Wrong.hidden) (λ text. text.items) e old new
+    (record {
+      source = c.wrong_text.ensures.counts;
+      sink = told.counts;
+      taps = omega arith;
+    })
+    (plain-wrong c.in-Wrong.hidden old new) told.nothing
+    (record { tap = λ j. refl; faults = refl }) c.wrong_text.result
+    c.wrong_text.ensures.made c.wrong_text.ensures.stopped c.wrong_text.ensures.taken
+    told.puts told.status told.quiet in
+    record {
+      usage = usage-is words q e old new c.in-Wrong.ensures ends;
+      ends = ends-as words q e old new c.in-Wrong.ensures ends;
     }
 
 pub returns-in-Handle : goal.returns-in-Handle
