@@ -1,0 +1,13 @@
+pub mod Lists
+pub mod Cutting
+pub mod Mixing
+pub mod Masks
+pub mod PadLaws
+pub mod PartLaws
+pub mod BundleLaws
+pub mod Asking
+pub mod Sights
+pub mod Joins
+pub mod GatheringLaws
+pub mod UnmaskLaws
+pub mod Bundling

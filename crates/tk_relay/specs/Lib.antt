@@ -1,0 +1,9 @@
+pub mod Halves
+pub mod Pads
+pub mod Parts
+pub mod Bundles
+pub mod Serving
+pub mod Refusals
+pub mod Replies
+pub mod Sights
+pub mod Laws

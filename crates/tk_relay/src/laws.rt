@@ -1,0 +1,18 @@
+//! Why the server in between learns nothing of what is read, and why the client reads what it would have read.
+ghost use Rattle.tk_relay.specs.Laws.{SameSight, MovedBack, RepliesJoin, HonestRepliesJoin};
+
+/// What the server in between sees of a read is the same for any two buckets, after a change of the last server's pads.
+pub fn same_sight()
+    ensures { SameSight }
+{}
+
+/// The change of the pads is one to one: changed back they are the pads again.
+pub fn moved_back()
+    ensures { MovedBack }
+{}
+
+/// The replies made of the one reply join to the blocks that those of all servers join to.
+pub fn replies_join()
+    ensures blocks { RepliesJoin }
+    ensures honest { HonestRepliesJoin }
+{}

@@ -1,0 +1,32 @@
+//! Reads by way of one server: a client sends it one bundle and gets one reply. The server passes masked parts on to
+//! the others and joins what they reply, and learns no more of the read by it.
+#![tactic(auto)]
+
+mod appending;
+mod bundles;
+mod gather_error;
+mod gathering;
+mod halves;
+mod keyed;
+mod kind;
+mod laws;
+mod pads;
+mod part;
+mod part_error;
+mod part_frames;
+mod replies;
+mod serving;
+mod splitting;
+
+pub use bundles::bundle;
+pub use gather_error::GatherError;
+pub use gathering::gather;
+pub use laws::{moved_back, replies_join, same_sight};
+pub use pads::{PadError, Pads};
+pub use part::Part;
+pub use part_error::PartError;
+pub use part_frames::{decode_masked_reply, decode_part, encode_masked_reply, encode_part};
+pub use replies::replies_for;
+pub use serving::serve_part;
+pub use splitting::split;
+pub use tk_shape::Memory;
