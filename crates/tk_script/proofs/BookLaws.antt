@@ -9,7 +9,7 @@ use Rattle.tk_shape.specs.Lengths.{tape_len}
 use Rattle.tk_words.specs.Words.{IsBook}
 use Rattle.tk_script.specs.declared.keys.Keys.{Keys}
 use Rattle.tk_script.specs.declared.form.Form.{Form}
-use Rattle.tk_script.specs.declared.form.Form.TheVariants.{Run, View, Mirror, Wrong}
+use Rattle.tk_script.specs.declared.form.Form.TheVariants.{Run, Relay, View, Mirror, Wrong}
 use Rattle.tk_script.specs.declared.input.RawTape.{RawTape}
 use Rattle.tk_script.specs.declared.input.Input.{Input}
 use Rattle.tk_script.specs.Book.{book_from, book_of, IsWholeTape, HasTape}
@@ -36,6 +36,7 @@ has-tape shape None lines tape ends =
 ends-with_tape : (form : Form) (bytes : List ℕ) (input : Input) → Spells form bytes input →
     (rest : List Line) × TapeFor input.first.shape input.first.keys rest input.tape
 ends-with_tape Run bytes input spelled = (spelled.rest, spelled.tape)
+ends-with_tape Relay bytes input spelled = (spelled.run.rest, spelled.run.tape)
 ends-with_tape View bytes input spelled = (spelled.rest, spelled.tape)
 ends-with_tape Mirror bytes input spelled = (spelled.rest, spelled.tape)
 ends-with_tape Wrong bytes input spelled = (spelled.rest, spelled.tape)

@@ -15,7 +15,8 @@ use Rattle.tk_script.proofs.KeyLines.{kind_words, MayBeOfKind}
 use Rattle.tk_script.proofs.OptionLaws.{ok_or, ok_if}
 use Rattle.tk_script.specs.Fields.{LacksSpace}
 use Rattle.tk_script.specs.SoundScript.{is_ascending, is_role}
-use Rattle.tk_script.specs.Reading.{named, drawn_if, read_kind, first_from, in_order, read_clients}
+use Rattle.tk_script.specs.declared.kinds.Kinds.{Kinds}
+use Rattle.tk_script.specs.Reading.{may_be, named, drawn_if, read_kind, first_from, in_order, read_clients}
 
 -- ---- words
 
@@ -42,22 +43,24 @@ bool_false false never = refl
 pub differ : (xs ys : List ℕ) → (xs ≡ ys → ⊥) → bytes_eq xs ys ≡ false
 differ xs ys other = bool_false (bytes_eq xs ys) (λ t. other ((bytes_eq-Decides xs ys).0 t))
 
-and_false : (a b : Bool) → (IsTrue (a && b) → ⊥) → (a && b) ≡ false
-and_false a b never = bool_false (a && b) never
+-- a line says that a script is keyed, or drawn, where one may be
+abbrev pub says_keyed : Kinds → List ℕ → Bool
+says_keyed kinds line = bytes_eq line (codes "keyed") && may_be kinds true
 
-pub read_kind-form : (may : Bool) (n : Numbers) (line : List ℕ) → (line ≡ codes "drawn" → ⊥) →
-    (IsTrue (may && bytes_eq line (codes "keyed")) → ⊥) →
-    read_kind may n line ≡ Err cause.Form
-read_kind-form may n line drawn keyed =
-    rw (differ line (codes "drawn") drawn, and_false may (bytes_eq line (codes "keyed")) keyed)
-    refl
+abbrev pub says_drawn : Kinds → List ℕ → Bool
+says_drawn kinds line = bytes_eq line (codes "drawn") && may_be kinds false
 
-pub read_kind-keyed : (may : Bool) (n : Numbers) (line : List ℕ) →
-    IsTrue (may && bytes_eq line (codes "keyed")) → read_kind may n line ≡ Ok true
-read_kind-keyed may n line is =
-    let both = and_parts may (bytes_eq line (codes "keyed")) is in
-    ap (read_kind may n) ((bytes_eq-Decides line (codes "keyed")).0 both.1)
-    ∙ ap (λ m. read_kind m n (codes "keyed")) both.0
+pub read_kind-form : (kinds : Kinds) (n : Numbers) (line : List ℕ) →
+    says_drawn kinds line ≡ false → says_keyed kinds line ≡ false →
+    read_kind kinds n line ≡ Err cause.Form
+read_kind-form kinds n line drawn keyed = rw (drawn, keyed) refl
+
+pub read_kind-keyed : (kinds : Kinds) (n : Numbers) (line : List ℕ) →
+    says_keyed kinds line ≡ true → read_kind kinds n line ≡ Ok true
+read_kind-keyed kinds n line is =
+    let both = and_parts (bytes_eq line (codes "keyed")) (may_be kinds true) is in
+    ap (read_kind kinds n) ((bytes_eq-Decides line (codes "keyed")).0 both.0)
+    ∙ ap (λ m. ok_or m true cause.Form) both.1
 
 drawn_short : (n : ℕ) → n ≤ 2097152 → drawn_if n ≡ Ok false
 drawn_short n h = rw (le-leb n 2097152 h) refl
@@ -65,76 +68,75 @@ drawn_short n h = rw (le-leb n 2097152 h) refl
 drawn_long : (n : ℕ) → 2097152 < n → drawn_if n ≡ Err (cause.Shape field.Tape n)
 drawn_long n h = rw (lt-leb n 2097152 h) refl
 
-drawn_line : (m : Bool) (z : Shape) (line : List ℕ) → line ≡ codes "drawn" →
-    read_kind m (named z) line ≡ drawn_if (tape_len z)
-drawn_line m z line e = ap (read_kind m (named z)) e
+drawn_line : (kinds : Kinds) (z : Shape) (line : List ℕ) → says_drawn kinds line ≡ true →
+    read_kind kinds (named z) line ≡ drawn_if (tape_len z)
+drawn_line kinds z line is =
+    ap (λ m. cond m (drawn_if (tape_len z)) (ok_or (says_keyed kinds line) true cause.Form)) is
 
-pub read_kind-drawn : (m : Bool) (z : Shape) (line : List ℕ) (size : ℕ) → line ≡ codes "drawn" →
-    size ≡ tape_len z → size ≤ 2097152 → read_kind m (named z) line ≡ Ok false
-read_kind-drawn m z line size e value short =
-    drawn_line m z line e ∙ ap drawn_if (sym value) ∙ drawn_short size short
+pub read_kind-drawn : (kinds : Kinds) (z : Shape) (line : List ℕ) (size : ℕ) →
+    says_drawn kinds line ≡ true → size ≡ tape_len z → size ≤ 2097152 →
+    read_kind kinds (named z) line ≡ Ok false
+read_kind-drawn kinds z line size is value short =
+    drawn_line kinds z line is ∙ ap drawn_if (sym value) ∙ drawn_short size short
 
-pub read_kind-long : (m : Bool) (z : Shape) (line : List ℕ) (size : ℕ) → line ≡ codes "drawn" →
-    size ≡ tape_len z → 2097152 < size →
-    read_kind m (named z) line ≡ Err (cause.Shape field.Tape size)
-read_kind-long m z line size e value long =
-    drawn_line m z line e ∙ ap drawn_if (sym value) ∙ drawn_long size long
+pub read_kind-long : (kinds : Kinds) (z : Shape) (line : List ℕ) (size : ℕ) →
+    says_drawn kinds line ≡ true → size ≡ tape_len z → 2097152 < size →
+    read_kind kinds (named z) line ≡ Err (cause.Shape field.Tape size)
+read_kind-long kinds z line size is value long =
+    drawn_line kinds z line is ∙ ap drawn_if (sym value) ∙ drawn_long size long
 
--- a keyed script, where it may be keyed
-abbrev pub IsDue : Bool → Bool → Type 0
-IsDue m keyed = IsTrue keyed → IsTrue m
+-- a keyed script where one may be, or a drawn one
+abbrev pub IsDue : Kinds → Bool → Type 0
+IsDue kinds keyed = IsTrue (may_be kinds keyed)
 
-pub read_kind-whole : (m : Bool) (z : Shape) (keyed : Bool) → MayBeOfKind z keyed →
-    IsDue m keyed → read_kind m (named z) (kind_words keyed) ≡ Ok keyed
-read_kind-whole true z true may due = refl
-read_kind-whole false z true may due = absurd (cc (due refl))
-read_kind-whole m z false may due =
-    read_kind-drawn m z (codes "drawn") (tape_len z) refl refl may
+pub read_kind-whole : (kinds : Kinds) (z : Shape) (keyed : Bool) → MayBeOfKind z keyed →
+    IsDue kinds keyed → read_kind kinds (named z) (kind_words keyed) ≡ Ok keyed
+read_kind-whole kinds z true may due =
+    read_kind-keyed kinds (named z) (codes "keyed") due
+read_kind-whole kinds z false may due =
+    read_kind-drawn kinds z (codes "drawn") (tape_len z) due refl may
 
 -- the kind that a line says
-pub record IsKind (m : Bool) (z : Shape) (line : List ℕ) (keyed : Bool) : Type 0 where
+pub record IsKind (kinds : Kinds) (z : Shape) (line : List ℕ) (keyed : Bool) : Type 0 where
   pub word : line ≡ kind_words keyed
   pub may : MayBeOfKind z keyed
-  pub due : IsDue m keyed
+  pub due : IsDue kinds keyed
 
-keyed_from : (m : Bool) (z : Shape) (line : List ℕ) (keyed : Bool) →
-    IsTrue (m && bytes_eq line (codes "keyed")) × (true ≡ keyed) → IsKind m z line keyed
-keyed_from m z line keyed h =
-    let both = and_parts m (bytes_eq line (codes "keyed")) h.0 in
-    subst (IsKind m z line) h.1 (record {
-      word = (bytes_eq-Decides line (codes "keyed")).0 both.1;
+keyed_from : (kinds : Kinds) (z : Shape) (line : List ℕ) (keyed : Bool) →
+    IsTrue (says_keyed kinds line) × (true ≡ keyed) → IsKind kinds z line keyed
+keyed_from kinds z line keyed h =
+    let both = and_parts (bytes_eq line (codes "keyed")) (may_be kinds true) h.0 in
+    subst (IsKind kinds z line) h.1 (record {
+      word = (bytes_eq-Decides line (codes "keyed")).0 both.0;
       may = tt;
-      due = λ k. both.0;
+      due = both.1;
     })
 
-never_keyed : (m : Bool) → IsTrue false → IsTrue m
-never_keyed m e = absurd (cc e)
-
-drawn_from : (m : Bool) (z : Shape) (line : List ℕ) (keyed : Bool) →
-    IsTrue (bytes_eq line (codes "drawn")) → drawn_if (tape_len z) ≡ Ok keyed →
-    IsKind m z line keyed
-drawn_from m z line keyed word said =
+drawn_from : (kinds : Kinds) (z : Shape) (line : List ℕ) (keyed : Bool) →
+    IsTrue (says_drawn kinds line) → drawn_if (tape_len z) ≡ Ok keyed →
+    IsKind kinds z line keyed
+drawn_from kinds z line keyed is said =
+    let both = and_parts (bytes_eq line (codes "drawn")) (may_be kinds false) is in
     let test = ok_if (nat_le (tape_len z) 2097152) false keyed
     (cause.Shape field.Tape (tape_len z)) said in
-    subst (IsKind m z line) test.1 (record {
-      word = (bytes_eq-Decides line (codes "drawn")).0 word;
+    subst (IsKind kinds z line) test.1 (record {
+      word = (bytes_eq-Decides line (codes "drawn")).0 both.0;
       may = leb-true (tape_len z) 2097152 test.0;
-      due = never_keyed m;
+      due = both.1;
     })
 
-kind_from : (m : Bool) (z : Shape) (line : List ℕ) (keyed a : Bool) →
-    bytes_eq line (codes "drawn") ≡ a →
-    cond a (drawn_if (tape_len z)) (ok_or (m && bytes_eq line (codes "keyed")) true cause.Form)
-    ≡ Ok keyed → IsKind m z line keyed
-kind_from m z line keyed true word said = drawn_from m z line keyed word said
-kind_from m z line keyed false word said =
-    keyed_from m z line keyed
-    (ok_if (m && bytes_eq line (codes "keyed")) true keyed cause.Form said)
+kind_from : (kinds : Kinds) (z : Shape) (line : List ℕ) (keyed a : Bool) →
+    says_drawn kinds line ≡ a →
+    cond a (drawn_if (tape_len z)) (ok_or (says_keyed kinds line) true cause.Form)
+    ≡ Ok keyed → IsKind kinds z line keyed
+kind_from kinds z line keyed true is said = drawn_from kinds z line keyed is said
+kind_from kinds z line keyed false is said =
+    keyed_from kinds z line keyed (ok_if (says_keyed kinds line) true keyed cause.Form said)
 
-pub read_kind-is : (m : Bool) (z : Shape) (line : List ℕ) (keyed : Bool) →
-    read_kind m (named z) line ≡ Ok keyed → IsKind m z line keyed
-read_kind-is m z line keyed said =
-    kind_from m z line keyed (bytes_eq line (codes "drawn")) refl said
+pub read_kind-is : (kinds : Kinds) (z : Shape) (line : List ℕ) (keyed : Bool) →
+    read_kind kinds (named z) line ≡ Ok keyed → IsKind kinds z line keyed
+read_kind-is kinds z line keyed said =
+    kind_from kinds z line keyed (says_drawn kinds line) refl said
 
 -- ---- the line of a log
 

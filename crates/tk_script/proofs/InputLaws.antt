@@ -1,20 +1,22 @@
 -- An input that is read line by line is the one that the text spells, form by form.
 use Rattle.std.proofs.Common.{◌≡◌, ◌∙◌, ℕ, List, Bool, true, false, IsTrue, Option, Some, None, Result, Ok, Err, refl, ap, sym, subst, arith}
-use Rattle.std.specs.Prelude.{is_some, IfOk}
+use Rattle.std.specs.Prelude.{is_some, not, IfOk}
 use Rattle.std.specs.Option.{option_map}
 use Rattle.tk_schedule.specs.declared.raw.RawLine.{RawLine}
 use Rattle.tk_script.specs.declared.error.ScriptError.{ScriptError}
 use Rattle.tk_script.specs.declared.error.ScriptError.TheVariants.{Memory, Line as Refused}
 use Rattle.tk_script.specs.declared.form.Form.{Form}
-use Rattle.tk_script.specs.declared.form.Form.TheVariants.{Run, View, Mirror, Wrong}
+use Rattle.tk_script.specs.declared.form.Form.TheVariants.{Run, Relay, View, Mirror, Wrong}
 use Rattle.tk_script.specs.declared.input.Input.{Input}
 use Rattle.tk_script.specs.declared.input.RawTape.{RawTape}
 use Rattle.tk_script.specs.declared.keys.Keys.{Keys}
+use Rattle.tk_script.specs.declared.kinds.Kinds.{Kinds}
+use Rattle.tk_script.specs.declared.kinds.Kinds.TheVariants.{Keyed, Drawn, Either}
 use Rattle.tk_script.specs.declared.reply.RawReply.{RawReply}
 use Rattle.tk_script.specs.declared.script.Script.{Script}
 use Rattle.tk_script.specs.declared.two_scripts.TwoScripts.{TwoScripts}
 use Rattle.tk_script.specs.Answer.{IsMemory, IsRefusal, Gives, Agrees}
-use Rattle.tk_script.specs.Grammar.{Line, lines_of, number_of_first, BeginsWithHistory, BeginsWithTwo, EndsWithTape, IsRunInput, IsViewInput, IsMirrorInput, IsWrongInput, Spells}
+use Rattle.tk_script.specs.Grammar.{Line, lines_of, number_of_first, BeginsWithHistory, BeginsWithTwo, EndsWithTape, IsRunInput, IsRelayInput, IsViewInput, IsMirrorInput, IsWrongInput, Spells}
 use Rattle.tk_script.specs.Laws.{SpellsOne, ReadsWhatIsSpelled, GivesInputs}
 use Rattle.tk_script.specs.Reading.{Place, ScriptLines, TwoLines, InputLines, front, read_script, read_history, read_replies, read_tape_of, read_run, read_view, read_two, read_mirror, read_wrong, read_input, script_lines, two_lines, lines_with, input_lines}
 use Rattle.tk_script.proofs.AnswerLaws.{then_said}
@@ -56,17 +58,24 @@ number_behind : (lines : List Line) (q : Place) → Steps (front lines) q →
     q.line ≡ number_of_first lines q.rest
 number_behind lines q s = omega (arith, s.number, s.lines)
 
--- ---- scripts that may be keyed, and not
+-- ---- scripts that may be keyed, or drawn
 
-may_be_keyed : (keyed : Bool) → IsDue true keyed
-may_be_keyed keyed k = refl
+either_due : (keyed : Bool) → IsDue Either keyed
+either_due keyed = refl
 
-drawn_due : (keys : Option Keys) → keys ≡ None → IsDue false (is_some keys)
-drawn_due keys drawn keyed = subst (λ k. IsTrue (is_some k)) drawn keyed
+drawn_due : (keys : Option Keys) → keys ≡ None → IsDue Drawn (is_some keys)
+drawn_due keys drawn = ap (λ k. not (is_some k)) drawn
 
-due_drawn : (keys : Option Keys) → IsDue false (is_some keys) → keys ≡ None
+due_drawn : (keys : Option Keys) → IsDue Drawn (is_some keys) → keys ≡ None
 due_drawn None due = refl
-due_drawn (Some keys) due = absurd (cc (due refl))
+due_drawn (Some keys) due = absurd (cc due)
+
+keyed_due : (keys : Option Keys) (own : Keys) → keys ≡ Some own → IsDue Keyed (is_some keys)
+keyed_due keys own keyed = ap is_some keyed
+
+due_keyed : (keys : Option Keys) → IsDue Keyed (is_some keys) → (own : Keys) × (keys ≡ Some own)
+due_keyed None due = absurd (cc due)
+due_keyed (Some keys) due = (keys, refl)
 
 -- what an input says, by its parts
 lines_are : (input : Input) (second : Option Script) (history : Option (List RawLine))
@@ -84,22 +93,26 @@ lines_are input second history replies s h r = λ i. record {
 
 -- ---- a script, and its tape
 
-run_whole : (lines : List Line) (input : Input) → IsRunInput lines input →
-    read_run lines ≡ Ok (input_lines input)
+run_whole : (kinds : Kinds) (lines : List Line) (input : Input) → IsRunInput lines input →
+    IsDue kinds (is_some input.first.keys) → read_run kinds lines ≡ Ok (input_lines input)
 unfolding read_run
-run_whole lines input s =
+run_whole kinds lines input s due =
     let S = input.first in
-    let script = script_whole true 1 lines S s.rest s.script (may_be_keyed (is_some S.keys)) in
+    let script = script_whole kinds 1 lines S s.rest s.script due in
     then_said _ script.1 (then_said _ (tape_whole S script.0 s.rest input.tape s.tape)
     (ap Ok (lines_are input None None None s.no_second s.no_history s.no_replies)))
 
-run_read : (lines : List Line) (t : InputLines) → read_run lines ≡ Ok t →
-    InputOf (IsRunInput lines) t
+-- an input of a script of one of these kinds
+abbrev IsRunOf : Kinds → List Line → Input → Type 0
+IsRunOf kinds lines input = IsRunInput lines input × IsDue kinds (is_some input.first.keys)
+
+run_read : (kinds : Kinds) (lines : List Line) (t : InputLines) → read_run kinds lines ≡ Ok t →
+    InputOf (IsRunOf kinds lines) t
 unfolding read_run
-run_read lines t e =
-    let first = then_from (read_script true (front lines)) _ t e in
+run_read kinds lines t e =
+    let first = then_from (read_script kinds (front lines)) _ t e in
     let tape = then_from (read_tape_of first.0.0 first.0.1) _ t first.2 in
-    let script = script_read true (front lines) first.0 first.1 in
+    let script = script_read kinds (front lines) first.0 first.1 in
     let lines_of_input = lines_by None None None tape.0 in
     record {
       input = record {
@@ -109,15 +122,42 @@ run_read lines t e =
         replies = None;
         tape = tape.0;
       };
-      spelled = record {
-        rest = first.0.1.rest;
-        script = script.begins;
-        no_second = refl;
-        no_history = refl;
-        no_replies = refl;
-        tape = tape_read script.script first.0.0 first.0.1 tape.0 script.is tape.1;
-      };
+      spelled = (
+        record {
+          rest = first.0.1.rest;
+          script = script.begins;
+          no_second = refl;
+          no_history = refl;
+          no_replies = refl;
+          tape = tape_read script.script first.0.0 first.0.1 tape.0 script.is tape.1;
+        },
+        script.due,
+      );
       is = sym (ok_same (lines_of_input first.0.0) t tape.2) ∙ ap lines_of_input script.is;
+    }
+
+any_read : (lines : List Line) (t : InputLines) → read_run Either lines ≡ Ok t →
+    InputOf (IsRunInput lines) t
+any_read lines t e =
+    let run = run_read Either lines t e in
+    record { input = run.input; spelled = run.spelled.0; is = run.is }
+
+-- ---- a keyed script alone
+
+relay_whole : (lines : List Line) (input : Input) → IsRelayInput lines input →
+    read_run Keyed lines ≡ Ok (input_lines input)
+relay_whole lines input s =
+    run_whole Keyed lines input s.run (keyed_due input.first.keys s.keys s.keyed)
+
+relay_read : (lines : List Line) (t : InputLines) → read_run Keyed lines ≡ Ok t →
+    InputOf (IsRelayInput lines) t
+relay_read lines t e =
+    let run = run_read Keyed lines t e in
+    let keys = due_keyed run.input.first.keys run.spelled.1 in
+    record {
+      input = run.input;
+      spelled = record { keys = keys.0; keyed = keys.1; run = run.spelled.0 };
+      is = run.is;
     }
 
 -- ---- a script, a history, and the script's tape
@@ -127,10 +167,10 @@ view_whole : (lines : List Line) (input : Input) → IsViewInput lines input →
 unfolding read_view
 view_whole lines input s =
     let S = input.first in
-    let script = script_whole true 1 lines S s.behind_script s.script
-    (may_be_keyed (is_some S.keys)) in
+    let script = script_whole Either 1 lines S s.behind_script s.script
+    (either_due (is_some S.keys)) in
     let behind = at script.0 s.behind_script in
-    let read = script_read true (front lines) (script_lines S, behind) script.1 in
+    let read = script_read Either (front lines) (script_lines S, behind) script.1 in
     let history = history_whole script.0 s.behind_script s.raw s.rest
     (subst (λ n. BeginsWithHistory n s.behind_script s.raw s.rest)
     (sym (number_behind lines behind read.steps)) s.history) in
@@ -142,12 +182,12 @@ view_read : (lines : List Line) (t : InputLines) → read_view lines ≡ Ok t �
     InputOf (IsViewInput lines) t
 unfolding read_view
 view_read lines t e =
-    let first = then_from (read_script true (front lines)) _ t e in
+    let first = then_from (read_script Either (front lines)) _ t e in
     let behind = first.0.1 in
     let history = then_from (read_history behind) _ t first.2 in
     let raw = history.0.0 in
     let tape = then_from (read_tape_of first.0.0 history.0.1) _ t history.2 in
-    let script = script_read true (front lines) first.0 first.1 in
+    let script = script_read Either (front lines) first.0 first.1 in
     let lines_of_input = lines_by None (Some raw) None tape.0 in
     record {
       input = record {
@@ -179,15 +219,15 @@ two_whole : (lines : List Line) (S T : Script) (raw : List RawLine) (rest : List
     Comes (read_two lines) (two_lines (record { first = S; second = T; history = raw })) rest
 unfolding read_two
 two_whole lines S T raw rest s =
-    let first = script_whole false 1 lines S s.behind_script s.script
+    let first = script_whole Drawn 1 lines S s.behind_script s.script
     (drawn_due S.keys s.first_drawn) in
     let behind = at first.0 s.behind_script in
-    let second = script_whole false first.0 s.behind_script T s.behind_scripts s.other
+    let second = script_whole Drawn first.0 s.behind_script T s.behind_scripts s.other
     (drawn_due T.keys s.second_drawn) in
     let behind_both = at second.0 s.behind_scripts in
     let steps = then_steps (front lines) behind behind_both
-    (script_read false (front lines) (script_lines S, behind) first.1).steps
-    (script_read false behind (script_lines T, behind_both) second.1).steps in
+    (script_read Drawn (front lines) (script_lines S, behind) first.1).steps
+    (script_read Drawn behind (script_lines T, behind_both) second.1).steps in
     let history = history_whole second.0 s.behind_scripts raw rest
     (subst (λ n. BeginsWithHistory n s.behind_scripts raw rest)
     (sym (number_behind lines behind_both steps)) s.history) in
@@ -203,14 +243,14 @@ two_read : (lines : List Line) (x : TwoLines × Place) → read_two lines ≡ Ok
     TwoOf lines x.0 x.1.rest
 unfolding read_two
 two_read lines x e =
-    let first = then_from (read_script false (front lines)) _ x e in
+    let first = then_from (read_script Drawn (front lines)) _ x e in
     let behind = first.0.1 in
-    let second = then_from (read_script false behind) _ x first.2 in
+    let second = then_from (read_script Drawn behind) _ x first.2 in
     let behind_both = second.0.1 in
     let history = then_from (read_history behind_both) _ x second.2 in
     let raw = history.0.0 in
-    let one = script_read false (front lines) first.0 first.1 in
-    let other = script_read false behind second.0 second.1 in
+    let one = script_read Drawn (front lines) first.0 first.1 in
+    let other = script_read Drawn behind second.0 second.1 in
     let number = number_behind lines behind_both
     (then_steps (front lines) behind behind_both one.steps other.steps) in
     subst (λ (z : TwoLines × Place). TwoOf lines z.0 z.1.rest) (ok_same _ x history.2) (record {
@@ -326,14 +366,17 @@ wrong_read lines t e =
 
 spelled_is_read : (form : Form) (bytes : List ℕ) (input : Input) → Spells form bytes input →
     read_input form (lines_of bytes) ≡ Ok (input_lines input)
-spelled_is_read Run bytes input s = run_whole (lines_of bytes) input s
+spelled_is_read Run bytes input s =
+    run_whole Either (lines_of bytes) input s (either_due (is_some input.first.keys))
+spelled_is_read Relay bytes input s = relay_whole (lines_of bytes) input s
 spelled_is_read View bytes input s = view_whole (lines_of bytes) input s
 spelled_is_read Mirror bytes input s = mirror_whole (lines_of bytes) input s
 spelled_is_read Wrong bytes input s = wrong_whole (lines_of bytes) input s
 
 input_read : (form : Form) (bytes : List ℕ) (t : InputLines) →
     read_input form (lines_of bytes) ≡ Ok t → InputOf (Spells form bytes) t
-input_read Run bytes t e = run_read (lines_of bytes) t e
+input_read Run bytes t e = any_read (lines_of bytes) t e
+input_read Relay bytes t e = relay_read (lines_of bytes) t e
 input_read View bytes t e = view_read (lines_of bytes) t e
 input_read Mirror bytes t e = mirror_read (lines_of bytes) t e
 input_read Wrong bytes t e = wrong_read (lines_of bytes) t e

@@ -12,7 +12,7 @@ use Rattle.tk_script.specs.Grammar.{Line, lines_of, format_line, shape_line, kin
 use Rattle.tk_script.proofs.KeyLines.{IsHandleLine, IsSeedLine}
 use Rattle.tk_script.specs.SoundScript.{is_role, is_say}
 use Rattle.tk_script.specs.Printing.{bytes_line, handle_line, seed_line, lines_of_keys, lines_of_script, lines_of_pieces, lines_of_tape, piece_line, pieces, printed, printed_tape, HasHandle, HasSeed, HasKeys}
-use Rattle.tk_script.specs.PrintLaws.{ReadsPrinted, ReadsPrintedTape, PrintsScripts, PrintsTapes, PrintsKeyed, PrintsDrawn}
+use Rattle.tk_script.specs.PrintLaws.{ReadsPrinted, ReadsPrintedTape, PrintsScripts, PrintsTapes, PrintsKeyed, PrintsRelayed, PrintsDrawn}
 use Rattle.tk_script.proofs.LineLaws.{lines_of-empty}
 use Rattle.tk_script.proofs.KeyLaws.{keys_spelled}
 use Rattle.tk_script.proofs.ScriptLaws.{tape_of_keyed, tape_of_drawn}
@@ -135,6 +135,10 @@ prints_keyed S keys keyed has = record {
   no_replies = refl;
   tape = tape_of_keyed S.shape S.keys [] (ap is_some keyed) refl;
 }
+
+pub prints_relayed : PrintsRelayed
+prints_relayed S keys keyed has =
+    record { keys = keys; keyed = keyed; run = prints_keyed S keys keyed has }
 
 pub prints_drawn : PrintsDrawn
 prints_drawn S bytes drawn are =

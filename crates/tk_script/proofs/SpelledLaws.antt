@@ -6,6 +6,7 @@ use Rattle.std.proofs.lemmas.Bool.{and_from}
 use Rattle.tk_shape.specs.declared.shape.Shape.{Shape}
 use Rattle.tk_shape.specs.Limits.{Numbers}
 use Rattle.tk_script.specs.declared.keys.Keys.{Keys}
+use Rattle.tk_script.specs.declared.kinds.Kinds.{Kinds}
 use Rattle.tk_script.specs.declared.role.Role.{Role}
 use Rattle.tk_script.specs.declared.say.Say.{Say}
 use Rattle.tk_script.specs.declared.script.Script.{Script}
@@ -29,50 +30,50 @@ use Rattle.tk_script.proofs.WordLaws.{at, Comes}
 
 -- ---- the three lines at the front
 
-head_whole : (m : Bool) (line : ℕ) (lines behind : List Line) (shape : Shape) (keyed : Bool) →
-    MayBeOfKind shape keyed → IsDue m keyed →
+head_whole : (kinds : Kinds) (line : ℕ) (lines behind : List Line) (shape : Shape) (keyed : Bool) →
+    MayBeOfKind shape keyed → IsDue kinds keyed →
     lines ≡ format_line shape ∷ shape_line shape ∷ kind_words keyed ∷ behind →
-    read_head m (at line lines) ≡ Ok (named shape, keyed, at (line + 1 + 1 + 1) behind)
+    read_head kinds (at line lines) ≡ Ok (named shape, keyed, at (line + 1 + 1 + 1) behind)
 unfolding read_head
-head_whole m line lines behind shape keyed may due whole =
+head_whole kinds line lines behind shape keyed may due whole =
     let second = at (line + 1) (shape_line shape ∷ kind_words keyed ∷ behind) in
     let third = at (line + 1 + 1) (kind_words keyed ∷ behind) in
     then_said _ (next_taken read_format (at line lines) (format_line shape) second shape.format
     (record { number = refl; lines = whole }) (format_whole shape))
     (then_said _ (next_taken (read_shape shape.format) second (shape_line shape) third (named shape)
     (record { number = refl; lines = refl }) (shape_whole shape (shape_line shape) refl))
-    (then_said _ (next_taken (read_kind m (named shape)) third (kind_words keyed)
+    (then_said _ (next_taken (read_kind kinds (named shape)) third (kind_words keyed)
     (at (line + 1 + 1 + 1) behind) keyed (record { number = refl; lines = refl })
-    (read_kind-whole m shape keyed may due)) refl))
+    (read_kind-whole kinds shape keyed may due)) refl))
 
 -- the lines that were read at the front, whose format and numbers are a shape's
-record Head (m : Bool) (p : Place) (x : Numbers × Bool × Place) : Type 0 where
+record Head (kinds : Kinds) (p : Place) (x : Numbers × Bool × Place) : Type 0 where
   pub shape : Shape
   pub is : x.0 ≡ named shape
   pub whole : p.rest ≡ format_line shape ∷ shape_line shape ∷ kind_words x.1 ∷ x.2.rest
   pub may : MayBeOfKind shape x.1
-  pub due : IsDue m x.1
+  pub due : IsDue kinds x.1
   pub steps : Steps p x.2
 
 three : (a x b y c z : Line) (ls ms ns os : List Line) → ls ≡ a ∷ ms → ms ≡ b ∷ ns → ns ≡ c ∷ os →
     a ≡ x → b ≡ y → c ≡ z → ls ≡ x ∷ y ∷ z ∷ os
 three a x b y c z ls ms ns os p q r s t u = cc (p, q, r, s, t, u)
 
-head_from : (m : Bool) (p : Place) (x : Numbers × Bool × Place) → read_head m p ≡ Ok x → Head m p x
+head_from : (kinds : Kinds) (p : Place) (x : Numbers × Bool × Place) → read_head kinds p ≡ Ok x → Head kinds p x
 unfolding read_head
-head_from m p x e =
+head_from kinds p x e =
     let first = then_from (next_line read_format p) _ x e in
     let second = then_from (next_line (read_shape first.0.0) first.0.1) _ x first.2 in
     let n = second.0.0 in
-    let third = then_from (next_line (read_kind m n) second.0.1) _ x second.2 in
+    let third = then_from (next_line (read_kind kinds n) second.0.1) _ x second.2 in
     let one = next_from read_format p first.0 first.1 in
     let two = next_from (read_shape first.0.0) first.0.1 second.0 second.1 in
-    let last = next_from (read_kind m n) second.0.1 third.0 third.1 in
+    let last = next_from (read_kind kinds n) second.0.1 third.0 third.1 in
     let format = format_is one.line first.0.0 one.read_is in
     let here = shape_is first.0.0 two.line n format.known two.read_is in
-    let kind = read_kind-is m here.shape last.line third.0.0
-    (ap (λ k. read_kind m k last.line) (sym here.is) ∙ last.read_is) in
-    subst (Head m p) (ok_same (n, third.0.0, third.0.1) x third.2) (record {
+    let kind = read_kind-is kinds here.shape last.line third.0.0
+    (ap (λ k. read_kind kinds k last.line) (sym here.is) ∙ last.read_is) in
+    subst (Head kinds p) (ok_same (n, third.0.0, third.0.1) x third.2) (record {
       shape = here.shape;
       is = here.is;
       whole = three one.line (format_line here.shape) two.line (shape_line here.shape) last.line
@@ -169,19 +170,19 @@ read_rest n keyed p = do
   Ok (record { numbers = n; keys = keys.0; roles = roles.0; says = says.0 }, says.1)
 
 -- the script that was read
-pub record ScriptOf (m : Bool) (p : Place) (t : ScriptLines) (q : Place) : Type 0 where
+pub record ScriptOf (kinds : Kinds) (p : Place) (t : ScriptLines) (q : Place) : Type 0 where
   pub script : Script
   pub is : t ≡ script_lines script
   pub begins : BeginsWithScript p.rest script q.rest
-  pub due : IsDue m (is_some script.keys)
+  pub due : IsDue kinds (is_some script.keys)
   pub steps : Steps p q
 
-pub script_read : (m : Bool) (p : Place) (x : ScriptLines × Place) → read_script m p ≡ Ok x →
-    ScriptOf m p x.0 x.1
+pub script_read : (kinds : Kinds) (p : Place) (x : ScriptLines × Place) → read_script kinds p ≡ Ok x →
+    ScriptOf kinds p x.0 x.1
 unfolding read_script
-script_read m p x e =
-    let first = then_from (read_head m p) _ x e in
-    let head = head_from m p first.0 first.1 in
+script_read kinds p x e =
+    let first = then_from (read_head kinds p) _ x e in
+    let head = head_from kinds p first.0 first.1 in
     let shape = head.shape in
     let keyed = first.0.1 in
     let q = first.0.2 in
@@ -229,38 +230,38 @@ script_read m p x e =
     let steps = then_steps p third.0.1 behind
     (then_steps p second.0.1 third.0.1 (then_steps p q second.0.1 head.steps rows.2) k.steps)
     texts.2 in
-    subst (λ (z : ScriptLines × Place). ScriptOf m p z.0 z.1)
+    subst (λ (z : ScriptLines × Place). ScriptOf kinds p z.0 z.1)
     (ok_same (script_lines S, behind) x fourth.2) (record {
       script = S;
       is = refl;
       begins = script_begins p.rest S k.own behind.rest k.spelled whole;
-      due = subst (IsDue m) (sym k.kind) head.due;
+      due = subst (IsDue kinds) (sym k.kind) head.due;
       steps = steps;
     })
 
 -- what is read as a script of a shape is sound
-pub script_sound : (m : Bool) (p q : Place) (shape : Shape) (keys : Option Keys)
+pub script_sound : (kinds : Kinds) (p q : Place) (shape : Shape) (keys : Option Keys)
     (roles : List Role) (says : List Say) →
-    read_script m p
+    read_script kinds p
     ≡ Ok (record { numbers = named shape; keys = keys; roles = roles; says = says }, q) →
     IsScript shape keys roles says
-script_sound m p q shape keys roles says e =
+script_sound kinds p q shape keys roles says e =
     let t : ScriptLines =
     record { numbers = named shape; keys = keys; roles = roles; says = says } in
-    let read = script_read m p (t, q) e in
+    let read = script_read kinds p (t, q) e in
     let S = read.script in
     let same = same_named shape S.shape (ap (λ (z : ScriptLines). z.numbers) read.is) in
     subst (λ (z : Shape × Option Keys × List Role × List Say). IsScript z.0 z.1 z.2 z.3)
     (λ i. (sym same i, (sym read.is i).keys, (sym read.is i).roles, (sym read.is i).says)) S.sound
 
-pub script_whole : (m : Bool) (line : ℕ) (lines : List Line) (S : Script) (behind : List Line) →
-    BeginsWithScript lines S behind → IsDue m (is_some S.keys) →
-    Comes (read_script m (at line lines)) (script_lines S) behind
+pub script_whole : (kinds : Kinds) (line : ℕ) (lines : List Line) (S : Script) (behind : List Line) →
+    BeginsWithScript lines S behind → IsDue kinds (is_some S.keys) →
+    Comes (read_script kinds (at line lines)) (script_lines S) behind
 unfolding read_script
-script_whole m line lines S behind s due =
+script_whole kinds line lines S behind s due =
     let tail = map say_line S.says ++ codes "end" ∷ behind in
     let third = line + 1 + 1 + 1 in
-    let head = head_whole m line lines (behind_head S s.key_lines behind) S.shape (is_some S.keys)
+    let head = head_whole kinds line lines (behind_head S s.key_lines behind) S.shape (is_some S.keys)
     (may_be S.shape S.keys S.sound.tape_fits) due (script_lines_are lines S behind s) in
     let roles = lines_whole (read_role (named S.shape)) (IsRoleLine S.shape) (role_whole S.shape)
     (map role_line S.roles) S.roles third [] (s.key_lines ++ tail)

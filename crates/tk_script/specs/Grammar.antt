@@ -13,7 +13,7 @@ use Rattle.tk_schedule.specs.declared.raw.RawLine.{RawLine}
 use Rattle.tk_schedule.specs.declared.raw.RawKind.{RawKind}
 use Rattle.tk_schedule.specs.declared.raw.RawKind.TheVariants.{Order, Reads, End}
 use Rattle.tk_script.specs.declared.form.Form.{Form}
-use Rattle.tk_script.specs.declared.form.Form.TheVariants.{Run, View, Mirror, Wrong}
+use Rattle.tk_script.specs.declared.form.Form.TheVariants.{Run, Relay, View, Mirror, Wrong}
 use Rattle.tk_shape.specs.Numbers.{numbers_of}
 use Rattle.tk_handle.specs.declared.handle.Handle.{Handle}
 use Rattle.tk_script.specs.declared.script.Script.{Script}
@@ -211,6 +211,12 @@ pub record IsRunInput (lines : List Line) (input : Input) : Type 0 where
   pub no_replies : input.replies ≡ None
   pub tape : EndsWithTape input.first rest input.tape
 
+-- a keyed script alone
+pub record IsRelayInput (lines : List Line) (input : Input) : Type 0 where
+  pub keys : Keys
+  pub keyed : input.first.keys ≡ Some keys
+  pub run : IsRunInput lines input
+
 -- a script, a history, and the script's tape
 pub record IsViewInput (lines : List Line) (input : Input) : Type 0 where
   pub behind_script : List Line
@@ -262,6 +268,7 @@ pub record IsWrongInput (lines : List Line) (input : Input) : Type 0 where
 -- the bytes are a text of the form that spells this input
 abbrev pub Spells : Form → List ℕ → Input → Type 0
 Spells Run bytes input = IsRunInput (lines_of bytes) input
+Spells Relay bytes input = IsRelayInput (lines_of bytes) input
 Spells View bytes input = IsViewInput (lines_of bytes) input
 Spells Mirror bytes input = IsMirrorInput (lines_of bytes) input
 Spells Wrong bytes input = IsWrongInput (lines_of bytes) input

@@ -4,7 +4,8 @@ use Rattle.std.specs.List.{AllByRecursion}
 use Rattle.hex.specs.Hex.{IsBytes}
 use Rattle.tk_script.specs.declared.script.Script.{Script}
 use Rattle.tk_script.specs.declared.keys.Keys.{Keys}
-use Rattle.tk_script.specs.declared.form.Form.TheVariants.{Run, View, Mirror}
+use Rattle.tk_script.specs.declared.form.Form.TheVariants.{Run, Relay, View, Mirror}
+use Rattle.tk_script.specs.declared.input.Input.{Input}
 use Rattle.tk_script.specs.declared.input.RawTape.{RawTape}
 use Rattle.tk_schedule.specs.declared.raw.RawKind.{RawKind}
 use Rattle.tk_shape.specs.declared.shape.Shape.{Shape}
@@ -30,16 +31,20 @@ PrintsScripts = (S : Script) → HasKeys S.keys → ReadsPrinted S
 abbrev pub PrintsTapes : Type 0
 PrintsTapes = (bytes : List ℕ) → IsBytes bytes → ReadsPrintedTape bytes
 
+-- the input of a script of keys
+abbrev pub alone : Script → Input
+alone S =
+    record { first = S; second = None; history = None; replies = None; tape = None }
+
 -- a printed script of keys is all of an input
 abbrev pub PrintsKeyed : Type 0
 PrintsKeyed = (S : Script) (keys : Keys) → S.keys ≡ Some keys → HasKeys S.keys →
-    Spells Run (printed S) (record {
-      first = S;
-      second = None;
-      history = None;
-      replies = None;
-      tape = None;
-    })
+    Spells Run (printed S) (alone S)
+
+-- so it is in the form Relay
+abbrev pub PrintsRelayed : Type 0
+PrintsRelayed = (S : Script) (keys : Keys) → S.keys ≡ Some keys → HasKeys S.keys →
+    Spells Relay (printed S) (alone S)
 
 -- a printed script of drawn words and a printed tape are an input
 abbrev pub PrintsDrawn : Type 0

@@ -1,7 +1,7 @@
 -- What the lines of a text say, or else the first of them that is refused, and its cause.
 -- Within a line the causes are tried in the order of the definitions below.
 use Rattle.std.specs.Prelude.{◌≡◌, ℕ, zero, suc, ◌+◌, ◌-◌, ◌*◌, ◌/◌, nat_le, nat_lt, ◌==◌, ◌&&◌}
-use Rattle.std.specs.Prelude.{◌||◌, Bool, true, false, cond, List, [], ◌∷◌, ◌++◌, length, find}
+use Rattle.std.specs.Prelude.{◌||◌, not, Bool, true, false, cond, List, [], ◌∷◌, ◌++◌, length, find}
 use Rattle.std.specs.Prelude.{take, drop, replicate, codes, decimal, flat_map, Option, Some, None}
 use Rattle.std.specs.Prelude.{Result, Ok, Err}
 use Rattle.std.specs.Int.{w64, from_be_bytes}
@@ -35,7 +35,9 @@ use Rattle.tk_schedule.specs.declared.raw.RawLine.{RawLine}
 use Rattle.tk_schedule.specs.declared.raw.RawKind.{RawKind}
 use Rattle.tk_schedule.specs.declared.raw.RawKind.TheVariants.{Order, Reads, End}
 use Rattle.tk_script.specs.declared.form.Form.{Form}
-use Rattle.tk_script.specs.declared.form.Form.TheVariants.{Run, View, Mirror, Wrong}
+use Rattle.tk_script.specs.declared.form.Form.TheVariants.{Run, Relay, View, Mirror, Wrong}
+use Rattle.tk_script.specs.declared.kinds.Kinds.{Kinds}
+use Rattle.tk_script.specs.declared.kinds.Kinds.TheVariants.{Keyed, Drawn, Either}
 use Rattle.tk_script.specs.Grammar.{Line, kept}
 
 -- what a line gives, or the cause for which it is refused
@@ -164,11 +166,17 @@ abbrev pub drawn_if : ℕ → Verdict Bool
 drawn_if size =
     cond (nat_le size 2097152) (Ok false) (Err (cause.Shape field.Tape size))
 
--- whether the script is keyed, where it may be
-abbrev pub read_kind : Bool → Numbers → Line → Verdict Bool
-read_kind may n line =
-    cond (bytes_eq line (codes "drawn")) (drawn_if (tape_in n))
-    (cond (may && bytes_eq line (codes "keyed")) (Ok true) (Err cause.Form))
+-- whether a keyed script may stand there, or a drawn one
+abbrev pub may_be : Kinds → Bool → Bool
+may_be Keyed keyed = keyed
+may_be Drawn keyed = not keyed
+may_be Either keyed = true
+
+-- whether the script is keyed, where it may be of these kinds
+abbrev pub read_kind : Kinds → Numbers → Line → Verdict Bool
+read_kind kinds n line =
+    cond (bytes_eq line (codes "drawn") && may_be kinds false) (drawn_if (tape_in n))
+    (cond (bytes_eq line (codes "keyed") && may_be kinds true) (Ok true) (Err cause.Form))
 
 -- ---- the lines of the logs
 
@@ -470,11 +478,11 @@ abbrev pub read_words : List ℕ → Line → Verdict (Unit {0})
 read_words words line = cond (bytes_eq line words) (Ok tt) (Err cause.Form)
 
 -- the three lines at the front of a script: its format and numbers, and whether it is keyed
-unfoldable pub read_head : Bool → Place → Result (Numbers × Bool × Place) Refusal
-read_head may p = do
+unfoldable pub read_head : Kinds → Place → Result (Numbers × Bool × Place) Refusal
+read_head kinds p = do
   format ← next_line read_format p
   shape ← next_line (read_shape format.0) format.1
-  kind ← next_line (read_kind may shape.0) shape.1
+  kind ← next_line (read_kind kinds shape.0) shape.1
   Ok (shape.0, kind.0, kind.1)
 
 -- the handles and the seeds of a keyed script
@@ -496,10 +504,10 @@ pub record ScriptLines : Type 0 where
   pub roles : List Role
   pub says : List Say
 
--- a script, which may be keyed or not
-unfoldable pub read_script : Bool → Place → Result (ScriptLines × Place) Refusal
-read_script may p = do
-  head ← read_head may p
+-- a script of one of these kinds
+unfoldable pub read_script : Kinds → Place → Result (ScriptLines × Place) Refusal
+read_script kinds p = do
+  head ← read_head kinds p
   roles ← next_lines head.0.logs (alone (read_role head.0)) [] head.2
   keys ← read_keys head.0 head.1 roles.1
   says ← to_end (read_next_say head.0) [] keys.1.line keys.1.rest
@@ -575,17 +583,17 @@ read_tape_of script p = read_end script.keys (tape_in script.numbers) p
 abbrev pub front : List Line → Place
 front lines = record { line = 1; rest = lines }
 
--- a script, and its tape
-unfoldable pub read_run : List Line → Result InputLines Refusal
-read_run lines = do
-  script ← read_script true (front lines)
+-- a script of one of these kinds, and its tape
+unfoldable pub read_run : Kinds → List Line → Result InputLines Refusal
+read_run kinds lines = do
+  script ← read_script kinds (front lines)
   tape ← read_tape_of script.0 script.1
   Ok (record { first = script.0; second = None; history = None; replies = None; tape = tape })
 
 -- a script, a history, and the script's tape
 unfoldable pub read_view : List Line → Result InputLines Refusal
 read_view lines = do
-  script ← read_script true (front lines)
+  script ← read_script Either (front lines)
   history ← read_history script.1
   tape ← read_tape_of script.0 history.1
   Ok (record {
@@ -605,8 +613,8 @@ pub record TwoLines : Type 0 where
 -- two scripts of drawn words, and a history
 unfoldable pub read_two : List Line → Result (TwoLines × Place) Refusal
 read_two lines = do
-  first ← read_script false (front lines)
-  second ← read_script false first.1
+  first ← read_script Drawn (front lines)
+  second ← read_script Drawn first.1
   history ← read_history second.1
   Ok (record { first = first.0; second = second.0; history = history.0 }, history.1)
 
@@ -638,7 +646,8 @@ read_wrong lines = do
 
 -- what the lines of an input of a form say, or else the first that is refused, with its cause
 abbrev pub read_input : Form → List Line → Result InputLines Refusal
-read_input Run lines = read_run lines
+read_input Run lines = read_run Either lines
+read_input Relay lines = read_run Keyed lines
 read_input View lines = read_view lines
 read_input Mirror lines = read_mirror lines
 read_input Wrong lines = read_wrong lines

@@ -16,6 +16,7 @@ mod key_lines;
 mod key_text;
 mod keys;
 mod kind_line;
+mod kinds;
 mod laws;
 mod lifting;
 mod line_text;

@@ -7,6 +7,7 @@ ghost use Rattle.tk_script.specs.Reading.{read_run, read_view, read_wrong};
 ghost use Rattle.tk_script.specs.Stands.{stands};
 
 use crate::history_section::history_of;
+use crate::kinds::Kinds;
 use crate::place::Place;
 use crate::reply_lines::replies_of;
 use crate::section::script_of;
@@ -30,18 +31,19 @@ fn input_of(alloc: Global, text: &[u8], form: Form) -> Result<Input, ScriptError
     ensures { Agrees input_lines result (read_input form (lines_of text.now)) }
 {
     match form {
-        Form::Run => run_of(alloc, text),
+        Form::Run => run_of(alloc, Kinds::Either, text),
+        Form::Relay => run_of(alloc, Kinds::Keyed, text),
         Form::View => view_of(alloc, text),
         Form::Mirror => mirror_of(alloc, text),
         Form::Wrong => wrong_of(alloc, text),
     }
 }
 
-/// A script, and the tape of a drawn one.
-fn run_of(alloc: Global, text: &[u8]) -> Result<Input, ScriptError>
-    ensures { Agrees input_lines result (read_run (lines_of text.now)) }
+/// A script of these kinds, and the tape of a drawn one.
+fn run_of(alloc: Global, kinds: Kinds, text: &[u8]) -> Result<Input, ScriptError>
+    ensures { Agrees input_lines result (read_run kinds (lines_of text.now)) }
 {
-    let (first, rest) = script_of(alloc, true, Place::front(text))?;
+    let (first, rest) = script_of(alloc, kinds, Place::front(text))?;
     let tape = tape_behind(alloc, &first, rest)?;
     Ok(Input {
         first,
@@ -56,7 +58,7 @@ fn run_of(alloc: Global, text: &[u8]) -> Result<Input, ScriptError>
 fn view_of(alloc: Global, text: &[u8]) -> Result<Input, ScriptError>
     ensures { Agrees input_lines result (read_view (lines_of text.now)) }
 {
-    let (first, rest) = script_of(alloc, true, Place::front(text))?;
+    let (first, rest) = script_of(alloc, Kinds::Either, Place::front(text))?;
     let (history, rest) = history_of(alloc, rest)?;
     let tape = tape_behind(alloc, &first, rest)?;
     Ok(Input {

@@ -1,4 +1,5 @@
 ghost use Rattle.tk_script.specs.PrintLaws.{PrintsScripts, PrintsTapes, PrintsKeyed, PrintsDrawn};
+ghost use Rattle.tk_script.specs.PrintLaws.{PrintsRelayed};
 ghost use Rattle.tk_script.specs.PrintLaws.{PrintsViews, PrintsMirrors};
 
 /// What is printed is read back, with more text after it and alone: the text of a printed script
@@ -9,6 +10,7 @@ pub fn printed_reads()
     ensures script { PrintsScripts }
     ensures tape { PrintsTapes }
     ensures keyed { PrintsKeyed }
+    ensures relayed { PrintsRelayed }
     ensures drawn { PrintsDrawn }
     ensures views { PrintsViews }
     ensures mirrors { PrintsMirrors }

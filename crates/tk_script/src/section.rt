@@ -5,6 +5,7 @@ ghost use Rattle.tk_script.specs.Stands.{stands};
 use crate::format_line::format_of;
 use crate::key_lines::keys_of;
 use crate::kind_line::kind_of;
+use crate::kinds::Kinds;
 use crate::place::Place;
 use crate::role_lines::roles_of;
 use crate::say_lines::says_of;
@@ -13,16 +14,16 @@ use crate::{Script, ScriptError};
 use std::alloc::Global;
 use tk_shape::Shape;
 
-/// The script section that begins here, which may be keyed or not, and the place after it.
+/// The script section that begins here, of one of these kinds, and the place after it.
 pub(crate) fn script_of(
     alloc: Global,
-    may_be_keyed: bool,
+    kinds: Kinds,
     start: Place<'_>,
 ) -> Result<(Script, Place<'_>), ScriptError>
     ensures { Agrees (λ x. (script_lines x.0, stands x.1)) result
-        (read_script may_be_keyed (stands start.entry)) }
+        (read_script kinds (stands start.entry)) }
 {
-    let (shape, keyed, rest) = head_of(alloc, may_be_keyed, start)?;
+    let (shape, keyed, rest) = head_of(alloc, kinds, start)?;
     let (roles, rest) = roles_of(alloc, &shape, rest)?;
     let (keys, rest) = keys_of(alloc, &shape, keyed, rest)?;
     let (says, rest) = says_of(alloc, &shape, rest)?;
@@ -39,14 +40,14 @@ pub(crate) fn script_of(
 /// them.
 fn head_of(
     alloc: Global,
-    may_be_keyed: bool,
+    kinds: Kinds,
     start: Place<'_>,
 ) -> Result<(Shape, bool, Place<'_>), ScriptError>
     ensures { Agrees (λ x. (named x.0, x.1, stands x.2)) result
-        (read_head may_be_keyed (stands start.entry)) }
+        (read_head kinds (stands start.entry)) }
 {
     let (format, rest) = format_of(start)?;
     let (shape, rest) = shape_of(alloc, format, rest)?;
-    let (keyed, rest) = kind_of(&shape, may_be_keyed, rest)?;
+    let (keyed, rest) = kind_of(&shape, kinds, rest)?;
     Ok((shape, keyed, rest))
 }

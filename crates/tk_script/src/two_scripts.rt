@@ -4,6 +4,7 @@ ghost use Rattle.tk_script.specs.Reading.{read_two, two_lines};
 ghost use Rattle.tk_script.specs.Stands.{stands};
 
 use crate::history_section::history_of;
+use crate::kinds::Kinds;
 use crate::place::Place;
 use crate::section::script_of;
 use crate::{Input, RawReplies, RawTape, Script, ScriptError};
@@ -40,8 +41,8 @@ impl TwoScripts {
 pub(crate) fn two_of(alloc: Global, text: &[u8]) -> Result<(TwoScripts, Place<'_>), ScriptError>
     ensures { Agrees (λ x. (two_lines x.0, stands x.1)) result (read_two (lines_of text.now)) }
 {
-    let (first, rest) = script_of(alloc, false, Place::front(text))?;
-    let (second, rest) = script_of(alloc, false, rest)?;
+    let (first, rest) = script_of(alloc, Kinds::Drawn, Place::front(text))?;
+    let (second, rest) = script_of(alloc, Kinds::Drawn, rest)?;
     let (history, rest) = history_of(alloc, rest)?;
     let two = TwoScripts {
         first,

@@ -109,10 +109,12 @@ const KEYED_INPUT: Parts = &[
 
 #[test]
 fn keyed_input(rt: HostRuntime) -> Result<(), Fail> {
-    let Input { first, tape, .. } = parsed(rt.alloc(), KEYED_INPUT)?;
-    assert!(rt; tape.is_none());
-    let keys = first.keys.expect(&rt, "keys");
-    assert!(rt; are_one(&keys, 0xab));
+    for form in [Form::Run, Form::Relay] {
+        let Input { first, tape, .. } = parsed_as(rt.alloc(), KEYED_INPUT, form)?;
+        assert!(rt; tape.is_none());
+        let keys = first.keys.expect(&rt, "keys");
+        assert!(rt; are_one(&keys, 0xab));
+    }
     Ok(())
 }
 
@@ -447,8 +449,23 @@ fn first_bad_line_of_replies_named(rt: HostRuntime) -> Result<(), Fail> {
 }
 
 /// The parts of a text of a form, the line that is refused, and why.
-const REFUSED_FORMS: [(Form, Parts, u64, Cause); 12] = [
+const REFUSED_FORMS: [(Form, Parts, u64, Cause); 16] = [
     (Form::Run, &[HEAD, SCRIPT, HISTORY, TAPE], 7, Cause::Form),
+    (Form::Relay, &[HEAD, SCRIPT, TAPE], 3, Cause::Form),
+    // the tape would be too long, but a drawn script is none that may stand here
+    (
+        Form::Relay,
+        &[b"talek 1\nshape 2 8 4 4 24 64 1 0 64 256 3 1\ndrawn\n"],
+        3,
+        Cause::Form,
+    ),
+    (Form::Relay, &[KEYED], 5, Cause::Early),
+    (
+        Form::Relay,
+        &[KEYED, b"handle ", FOUR, FOUR, FOUR, SEED, b"\nend\n", TAPE],
+        8,
+        Cause::After,
+    ),
     (Form::View, &[HEAD, SCRIPT, TAPE], 7, Cause::Form),
     (Form::View, &[HEAD, SCRIPT, b"history\n"], 8, Cause::Early),
     (

@@ -10,7 +10,7 @@ use Rattle.tk_shape.specs.declared.field.Field.TheVariants.{Servers, Buckets, Ta
 use Rattle.tk_script.specs.declared.cause.Cause.{Cause}
 use Rattle.tk_script.specs.declared.cause.Cause.TheVariants.{Early, Form, Shape, Number, Order, Room, Text, After}
 use Rattle.tk_script.specs.declared.form.Form.{Form as InputForm}
-use Rattle.tk_script.specs.declared.form.Form.TheVariants.{Run, View, Mirror, Wrong}
+use Rattle.tk_script.specs.declared.form.Form.TheVariants.{Run, Relay, View, Mirror, Wrong}
 use Rattle.tk_script.specs.Grammar.{lines_of}
 use Rattle.tk_script.specs.Reading.{Refusal, InputLines, read_head, read_keys, read_script, read_history, read_replies, read_tape, read_end, read_run, read_view, read_two, read_mirror, read_wrong, read_input}
 
@@ -144,6 +144,24 @@ keyed : said (codes "talek 1\nshape 2 8 4 4 24 64 1 0 2 2 1 1\nkeyed\nlog 0 1\nh
     ≡ refused 5 Form
 unfolding computing
 keyed = refl
+
+-- ---- keys alone
+
+drawn_relay : said_in Relay (drawn ++ codes "log 0 1\nend\n") ≡ refused 3 Form
+unfolding computing
+drawn_relay = refl
+
+-- a tape that is too long isn't looked at
+long_relay : said_in Relay (codes "talek 1\nshape 2 8 4 4 24 64 1 0 64 256 3 1\ndrawn\n")
+    ≡ refused 3 Form
+unfolding computing
+long_relay = refl
+
+keyed_relay : said_in Relay
+    (codes "talek 1\nshape 2 8 4 4 24 64 1 0 2 2 1 1\nkeyed\nlog 0 1\nhandle 00\n")
+    ≡ refused 5 Form
+unfolding computing
+keyed_relay = refl
 
 -- ---- a history, and a second script
 

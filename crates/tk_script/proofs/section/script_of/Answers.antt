@@ -29,7 +29,7 @@ returns c = search (rules, in_turn)
 pub invariant_of-script : goal.invariant_of-script
 unfolding read_script
 invariant_of-script c = record {
-  sound = script_sound c.args.may_be_keyed (stands c.args.start) (stands c.in_ok-says.rest)
+  sound = script_sound c.args.kinds (stands c.args.start) (stands c.in_ok-says.rest)
       c.in_ok-shape.shape c.in_ok-keys.keys c.in_ok-roles.roles c.in_ok-says.says
       (then_said _ c.in_ok-shape.ensures (then_said _ c.in_ok-roles.ensures
       (then_said _ c.in_ok-keys.ensures (then_said _ c.in_ok-says.ensures refl))));
