@@ -1,0 +1,5 @@
+pub mod Saved
+pub mod Reading
+pub mod Sound
+pub mod Refusals
+pub mod Laws
