@@ -1,12 +1,12 @@
 -- A window of positions, as one of pushes.
 use Rattle.std.proofs.Common.{◌≡◌, ℕ, suc, ◌+◌, ◌-◌, ◌*◌, ◌/◌, ◌%◌, ◌<◌, ◌≤◌, List, [], ◌∷◌, ◌++◌, length, get_or, take, drop, All, sym, ap, ◌∙◌, mul_comm, add-zero, arith, length-append, length-drop}
-use Rattle.std.proofs.Math.Nat.{mul-sub, mul-le-mul_right}
+use Rattle.std.proofs.Math.Nat.{mul-sub, mul-le-mul_right, div-le_of_le-mul}
 use Rattle.std.proofs.lemmas.Nat.{div-add-mod', div-mul-add, mod-mul-add}
 use Rattle.std.proofs.lemmas.List.{drop-append-le}
 use Rattle.std.proofs.lemmas.Grind.{common_steps}
 use Rattle.tk_kernel.specs.Pieces.{pieces}
-use Rattle.tk_kernel.proofs.Offers.{get_or-pieces}
-use Rattle.tk_bloom.specs.Windows.{window, pushes_in, HoldsPushes}
+use Rattle.tk_kernel.proofs.Offers.{get_or-pieces, AllSized-all_pieces}
+use Rattle.tk_bloom.specs.Windows.{window, pushes_in, HoldsPushes, IsSized}
 use Rattle.tk_bloom.specs.Counts.{Counted}
 use Rattle.tk_bloom.specs.Filters.{positions_of}
 use Rattle.tk_bloom.proofs.Cutting.{length-pieces, drop-pieces, pieces-append, positions_of-pieces}
@@ -106,6 +106,22 @@ module _ (hits retained : ℕ) (tally : Counted) (are : HoldsPushes hits retaine
   length-pushes_in =
       ap (λ n. n * hits) (length-pieces hits (length tally.positions / hits) tally.positions)
       ∙ sym (count_times _ hits are.whole)
+
+  -- they are as many as are retained at most, and of one size
+  pub sized_pushes : IsSized (record {
+    bits = tally.bits;
+    hits = hits;
+    retained = retained;
+    pushes = pushes_in hits tally.positions;
+  })
+  sized_pushes =
+      record {
+        some_hits = are.some_hits;
+        most_hits = are.most_hits;
+        few = omega (arith, length-pieces hits (length tally.positions / hits) tally.positions, div-le_of_le-mul hits are.within);
+        most_retained = are.most_retained;
+        each = AllSized-all_pieces hits tally.positions;
+      }
 
   -- a push ends with the positions at the latest
   pub push_within : (i : ℕ) → i < length (pushes_in hits tally.positions)

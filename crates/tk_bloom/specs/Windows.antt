@@ -1,6 +1,6 @@
 -- What a window keeps of the pushes.
 use Rattle.std.specs.Prelude.{◌≡◌, ℕ, ◌-◌, ◌*◌, ◌%◌, ◌<◌, ◌≤◌, List, length, drop, All}
-use Rattle.tk_kernel.specs.Pieces.{all_pieces}
+use Rattle.tk_kernel.specs.Pieces.{all_pieces, AllSized}
 use Rattle.tk_bloom.specs.Counts.{Counted}
 
 -- the last n of a list, or all where there are fewer
@@ -28,3 +28,11 @@ pub record HoldsPushes (hits retained : ℕ) (tally : Counted) : Type 0 where
   pub within : length tally.positions ≤ hits * retained
   pub whole : length tally.positions % hits ≡ 0
   pub in_range : All (λ h. h < tally.bits) tally.positions
+
+-- the pushes of a window have one size, which is in range, and so is how many there are
+pub record IsSized (w : Kept) : Type 0 where
+  pub some_hits : 1 ≤ w.hits
+  pub most_hits : w.hits ≤ 4
+  pub few : length w.pushes ≤ w.retained
+  pub most_retained : w.retained ≤ 131072
+  pub each : AllSized w.hits w.pushes

@@ -1,7 +1,7 @@
 ghost use Rattle.std.specs.Prelude.{◌≡◌, ℕ, ◌*◌, ◌%◌, ◌<◌, ◌≤◌, List, ◌++◌, [], ◌∷◌, length};
 ghost use Rattle.std.specs.Prelude.{slice_index_or, IfOk, All, IsTrue};
 ghost use Rattle.tk_bloom.specs.Filters.{marks_of, positions_of, is_shown, all_marked};
-ghost use Rattle.tk_bloom.specs.Windows.{window, pushes_in};
+ghost use Rattle.tk_bloom.specs.Windows.{window, pushes_in, IsSized};
 
 use crate::tally::Tally;
 use crate::{Filter, Memory};
@@ -83,6 +83,20 @@ impl Window {
             retained,
             tally,
         })
+    }
+
+    /// Has no effect, and says what sizes the window has, whatever was taken.
+    pub fn sized(&self)
+        ensures { IsSized self.now }
+    {
+        let _ = &self.tally;
+    }
+
+    /// How many pushes are kept.
+    pub fn pushes(&self) -> u32
+        ensures { result ≡ length self.now.pushes }
+    {
+        self.tally.len() as u32 / self.hits
     }
 
     /// The positions of the push number `i` that is kept, from 0, the oldest first. Nothing is
