@@ -3,6 +3,7 @@ ghost use Rattle.std.specs.Prelude.{OnOk};
 ghost use Rattle.std.specs.Prelude.{OnErr, slice_index_or};
 ghost use Rattle.std.specs.Arc.{arc_value};
 ghost use Rattle.tk_replica.specs.declared.epoch.Epoch.{Epoch};
+ghost use Rattle.tk_replica.specs.Shelf.{IsShelf};
 
 use crate::Epoch;
 use std::alloc::Global;
@@ -48,6 +49,13 @@ impl Shelf {
             last: number,
             epochs,
         })
+    }
+
+    /// Has no effect, and says that there is an epoch for each number, whichever were let go.
+    pub(crate) fn counted(&self)
+        ensures { IsShelf self.now.floor self.now.last self.now.epochs }
+    {
+        let _ = &self.epochs;
     }
 
     /// The first number.

@@ -8,7 +8,7 @@ ghost use Rattle.tk_replica.specs.Epochs.{IsEpochOf};
 ghost use Rattle.tk_replica.specs.Replica.{StandsFor};
 ghost use Rattle.tk_replica.specs.Store.{IsStore};
 ghost use Rattle.tk_replica.specs.Restoring.{IsRestored, HasLeft};
-ghost use Rattle.tk_replica.specs.Shelf.{IsHeld};
+ghost use Rattle.tk_replica.specs.Shelf.{IsShelf, IsHeld};
 ghost use Rattle.tk_replica.specs.Refusals.{pin_refusal, IsPinRefusal};
 ghost use Rattle.tk_replica.specs.Keeping.{Released, numbers_of, numbers_behind, opening};
 
@@ -80,6 +80,16 @@ impl ReplicaState {
             store,
             shelf: Shelf::open(alloc, last, epoch)?,
         })
+    }
+
+    /// Has no effect, and says that the table and the window are of the state's shape, and that an
+    /// epoch is kept for each number from the floor to the last, whatever was applied.
+    pub fn matched(&self)
+        ensures parts { IsStore self.now.shape self.now.table self.now.window }
+        ensures epochs { IsShelf self.now.floor self.now.last self.now.kept }
+    {
+        self.store.matched();
+        self.shelf.counted();
     }
 
     /// The shape of the entries that it takes.

@@ -58,6 +58,13 @@ impl Store {
         }
     }
 
+    /// Has no effect, and says that its parts are of its shape, whatever was written.
+    pub(crate) fn matched(&self)
+        ensures { IsStore self.now.shape self.now.table self.now.window }
+    {
+        let _ = &self.table;
+    }
+
     /// The shape of its parts.
     pub(crate) fn shape(&self) -> &Shape
         ensures { result.now ≡ self.now.shape }
