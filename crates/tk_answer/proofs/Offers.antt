@@ -1,2 +1,4 @@
 -- What the proofs of other crates may cite.
 pub use Rattle.tk_answer.proofs.Runs.{run_of_slice}
+-- How many bytes a run has, and how many blocks.
+pub use Rattle.tk_answer.proofs.Runs.{bytes-in_run, blocks-in_run}

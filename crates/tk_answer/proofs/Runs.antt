@@ -43,13 +43,13 @@ module _ (width : ℕ) (blocks : List (List ℕ)) (some : 0 < width) (each : All
     unfolding in_run
     count-in_run = length-take-le run.count (drop i blocks) (omega (arith, run.within, run.some, length-drop i blocks))
 
-    bytes-in_run : length bytes ≡ run.count * width
+    pub bytes-in_run : length bytes ≡ run.count * width
     unfolding in_run
     bytes-in_run =
         ap length run.joined ∙ length-concat width in_run (AllSized-run i run.count)
         ∙ ap (λ n. n * width) count-in_run
 
-    blocks-in_run : length bytes / width ≡ run.count
+    pub blocks-in_run : length bytes / width ≡ run.count
     blocks-in_run = div-eq_of_eq-mul_left some bytes-in_run
 
     pub cut_of_run : IsCut width blocks i bytes

@@ -52,7 +52,7 @@ module _ (shape : Shape) (bytes : List ℕ) where
       ∙ ap slot_from (get_or-pieces len count n bytes [] low)
 
   -- a slot of a bucket is one of the row
-  slot_in_row : (b k : ℕ) (d : Slot) → b < shape.buckets → k < shape.depth →
+  pub slot_in_row : (b k : ℕ) (d : Slot) → b < shape.buckets → k < shape.depth →
       get_or (bucket_at (table_spelled shape bytes) b) k d
       ≡ slot_number (slots_spelled shape bytes) (b * shape.depth + k)
   slot_in_row b k d low inner =
