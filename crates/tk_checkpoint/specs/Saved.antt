@@ -57,10 +57,12 @@ abbrev pub magic : List ℕ
 magic = 84 ∷ 65 ∷ 76 ∷ 75 ∷ []
 
 -- the numbers in front
+abbrev pub head_with : Shape → ℕ → ℕ → ℕ → List ℕ
+head_with shape applied last count =
+    magic ++ 1 ∷ flat_map be32 (format_and_numbers shape) ++ be64 applied ++ be32 last ++ be32 count
+
 abbrev pub head_bytes : Shape → Saved → List ℕ
-head_bytes shape s =
-    magic ++ 1 ∷ flat_map be32 (format_and_numbers shape)
-    ++ be64 s.applied ++ be32 s.last ++ be32 (length s.positions)
+head_bytes shape s = head_with shape s.applied s.last (length s.positions)
 
 -- each position with the hits beside it
 abbrev pub window_bytes : List ℕ → List (List ℕ) → List ℕ
