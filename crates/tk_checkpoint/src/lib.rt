@@ -8,6 +8,6 @@ mod laws;
 mod save;
 
 pub use error::{CheckpointError, RestoreError};
-pub use laws::{saved_reads_back, written_at_marks};
+pub use laws::{saved_is_sound, saved_reads_back, written_at_marks};
 pub use save::checkpoint;
 pub use tk_shape::Memory;
