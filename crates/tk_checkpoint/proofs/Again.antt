@@ -1,5 +1,5 @@
 -- What sound bytes have is spelled as those bytes.
-use Rattle.std.proofs.Common.{◌≡◌, ℕ, zero, suc, ◌+◌, ◌*◌, ◌<◌, ◌≤◌, true, List, [], ◌∷◌, ◌++◌, length, map, take, drop, refl}
+use Rattle.std.proofs.Common.{◌≡◌, ℕ, zero, suc, ◌+◌, ◌*◌, ◌<◌, ◌≤◌, true, List, [], ◌∷◌, ◌++◌, length, drop, refl}
 use Rattle.std.proofs.Common.{sym, ap, ap₂, ◌∙◌, arith, append_assoc}
 use Rattle.std.specs.Prelude.{◌==◌, ◌&&◌, slice_index}
 use Rattle.std.specs.List.{flat_map, concat}
@@ -7,23 +7,19 @@ use Rattle.std.proofs.lemmas.Bool.{and_parts, eqb-true}
 use Rattle.std.proofs.lemmas.List.{drop-drop, length-drop, take_all}
 use Rattle.tk_shape.specs.declared.shape.Shape.{Shape}
 use Rattle.tk_shape.specs.Lengths.{width}
-use Rattle.tk_shape.specs.Numbers.{format_and_numbers}
-use Rattle.tk_kernel.specs.Pieces.{pieces}
 use Rattle.tk_kernel.proofs.Offers.{concat-pieces, all_pieces-append}
 use Rattle.tk_frames.specs.Spelling.{be32, be64}
 use Rattle.tk_frames.specs.Fields.{number_at, long_at, numbers}
-use Rattle.tk_frames.specs.Slots.{slot_bytes}
 use Rattle.tk_frames.proofs.Offers.{IsBytes, IsBytes-drop}
 use Rattle.tk_frames.proofs.BigEndian.{number-join, long-join, numbers-join, length-numbers}
-use Rattle.tk_bucket.specs.Table.{SlotTable}
-use Rattle.tk_bucket.specs.Bytes.{blocks_of}
 use Rattle.tk_bucket.proofs.Tables.{blocks_of-table_in}
 use Rattle.tk_bloom.specs.Windows.{pushes_in}
 use Rattle.tk_table.specs.Restoring.{table_spelled}
-use Rattle.tk_checkpoint.specs.Saved.{spelling, head_bytes, window_bytes, table_bytes, head_len, entry_len, table_len}
+use Rattle.tk_checkpoint.specs.Saved.{spelling, window_bytes, table_bytes, head_len, entry_len, table_len}
 use Rattle.tk_checkpoint.specs.Reading.{numbers_in, applied_in, last_in, count_in, window_part, table_part, positions_from}
 use Rattle.tk_checkpoint.specs.Reading.{hits_from, positions_in, hits_in, saved_in}
 use Rattle.tk_checkpoint.specs.Sound.{is_magic}
+use Rattle.tk_checkpoint.proofs.ReadBack.{blocks-joined}
 use Rattle.tk_checkpoint.proofs.Heads.{StandsHead}
 use Rattle.tk_checkpoint.proofs.Places.{length-positions}
 use Rattle.tk_checkpoint.proofs.Sounds.{room_for_window, whole_table}
@@ -134,15 +130,11 @@ window_again hits (suc count) bytes some fits long =
 
 -- ---- the table
 
-joined : (T : SlotTable) → table_bytes T ≡ concat (blocks_of T)
-joined [] = refl
-joined (slots ∷ T) = ap (λ ys. flat_map slot_bytes slots ++ ys) (joined T)
-
 table_again : (shape : Shape) (bytes : List ℕ) → IsBytes bytes → length bytes ≡ table_len shape →
     table_bytes (table_spelled shape bytes) ≡ bytes
 table_again shape bytes fits long =
     let wide = width shape in
-    joined (table_spelled shape bytes)
+    sym (blocks-joined (table_spelled shape bytes))
     ∙ ap concat (blocks_of-table_in shape.buckets shape.depth shape.block bytes fits (omega (arith, long)))
     ∙ concat-pieces wide shape.buckets bytes (omega (arith, long))
     ∙ take_all (shape.buckets * wide) bytes (omega (arith, long))

@@ -1,9 +1,9 @@
 -- What the checks of the numbers in front tell.
-use Rattle.std.proofs.Common.{◌≡◌, ℕ, ◌+◌, ◌-◌, ◌*◌, ◌<◌, ◌≤◌, Bool, true, false, cond, List, [], ◌∷◌, ◌++◌, map, length}
-use Rattle.std.proofs.Common.{refl, sym, ap, ap₂, ◌∙◌, arith}
+use Rattle.std.proofs.Common.{◌≡◌, ℕ, ◌+◌, ◌-◌, ◌≤◌, true, List, [], ◌∷◌, ◌++◌, map, length}
+use Rattle.std.proofs.Common.{refl, sym, ap₂, arith}
 use Rattle.std.specs.Prelude.{◌==◌, nat_le, not, None, slice_index}
 use Rattle.std.proofs.Math.Nat.{min-le_left}
-use Rattle.std.proofs.lemmas.Bool.{and_parts, eqb-true, not-true, not-false}
+use Rattle.std.proofs.lemmas.Bool.{eqb-true, not-true, not-false}
 use Rattle.tk_shape.specs.declared.shape.Shape.{Shape}
 use Rattle.tk_shape.specs.declared.field.Field.{Field}
 use Rattle.tk_shape.specs.declared.differs.Differs.{Differs}
@@ -12,7 +12,7 @@ use Rattle.tk_shape.specs.Differences.{fields, side_by_side, are_apart}
 use Rattle.tk_checkpoint.specs.declared.error.RestoreError.TheVariants as refusal
 use Rattle.tk_checkpoint.specs.Saved.{head_len, table_len}
 use Rattle.tk_checkpoint.specs.Reading.{numbers_in, applied_in, last_in, count_in}
-use Rattle.tk_checkpoint.specs.Sound.{Check, check, first_refusal, head_checks, start_checks, shape_checks, number_checks}
+use Rattle.tk_checkpoint.specs.Sound.{check, first_refusal, head_checks, start_checks, shape_checks, number_checks}
 use Rattle.tk_checkpoint.specs.Sound.{is_magic, is_last, most_applied, count_due, length_due, restore_checks, window_checks, slot_checks}
 use Rattle.tk_checkpoint.proofs.Checking.{none-both, none-first}
 

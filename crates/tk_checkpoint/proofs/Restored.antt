@@ -1,21 +1,24 @@
 -- A state that is made of what bytes have.
-use Rattle.std.proofs.Common.{◌≡◌, ℕ, ◌-◌, List, [], ◌∷◌, map, refl, sym, ap, ap₂, ◌∙◌, subst, arith}
-use Rattle.std.specs.Prelude.{slice_index}
+use Rattle.std.proofs.Common.{◌≡◌, ℕ, ◌/◌, List, length, sym, ap, ap₂, ◌∙◌, subst, arith}
+use Rattle.std.proofs.Math.Nat.{mul-div_left}
 use Rattle.tk_shape.specs.declared.shape.Shape.{Shape}
+use Rattle.tk_kernel.proofs.Offers.{length-pieces}
 use Rattle.tk_frames.specs.declared.entry.Placed.{Placed}
 use Rattle.tk_frames.specs.InOrder.{IsOrder}
 use Rattle.tk_bloom.specs.Windows.{Kept as KeptPushes, pushes_in}
-use Rattle.tk_table.specs.Table.{SlotTable}
 use Rattle.tk_table.specs.Stands.{Kept}
 use Rattle.tk_table.specs.Restoring.{table_spelled}
-use Rattle.tk_replica.specs.declared.epoch.Epoch.{Epoch}
 use Rattle.tk_replica.specs.Store.{window_with}
 use Rattle.tk_replica.specs.Replica.{ReplicaView}
 use Rattle.tk_replica.specs.Restoring.{IsRestored, EndsWithMark, HasLeft}
-use Rattle.tk_checkpoint.specs.Saved.{Saved, saved, saved_of, last_upto}
-use Rattle.tk_checkpoint.specs.Reading.{applied_in, last_in, table_part, positions_in, hits_in, saved_in}
+use Rattle.tk_checkpoint.specs.Saved.{saved}
+use Rattle.tk_checkpoint.specs.Reading.{applied_in, last_in, count_in, window_part, table_part}
+use Rattle.tk_checkpoint.specs.Reading.{positions_in, hits_in, saved_in}
 use Rattle.tk_checkpoint.specs.Restored.{GoesOnFrom}
 use Rattle.tk_checkpoint.proofs.Standing.{table_with, saved_with, left-saved}
+use Rattle.tk_checkpoint.proofs.Written.{restored-at_mark, restored-spelled}
+use Rattle.tk_checkpoint.proofs.Places.{length-positions}
+use Rattle.tk_checkpoint.proofs.Sounds.{length-hits}
 
 module _ (shape : Shape) (bytes : List ℕ) where
   pub table_made : (positions table : List ℕ) → positions ≡ positions_in shape bytes → table ≡ table_part shape bytes →
@@ -36,7 +39,14 @@ module _ (shape : Shape) (bytes : List ℕ) where
     pub goes_on : (s : ReplicaView) → IsRestored shape applied last table window s → GoesOnFrom shape bytes s
     unfolding saved_in
     goes_on s is =
-        let none : s.last - s.floor ≡ 0 = omega (arith, is.last_is, is.floor_is) in
+        let count = count_in bytes in
+        let window_bytes = window_part bytes in
+        let all = length-pieces shape.hits (length (hits_in shape bytes) / shape.hits) (hits_in shape bytes) in
+        let whole = ap (λ n. n / shape.hits) (length-hits shape.hits count window_bytes)
+        ∙ mul-div_left count (omega (arith, shape.in_range.hits_low)) in
+        let beside : length window.pushes ≡ length table.positions =
+        ap (λ (w : KeptPushes). length w.pushes) shown ∙ all ∙ whole
+        ∙ sym (ap (λ (t : Kept). length t.positions) made ∙ length-positions shape.hits count window_bytes) in
         record {
           same = is.same;
           parts =
@@ -47,9 +57,8 @@ module _ (shape : Shape) (bytes : List ℕ) where
               ∙ ap (λ (w : KeptPushes). saved_with (applied_in bytes) (last_in bytes) (positions_in shape bytes) w.pushes
               (table_spelled shape (table_part shape bytes))) (is.window_is ∙ shown);
           floor = is.floor_is ∙ sym is.last_is;
-          at_mark =
-              ap₂ (λ es i. slice_index (map (λ (e : Epoch). e.upto) es) i) is.kept none
-              ∙ is.taken.upto_is ∙ sym is.applied_is;
+          written = restored-spelled shape applied last table window s is beside;
+          at_mark = restored-at_mark shape applied last table window s is;
         }
 
     pub has_left : (E : List Placed) → IsOrder shape E → EndsWithMark E → bytes ≡ saved shape E →

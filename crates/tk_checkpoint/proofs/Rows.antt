@@ -1,12 +1,11 @@
 -- The definitions, computed on a small shape.
-use Rattle.std.proofs.Common.{◌≡◌, ℕ, ◌*◌, ◌+◌, List, [], ◌∷◌, ◌++◌, length, drop, take, replicate, refl, arith}
-use Rattle.std.specs.Prelude.{Option, Some, None, slice_set, IsTrue}
+use Rattle.std.proofs.Common.{◌≡◌, List, [], ◌∷◌, length, drop, take, replicate, refl, arith}
+use Rattle.std.specs.Prelude.{Some, None, slice_set, IsTrue}
 use Rattle.std.specs.Int.{is_power_of_two}
 use Rattle.tk_shape.specs.declared.shape.Shape.{Shape}
 use Rattle.tk_frames.specs.declared.entry.Placed.{Placed}
 use Rattle.tk_frames.specs.declared.entry.Entry.TheVariants.{Write, Mark}
 use Rattle.tk_table.specs.Table.{layout_on, layout_with}
-use Rattle.tk_checkpoint.specs.declared.error.RestoreError.{RestoreError}
 use Rattle.tk_checkpoint.specs.declared.error.RestoreError.TheVariants as refusal
 use Rattle.tk_place.specs.Place.{search_end, levels_from}
 use Rattle.tk_table.proofs.Computing.{computing}

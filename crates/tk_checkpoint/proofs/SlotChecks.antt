@@ -1,7 +1,7 @@
 -- The slots of a table, one by one.
-use Rattle.std.proofs.Common.{◌≡◌, ◌≢◌, ℕ, zero, suc, ◌+◌, ◌*◌, ◌/◌, ◌%◌, ◌<◌, ◌≤◌, ◌⊎◌, inl, inr, Bool, true, false, cond}
+use Rattle.std.proofs.Common.{◌≡◌, ℕ, zero, suc, ◌+◌, ◌*◌, ◌/◌, ◌%◌, ◌<◌, ◌≤◌, inl, inr, Bool, true, false, cond}
 use Rattle.std.proofs.Common.{List, [], ◌∷◌, ◌++◌, map, length, get_or, take, drop, replicate, refl, sym, ap, ap₂, ◌∙◌, subst, arith, eq-eqb}
-use Rattle.std.specs.Prelude.{◌==◌, ◌||◌, ◌&&◌, nat_lt, not, Option, Some, None}
+use Rattle.std.specs.Prelude.{◌==◌, ◌||◌, ◌&&◌, nat_lt, not, Some, None}
 use Rattle.std.specs.List.{list_any, list_all, range_with_len}
 use Rattle.std.proofs.lemmas.Bool.{cases_lt, cond-true, cond-false, ltb-true, eqb-true, and_parts, or_cases, not-true, false≢true}
 use Rattle.std.proofs.lemmas.List.{take_more, get_or-take, length-drop, length-take-le, drop-drop}
@@ -12,22 +12,14 @@ use Rattle.tk_shape.specs.Lengths.{slot_len, width}
 use Rattle.tk_frames.specs.Lists.{IsIn}
 use Rattle.tk_frames.specs.Slots.{slot_from}
 use Rattle.tk_table.specs.Table.{Slot, empty_slot}
-use Rattle.tk_table.specs.Inside.{IsEntryOf}
 use Rattle.tk_table.specs.Restoring.{AreAscending, AreSound, IsNewEntry, slots_spelled, slot_number}
 use Rattle.tk_table.proofs.Spelled.{length-slots_spelled, slot_spelled}
-use Rattle.tk_checkpoint.specs.declared.error.RestoreError.{RestoreError}
 use Rattle.tk_checkpoint.specs.declared.error.RestoreError.TheVariants as refusal
 use Rattle.tk_checkpoint.specs.Sound.{Check, check, first_refusal, is_zeros, lies_in, has_slot, is_new_entry, is_sound_slot, slot_checks_of}
 use Rattle.tk_checkpoint.specs.Finding.{flags}
+use Rattle.tk_checkpoint.proofs.Passing.{passed-range}
 
 -- ---- a check for each number
-
-all_passed_from : (f : ℕ → Check) (a count : ℕ) → ((n : ℕ) → a ≤ n → n < a + count → (f n).passed ≡ true) →
-    first_refusal (map f (range_with_len a count)) ≡ None
-all_passed_from f a zero each = refl
-all_passed_from f a (suc count) each =
-    cond-true (f a).passed _ _ (each a (omega arith) (omega arith))
-    ∙ all_passed_from f (a + 1) count (λ n low high. each n (omega (arith, low)) (omega (arith, high)))
 
 first_failed_from : (f : ℕ → Check) (a count n : ℕ) → a ≤ n → n < a + count →
     ((m : ℕ) → a ≤ m → m < n → (f m).passed ≡ true) → (f n).passed ≡ false →
@@ -130,7 +122,7 @@ module _ (shape : Shape) (positions table : List ℕ) where
       AreChecked shape positions table n found rest →
       first_refusal (slot_checks_of shape positions (slots_spelled shape table)) ≡ None
   all_checked n found rest high so_far =
-      all_passed_from
+      passed-range
       (λ k. check (refusal.Slot (k / shape.depth) (k % shape.depth)) (is_sound_slot shape positions (slots_spelled shape table) k))
       0 (shape.buckets * shape.depth) (λ m up down. so_far.passed m (omega (arith, down, high)))
 

@@ -1,5 +1,5 @@
 -- Which positions of a window were found in slots.
-use Rattle.std.specs.Prelude.{◌≡◌, ◌≢◌, ℕ, ◌<◌, Bool, List, [], ◌∷◌, ◌++◌, map, length, slice_index_or, Option, Some, None}
+use Rattle.std.specs.Prelude.{◌≡◌, ◌≢◌, ℕ, ◌<◌, Bool, List, map, length, slice_index_or, Option, Some, None}
 use Rattle.tk_table.specs.Table.{Slot}
 use Rattle.tk_checkpoint.specs.Sound.{has_slot}
 

@@ -1,11 +1,11 @@
 -- What is checked of the bytes of a checkpoint, in its order, and the first check that they fail.
-use Rattle.std.specs.Prelude.{◌≡◌, ℕ, zero, suc, ◌+◌, ◌-◌, ◌*◌, ◌/◌, ◌%◌, nat_lt, nat_le, ◌==◌, ◌||◌, ◌&&◌, ◌⊎◌, not, min, Bool, List, [], ◌∷◌, ◌++◌, length, map, take, drop, slice_index, Option, Some, None, if◌then◌else◌}
+use Rattle.std.specs.Prelude.{◌≡◌, ℕ, zero, suc, ◌+◌, ◌-◌, ◌*◌, ◌/◌, ◌%◌, nat_lt, nat_le, ◌==◌, ◌||◌, ◌&&◌, not, min, Bool, List, [], ◌∷◌, ◌++◌, length, map, take, drop, slice_index, Option, Some, None, if◌then◌else◌}
 use Rattle.std.specs.List.{list_all, list_any, range_with_len}
 use Rattle.tk_shape.specs.declared.shape.Shape.{Shape}
 use Rattle.tk_shape.specs.Numbers.{format_and_numbers}
 use Rattle.tk_shape.specs.Differences.{fields, side_by_side, are_apart}
 use Rattle.tk_shape.specs.Lengths.{turn_count}
-use Rattle.tk_frames.specs.Fields.{number_at, long_at, numbers}
+use Rattle.tk_frames.specs.Fields.{long_at, numbers}
 use Rattle.tk_table.specs.Table.{Slot}
 use Rattle.tk_table.specs.Restoring.{slot_number}
 use Rattle.tk_checkpoint.specs.declared.error.RestoreError.{RestoreError}

@@ -5,9 +5,11 @@ ghost use Rattle.tk_frames.specs.declared.entry.Placed.{Placed};
 ghost use Rattle.tk_frames.specs.InOrder.{IsOrder};
 ghost use Rattle.tk_replica.specs.Replica.{StandsFor};
 ghost use Rattle.tk_replica.specs.Restoring.{EndsWithMark};
-ghost use Rattle.tk_checkpoint.specs.Saved.{saved, saved_of, spelling};
+ghost use Rattle.tk_checkpoint.specs.Saved.{saved, saved_of};
+ghost use Rattle.tk_checkpoint.specs.Reading.{saved_in};
 ghost use Rattle.tk_checkpoint.specs.Sound.{first_refusal, restore_checks, IsSound, IsRefusal};
 ghost use Rattle.tk_checkpoint.specs.Refusals.{checkpoint_refusal};
+ghost use Rattle.tk_checkpoint.specs.Writing.{state_bytes};
 ghost use Rattle.tk_checkpoint.specs.Restored.{GoesOnFrom};
 
 use crate::RestoreError;
@@ -29,9 +31,11 @@ pub fn restore(alloc: Global, shape: &Shape, bytes: &[u8]) -> Result<ReplicaStat
     ensures shape { IfOk result (λ s. s.shape ≡ shape.now) }
     ensures floor { IfOk result (λ s. s.floor ≡ s.last) }
 
+    ensures parts { IfOk result (λ s. saved_of s ≡ saved_in shape.now bytes.now) }
+
     // its checkpoint is these bytes again
     ensures at_mark { IfOk result (λ s. checkpoint_refusal s ≡ None) }
-    ensures again { IfOk result (λ s. spelling shape.now (saved_of s) ≡ bytes.now) }
+    ensures again { IfOk result (λ s. state_bytes s ≡ bytes.now) }
 
     // whatever entries that end with a mark, or none, the bytes are the checkpoint of
     ensures stands { (E : List Placed) → IsOrder shape.now E → EndsWithMark E

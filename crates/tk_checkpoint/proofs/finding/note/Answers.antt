@@ -1,9 +1,9 @@
-use Rattle.std.proofs.Common.{ap, sym, ◌∙◌, arith, set, true, false}
+use Rattle.std.proofs.Common.{ap, sym, ◌∙◌, arith, set, true}
 use Rattle.std.specs.Prelude.{◌&&◌, not}
 use Rattle.tk_checkpoint.specs.Reading.{positions_from}
 use Rattle.tk_checkpoint.specs.Sound.{has_slot}
 use Rattle.tk_checkpoint.proofs.Places.{length-positions}
-use Rattle.tk_checkpoint.proofs.Flags.{is_unnamed, is_new, flags_noted}
+use Rattle.tk_checkpoint.proofs.Flags.{is_unnamed, flags_noted}
 use Rattle.tk_checkpoint.proofs.finding.note.Goals as goal
 
 pub returns-in_default-clause-new : goal.returns-in_default-clause-new

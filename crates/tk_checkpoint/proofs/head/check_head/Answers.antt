@@ -1,4 +1,4 @@
-use Rattle.std.proofs.Common.{◌≡◌, [], ◌∷◌, ◌++◌, ap, ap₂, sym, ◌∙◌, length}
+use Rattle.std.proofs.Common.{◌++◌, ap, ap₂, sym, ◌∙◌, length}
 use Rattle.std.proofs.lemmas.Result.{err_from_is_err_and}
 use Rattle.tk_checkpoint.specs.Reading.{applied_in, last_in, count_in}
 use Rattle.tk_checkpoint.specs.Sound.{first_refusal, start_checks, shape_checks, number_checks}

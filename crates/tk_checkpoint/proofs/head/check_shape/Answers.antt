@@ -1,4 +1,4 @@
-use Rattle.std.proofs.Common.{◌≡◌, ap, sym, ◌∙◌}
+use Rattle.std.proofs.Common.{ap, sym, ◌∙◌}
 use Rattle.std.specs.Prelude.{option_map, find}
 use Rattle.tk_shape.specs.declared.differs.Differs.{Differs}
 use Rattle.tk_shape.specs.Numbers.{format_and_numbers}

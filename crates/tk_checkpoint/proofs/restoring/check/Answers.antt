@@ -1,10 +1,9 @@
-use Rattle.std.proofs.Common.{◌≡◌, ◌*◌, None, ap, ap₂, sym, ◌∙◌, length, subst, arith}
+use Rattle.std.proofs.Common.{◌*◌, ap, ap₂, sym, ◌∙◌, length, subst, arith}
 use Rattle.std.proofs.lemmas.Result.{err_from_is_err_and}
 use Rattle.tk_table.specs.Restoring.{AreAscending, slots_spelled}
-use Rattle.tk_checkpoint.specs.Reading.{positions_in, table_part}
-use Rattle.tk_checkpoint.specs.Sound.{first_refusal, slot_checks_of, window_checks}
-use Rattle.tk_checkpoint.proofs.Heads.{StandsHead, stands_head, few}
-use Rattle.tk_checkpoint.proofs.Sounds.{room_for_window, whole_table, ascending_in, fails_in_head, fails_in_window}
+use Rattle.tk_checkpoint.specs.Sound.{first_refusal, slot_checks_of}
+use Rattle.tk_checkpoint.proofs.Heads.{stands_head, few}
+use Rattle.tk_checkpoint.proofs.Sounds.{whole_table, ascending_in, fails_in_head, fails_in_window}
 use Rattle.tk_checkpoint.proofs.Sounds.{left_to_slots, positions_are, checks_are, table_is, window_fits}
 use Rattle.tk_checkpoint.proofs.restoring.check.Goals as goal
 

@@ -1,14 +1,14 @@
-use Rattle.std.proofs.Common.{◌≡◌, ℕ, List, ◌*◌, ◌<◌, ◌≤◌, ◌%◌, ap, ap₂, sym, ◌∙◌, length, subst, arith}
+use Rattle.std.proofs.Common.{ℕ, List, ◌*◌, ◌<◌, ◌≤◌, ◌%◌, ap, sym, ◌∙◌, length, subst, arith}
 use Rattle.std.specs.List.{AllByRecursion, All}
 use Rattle.std.proofs.Math.Nat.{mul-mod_left, mul-le-mul, mul-le-mul_left}
 use Rattle.std.proofs.lemmas.List.Elements.{All-from_recursion}
 use Rattle.std.proofs.lemmas.Result.{IfOk-weaker}
 use Rattle.tk_table.specs.Stands.{Kept}
 use Rattle.tk_table.specs.Restoring.{AreAscending, AreSound, slots_spelled}
-use Rattle.tk_checkpoint.specs.Reading.{positions_in, hits_in, table_part, count_in, window_part}
+use Rattle.tk_checkpoint.specs.Reading.{positions_in, hits_in, count_in, window_part}
 use Rattle.tk_checkpoint.proofs.Heads.{few}
 use Rattle.tk_checkpoint.proofs.Places.{length-positions}
-use Rattle.tk_checkpoint.proofs.Sounds.{IsSoundIn, sound_in, whole_table, length-hits, latest_low}
+use Rattle.tk_checkpoint.proofs.Sounds.{sound_in, whole_table, length-hits, latest_low}
 use Rattle.tk_checkpoint.proofs.Sounds.{positions_are, hits_are, table_is, window_fits}
 use Rattle.tk_checkpoint.proofs.Restored.{table_made, window_made, goes_on, has_left}
 use Rattle.tk_checkpoint.proofs.restoring.state_of.Goals as goal

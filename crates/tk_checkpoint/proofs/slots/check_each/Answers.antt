@@ -1,4 +1,4 @@
-use Rattle.std.proofs.Common.{◌∙◌, ◌*◌, ◌/◌, ◌%◌, ap, sym, arith, drop, take, length, replicate, true, false, refl}
+use Rattle.std.proofs.Common.{◌∙◌, ◌*◌, ◌/◌, ap, sym, arith, drop, take, length, replicate, true, false, refl}
 use Rattle.std.proofs.lemmas.Nat.{row_fits}
 use Rattle.std.proofs.lemmas.List.{length-drop}
 use Rattle.tk_shape.specs.Lengths.{slot_len}

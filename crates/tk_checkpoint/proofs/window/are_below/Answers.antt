@@ -1,4 +1,4 @@
-use Rattle.std.proofs.Common.{sym, ap, ◌∙◌, arith}
+use Rattle.std.proofs.Common.{sym, ◌∙◌}
 use Rattle.tk_checkpoint.proofs.Windows.{room_for_others, below_on, below_stops, below_done}
 use Rattle.tk_checkpoint.proofs.window.are_below.Goals as goal
 
