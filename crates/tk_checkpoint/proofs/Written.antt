@@ -102,7 +102,7 @@ module _ (shape : Shape) (E : List Placed) (s : ReplicaView) (is : StandsFor sha
   upto-stands = (last-at s at.epoch low at.is).upto ∙ last-stands.upto
 
   -- it has applied nothing behind its last mark just where a mark came last
-  pub written-at_mark : (last_upto s ≡ s.applied) ↔ EndsWithMark E
+  written-at_mark : (last_upto s ≡ s.applied) ↔ EndsWithMark E
   written-at_mark = (
     λ same. ends-with_mark shape E is.order (sym upto-stands ∙ same ∙ is.applied),
     λ ends. upto-stands ∙ (at-end shape E is.order ends).place ∙ sym is.applied,
@@ -126,8 +126,13 @@ module _ (shape : Shape) (E : List Placed) (s : ReplicaView) (is : StandsFor sha
       ∙ ap blocks_of (sym is.table.slots)
 
   -- then it is written as the checkpoint of the entries
-  pub stands-written : EndsWithMark E → state_bytes s ≡ saved shape E
+  stands-written : EndsWithMark E → state_bytes s ≡ saved shape E
   stands-written ends = state-spelled s beside (blocks-stand ends) ∙ saved-left shape E s is
+
+  -- so the bytes that it is written as are those
+  pub saved-written : (out all : List ℕ) → last_upto s ≡ s.applied → all ≡ out ++ state_bytes s → all ≡ out ++ saved shape E
+  saved-written out all same written =
+      written ∙ ap (λ (bytes : List ℕ). out ++ bytes) (stands-written (written-at_mark.0 same))
 
 pub written-at_marks : WrittenAtMarks
 written-at_marks shape E s is = written-at_mark shape E s is

@@ -5,8 +5,7 @@ use Rattle.tk_bucket.specs.Bytes.{BlockList}
 use Rattle.tk_bloom.specs.Windows.{Kept as KeptPushes}
 use Rattle.tk_table.specs.Stands.{Kept}
 use Rattle.tk_checkpoint.specs.Saved.{head_with}
-use Rattle.tk_checkpoint.proofs.Written.{last-found, refusal-none, refused, parts-joined}
-use Rattle.tk_checkpoint.proofs.Written.{written-at_mark, stands-written}
+use Rattle.tk_checkpoint.proofs.Written.{last-found, refusal-none, refused, parts-joined, saved-written}
 use Rattle.tk_checkpoint.proofs.save.checkpoint.Goals as goal
 
 pub returns-then-upto-applied-clause-refused : goal.returns-then-upto-applied-clause-refused
@@ -47,9 +46,7 @@ returns-clause-written c =
 
 pub returns-clause-saved : goal.returns-clause-saved
 returns-clause-saved c = λ shape E stands.
-    let s = c.args.state.now in
     let last = last-found c.args.state.now _ _ c.matched.ensures.epochs c.last.ensures c.epoch-epoch.ensures.at in
     let same = last.upto ∙ sym c.upto-upto.ensures ∙ c.if-upto-applied.false ∙ c.applied-applied.ensures in
-    returns-clause-written c
-    ∙ ap (λ (bytes : List ℕ). c.args.out.now.items ++ bytes)
-    (stands-written shape E s stands ((written-at_mark shape E s stands).0 same))
+    saved-written shape E c.args.state.now stands c.args.out.now.items c.put_blocks.new.out.items same
+    (returns-clause-written c)
