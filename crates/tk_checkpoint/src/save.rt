@@ -17,7 +17,8 @@ use tk_replica::ReplicaState;
 use tk_shape::Shape;
 
 /// Appends the checkpoint of a state that has applied nothing behind its last mark. It makes the
-/// room for all bytes first; refused, it appends nothing.
+/// room for all bytes first; refused, it appends nothing. The buckets are those of its last epoch,
+/// which lie in pages that are copied as they are: at its mark the table has the same.
 pub fn checkpoint(state: &ReplicaState, out: &mut Vec<u8>) -> Result<(), CheckpointError>
     ensures written { OnOk result (out.new.items ≡ out.old.items ++ state_bytes state.now) }
     ensures kept { OnErr result (out.new.items ≡ out.old.items) }
