@@ -1,0 +1,4 @@
+use Rattle.tk_relay_tests.proofs.relayed_tests.reads_by_way_of_a_server_in_format_2.Given as goal
+
+abbrev pub ghosts-relayed_reads : goal.ghosts-relayed_reads
+ghosts-relayed_reads g a = record { table = a.blank.table; shape = a.blank.shape }
