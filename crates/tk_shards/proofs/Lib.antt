@@ -8,5 +8,7 @@ pub mod Totals
 pub mod Row
 pub mod Dividing
 pub mod Changing
+pub mod Spanning
+pub mod Lending
 pub mod TestBlocks
 pub mod Ranges

@@ -85,7 +85,7 @@ blocks-more (q ∷ qs) r =
     ap (λ ys. q.blocks ++ ys) (blocks-more qs r) ∙ sym (append_assoc q.blocks (blocks_of qs) r.blocks)
 
 -- a run of a range is a run of all blocks
-run-among : (before own after : List (List ℕ)) (i : ℕ) (bytes : List ℕ) → IsRun own i bytes →
+pub run-among : (before own after : List (List ℕ)) (i : ℕ) (bytes : List ℕ) → IsRun own i bytes →
     IsRun (before ++ (own ++ after)) (length before + i) bytes
 run-among before own after i bytes run =
     let here : drop (length before + i) (before ++ (own ++ after)) ≡ drop i own ++ after =

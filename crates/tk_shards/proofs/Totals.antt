@@ -1,5 +1,5 @@
 -- The sums over all ranges, added, are those over the whole list.
-use Rattle.std.proofs.Common.{◌≡◌, ℕ, zero, suc, ◌+◌, ◌*◌, ◌<◌, List, [], ◌∷◌, ◌++◌, length, map, take, drop}
+use Rattle.std.proofs.Common.{◌≡◌, ℕ, zero, suc, ◌+◌, ◌<◌, List, [], ◌∷◌, ◌++◌, length, map}
 use Rattle.std.proofs.Common.{replicate}
 use Rattle.std.proofs.Common.{refl, ap, ap₂, sym, ◌∙◌, subst, arith}
 use Rattle.std.specs.Prelude.{slice_index_or, Vec, Ok, Err, IfOk}
@@ -44,11 +44,7 @@ parts-behind : (vs : List (List ℕ)) (r : Ranged) (rs : List Ranged) (part : Pa
 parts-behind vs r rs part parts h =
     record {
       count = let all = h.count in omega arith;
-      each = λ n d e less.
-          let next : suc n * 1 ≡ suc (n * 1) = omega arith in
-          subst (λ k. IfOk (slice_index_or parts n d)
-          (λ sums. sums.items ≡ map (part_of (slice_index_or (take 1 (drop k (r ∷ rs))) 0 e)) vs))
-          next (h.each (suc n) d e (omega arith));
+      each = λ n d e less. h.each (suc n) d e (omega arith);
     }
 
 are-parts : (vs : List (List ℕ)) (rs : List Ranged) (parts : List Part) → HasParts rs vs parts → AreParts vs rs parts
@@ -57,11 +53,7 @@ are-parts vs [] [] h = tt
 are-parts vs [] (part ∷ parts) h = absurd (let all = h.count in omega arith)
 are-parts vs (r ∷ rs) [] h = absurd (let all = h.count in omega arith)
 are-parts vs (r ∷ rs) (part ∷ parts) h =
-    let none : 0 * 1 ≡ 0 = omega arith in (
-      subst (λ k. IfOk part (λ sums. sums.items ≡ map (part_of (slice_index_or (take 1 (drop k (r ∷ rs))) 0 r)) vs))
-          none (h.each 0 part r (omega arith)),
-      are-parts vs rs parts (parts-behind vs r rs part parts h),
-    )
+    (h.each 0 part r (omega arith), are-parts vs rs parts (parts-behind vs r rs part parts h))
 
 module _ (width : ℕ) where
   length-part : (r : Ranged) (v : List ℕ) → IsOfWidth width r → length (part_of r v) ≡ width

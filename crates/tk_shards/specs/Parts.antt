@@ -1,7 +1,6 @@
 -- Sums that are made range by range.
 use Rattle.std.specs.Prelude.{◌≡◌, ℕ, ◌<◌, List, [], ◌∷◌, length, map, slice_index_or, Vec, Result, Ok, Err, IfOk}
 use Rattle.std.specs.Global.{Global}
-use Rattle.std.specs.Fork.{slice_chunk}
 use Rattle.std.specs.List.{All}
 use Rattle.tk_shape.specs.declared.memory.Memory.{Memory}
 use Rattle.tk_kernel.specs.Xor.{xor_bytes}
@@ -22,7 +21,7 @@ pub record HasParts (rs : List Ranged) (vectors : List (List ℕ)) (parts : List
   pub count : length parts ≡ length rs
   pub each : (n : ℕ) (d : Part) (e : Ranged) → n < length parts →
       IfOk (slice_index_or parts n d)
-      (λ sums. sums.items ≡ map (part_of (slice_index_or (slice_chunk rs 1 n) 0 e)) vectors)
+      (λ sums. sums.items ≡ map (part_of (slice_index_or rs n e)) vectors)
 
 -- the sums of one list added to those of another
 abbrev pub xor_rows : List (List ℕ) → List (List ℕ) → List (List ℕ)

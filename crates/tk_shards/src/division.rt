@@ -1,4 +1,4 @@
-ghost use Rattle.std.specs.Prelude.{◌≡◌, ◌-◌, ◌*◌, ◌/◌, ◌≤◌, length, map, None, IfOk, IfErr, OnOk};
+ghost use Rattle.std.specs.Prelude.{◌≡◌, ◌+◌, ◌-◌, ◌*◌, ◌/◌, ◌≤◌, length, map, None, IfOk, IfErr, OnOk};
 ghost use Rattle.std.specs.List.{range_with_len};
 ghost use Rattle.tk_shards.specs.Division.{first_cut, IsCutRefusal, IsRefusalAt};
 
@@ -84,6 +84,18 @@ impl Division {
         ensures { result ≡ self.now.buckets }
     {
         self.buckets
+    }
+
+    /// How many ranges there are, also empty ones.
+    pub(crate) fn ranges(&self) -> usize
+        ensures { result ≡ length self.now.cuts + 1 }
+    {
+        self.cuts.len() + 1
+    }
+
+    /// Where its cuts lie in memory.
+    pub(crate) fn alloc(&self) -> Global {
+        *self.cuts.allocator()
     }
 
     /// Where each range but the first begins. No cut is below the one before it or above the buckets.

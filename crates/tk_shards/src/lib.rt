@@ -3,17 +3,21 @@
 
 mod copying;
 mod division;
+mod in_ranges;
 mod laws;
+mod lent;
 mod opening;
 mod parts;
 mod place;
 mod shard;
 mod shard_set;
+mod span;
 mod sums;
 #[cfg(test)]
 mod tests;
 
 pub use division::{Division, DivisionError};
+pub use in_ranges::answer_in_ranges;
 pub use laws::ranges_make_the_sum;
 pub use shard_set::ShardSet;
 pub use tk_shape::Memory;

@@ -1,10 +1,10 @@
 //! Sums over blocks that are divided in different ways.
-ghost use Rattle.std.specs.Prelude.{◌≡◌, ◌*◌, ◌<◌, ◌≤◌, [], ◌∷◌, length, IfOk};
+ghost use Rattle.std.specs.Prelude.{◌≡◌, ◌*◌, ◌<◌, [], ◌∷◌, length, IfOk};
 ghost use Rattle.std.specs.List.{All};
 ghost use Rattle.tk_kernel.specs.Pieces.{all_pieces};
 ghost use Rattle.tk_shards.specs.Shards.{AreSameBut};
 
-use crate::{Division, DivisionError, ShardSet, ranges_make_the_sum};
+use crate::{Division, DivisionError, ShardSet, answer_in_ranges, ranges_make_the_sum};
 use std::alloc::Global;
 use std::process::Abort;
 use std::test::Fail;
@@ -124,6 +124,33 @@ fn agrees<R: Threads + Sync>(
     Ok(sums.len() == vectors.len())
 }
 
+/// Whether the ranges of these blocks, which stay where they are, give the sums for each vector, by
+/// different numbers of workers.
+fn agrees_lent<R: Threads + Sync>(
+    rt: &R,
+    blocks: &Many,
+    division: &Division,
+    vectors: &[Bytes],
+) -> Result<bool, Memory>
+    requires bits { All (λ v. length v ≡ 3) vectors.now }
+    requires blocks { division.now.buckets ≡ 24 }
+{
+    for workers in [1, 2, 3, 7, 64] {
+        let sums = answer_in_ranges(rt, blocks, division, vectors, workers)?;
+        for (vector, sum) in vectors.iter().zip(sums.iter()) {
+            let mut want = [0xff; 5];
+            answer(blocks, vector.as_slice(), &mut want);
+            if sum.as_slice() != want.as_slice() {
+                return Ok(false);
+            }
+        }
+        if sums.len() != vectors.len() {
+            return Ok(false);
+        }
+    }
+    Ok(true)
+}
+
 /// The sum of the blocks of one vector, of which all bytes are alike.
 fn sum_of<R: Threads + Sync>(rt: &R, set: &ShardSet, vector: u8) -> Result<[u8; 41], Memory>
     requires width { set.now.width ≡ 41 }
@@ -147,6 +174,41 @@ fn three_ranges_recut_and_updated(rt: HostRuntime) -> Result<(), Fail> {
     assert_eq!(rt; sum_of(&rt, &set, 0xa5)?, [0x0c; 41]);
     set.update(&with_first(&blocks, 0x11), &[0]);
     assert_eq!(rt; sum_of(&rt, &set, 0xa5)?, [0x1c; 41]);
+    Ok(())
+}
+
+#[test]
+fn a_block_a_range_and_more_ranges_than_blocks(rt: HostRuntime) -> Result<(), Fail> {
+    let alloc = rt.alloc();
+    let mut set = ShardSet::open(alloc, &ascending(), Division::even(alloc, 8, 8)?)?;
+    assert_eq!(rt; sum_of(&rt, &set, 0xa5)?, [0x0c; 41]);
+    set.recut(Division::even(alloc, 8, 64)?)?;
+    assert_eq!(rt; sum_of(&rt, &set, 0xa5)?, [0x0c; 41]);
+    set.recut(Division::of(alloc, 8, &[0, 3, 3, 3, 8])?)?;
+    assert_eq!(rt; sum_of(&rt, &set, 0xa5)?, [0x0c; 41]);
+    Ok(())
+}
+
+#[test]
+fn ranges_that_are_lent(rt: HostRuntime) -> Result<(), Fail> {
+    let alloc = rt.alloc();
+    let blocks = varied();
+    let many = vectors(alloc, 30)?;
+    let few = vectors(alloc, 3)?;
+    for shards in [1, 2, 3, 5, 7, 24, 64] {
+        let division = Division::even(alloc, 24, shards)?;
+        assert!(rt;
+            agrees_lent(&rt, &blocks, &division, &many)?,
+            "{shards} ranges"
+        );
+        assert!(rt;
+            agrees_lent(&rt, &blocks, &division, &few)?,
+            "{shards} ranges"
+        );
+    }
+    let division = Division::of(alloc, 24, &[0, 0, 3, 3, 4, 5, 13, 24, 24])?;
+    assert!(rt; agrees_lent(&rt, &blocks, &division, &many)?);
+    assert!(rt; answer_in_ranges(&rt, &blocks, &division, &[], 3)?.is_empty());
     Ok(())
 }
 
