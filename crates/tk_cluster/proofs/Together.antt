@@ -8,7 +8,8 @@ use Rattle.std.specs.Option.{option_or}
 use Rattle.std.specs.List.{All}
 use Rattle.std.proofs.lemmas.List.{map-append}
 use Rattle.tk_shape.specs.declared.shape.Shape.{Shape}
-use Rattle.tk_shape.specs.Lengths.{vector_len}
+use Rattle.tk_shape.specs.Lengths.{vector_len, width}
+use Rattle.tk_kernel.specs.Chosen.{chosen_sum}
 use Rattle.tk_frames.specs.declared.entry.Placed.{Placed}
 use Rattle.tk_frames.specs.declared.fault.FrameError.{FrameError}
 use Rattle.tk_frames.specs.declared.fault.FrameError.TheVariants.{Length, Kind, Version, Field}
@@ -18,19 +19,19 @@ use Rattle.tk_frames.specs.Faults.{first_fault, read_checks, IsRefusal}
 use Rattle.tk_frames.specs.Fields.{read_in}
 use Rattle.tk_frames.proofs.Offers.{read-again}
 use Rattle.tk_frames.specs.Lists.{first_some}
+use Rattle.tk_frames.specs.Order.{before}
+use Rattle.tk_table.specs.Table.{layout, blocks_of}
 use Rattle.tk_replica.specs.declared.asker.Asker.{Asker}
-use Rattle.tk_replica.specs.declared.epoch.Epoch.{Epoch}
-use Rattle.tk_replica.specs.Epochs.{IsEpochOf}
-use Rattle.tk_replica.specs.Replies.{sum_over, frame_over, reply_bytes}
+use Rattle.tk_replica.specs.Replies.{reply_bytes}
 use Rattle.tk_replica.specs.Replies.{asker_of, both_vectors, frames_with}
-use Rattle.tk_replica.proofs.Offers.{both-push, frames-over, two-for-each}
+use Rattle.tk_replica.proofs.Offers.{both-push}
 use Rattle.tk_cluster.specs.declared.error.AnswerError.{AnswerError}
 use Rattle.tk_cluster.specs.declared.error.AnswerError.TheVariants.{Epoch as OtherEpoch}
 use Rattle.tk_cluster.specs.declared.set.EpochSet.{EpochSet}
 use Rattle.tk_cluster.specs.Refusals.{answer_error, refusal_behind, answer_refusal, first_unanswered}
 use Rattle.tk_cluster.specs.Refusals.{other_epoch, SpellsRead, IsManyRefusal, IsAnswerRefusal, IsAsked}
 use Rattle.tk_cluster.specs.Many.{Names, AreNamed, AreReads}
-use Rattle.tk_cluster.proofs.Replying.{reply-over}
+use Rattle.tk_cluster.proofs.Replying.{reply-blocks}
 
 -- ---- what is refused
 
@@ -193,33 +194,38 @@ reads-asked set fs askers vectors are = asked-each set fs are.reads are.spelled
 
 -- ---- what is replied
 
-frames-due : (shape : Shape) (E : List Placed) (e : ℕ) (epoch : Epoch) (fs : List (List ℕ))
-    (rs : List ReadFrame) → IsEpochOf shape E e epoch → AreNamed shape e fs rs →
-    map (frame_over epoch) rs ≡ map (reply_bytes shape E) fs
-frames-due shape E e epoch [] [] is named = refl
-frames-due shape E e epoch (f ∷ fs) (r ∷ rs) is named =
-    ap₂ (λ (x : List ℕ) (xs : List (List ℕ)). x ∷ xs)
-    (reply-over shape E e epoch f r is named.0.named named.0.spells)
-    (frames-due shape E e epoch fs rs is named.1)
-frames-due shape E e epoch (f ∷ fs) [] is named = absurd named
-frames-due shape E e epoch [] (r ∷ rs) is named = absurd named
+-- two sums for each asker
+two-each : (f : List ℕ → List ℕ) (rs : List ReadFrame) →
+    length (map f (both_vectors rs)) ≡ 2 * length (map asker_of rs)
+two-each f [] = refl
+two-each f (r ∷ rs) = omega (arith, two-each f rs)
 
--- there are two sums for each asker
-pub two-sums : (shape : Shape) (number : ℕ) (epoch : Epoch) (fs : List (List ℕ)) (askers : List Asker)
-    (vectors sums : List (List ℕ)) → AreReads shape number fs askers vectors →
-    sums ≡ map (sum_over epoch) vectors → length sums ≡ 2 * length askers
-two-sums shape number epoch fs askers vectors sums are summed =
-    ap length (summed ∙ ap (map (sum_over epoch)) are.vectors_are)
-    ∙ two-for-each epoch are.reads
+pub two-sums : (shape : Shape) (number : ℕ) (f : List ℕ → List ℕ) (fs : List (List ℕ))
+    (askers : List Asker) (vectors sums : List (List ℕ)) → AreReads shape number fs askers vectors →
+    sums ≡ map f vectors → length sums ≡ 2 * length askers
+two-sums shape number f fs askers vectors sums are summed =
+    ap length (summed ∙ ap (map f) are.vectors_are)
+    ∙ two-each f are.reads
     ∙ ap (λ (left : List Asker). 2 * length left) (sym are.askers_are)
 
--- the frames made of all sums are the replies to the frames
-pub replies-due : (shape : Shape) (E : List Placed) (e : ℕ) (epoch : Epoch)
-    (fs : List (List ℕ)) (askers : List Asker) (vectors sums : List (List ℕ)) →
-    IsEpochOf shape E e epoch → AreReads shape e fs askers vectors →
-    sums ≡ map (sum_over epoch) vectors →
-    frames_with askers sums ≡ map (reply_bytes shape E) fs
-replies-due shape E e epoch fs askers vectors sums is are summed =
-    ap₂ (λ (left : List Asker) (xs : List (List ℕ)). frames_with left xs) are.askers_are
-    (summed ∙ ap (map (sum_over epoch)) are.vectors_are)
-    ∙ frames-over epoch are.reads ∙ frames-due shape E e epoch fs are.reads is are.spelled
+module _ (shape : Shape) (E : List Placed) (e n : ℕ) (bs : List (List ℕ)) (wide : n ≡ width shape)
+    (laid : bs ≡ blocks_of (layout shape (before E e))) where
+  frames-due : (fs : List (List ℕ)) (rs : List ReadFrame) → AreNamed shape e fs rs →
+      frames_with (map asker_of rs) (map (chosen_sum n bs) (both_vectors rs))
+      ≡ map (reply_bytes shape E) fs
+  frames-due [] [] named = refl
+  frames-due (f ∷ fs) (r ∷ rs) named =
+      ap₂ (λ (x : List ℕ) (xs : List (List ℕ)). x ∷ xs)
+      (reply-blocks shape E e n bs f r wide laid named.0.named named.0.spells)
+      (frames-due fs rs named.1)
+  frames-due (f ∷ fs) [] named = absurd named
+  frames-due [] (r ∷ rs) named = absurd named
+
+  -- the frames made of all sums are the replies to the frames
+  pub replies-due : (fs : List (List ℕ)) (askers : List Asker) (vectors sums : List (List ℕ)) →
+      AreReads shape e fs askers vectors → sums ≡ map (chosen_sum n bs) vectors →
+      frames_with askers sums ≡ map (reply_bytes shape E) fs
+  replies-due fs askers vectors sums are summed =
+      ap₂ (λ (left : List Asker) (xs : List (List ℕ)). frames_with left xs) are.askers_are
+      (summed ∙ ap (map (chosen_sum n bs)) are.vectors_are)
+      ∙ frames-due fs are.reads are.spelled

@@ -43,8 +43,10 @@ impl EpochSet {
         Ok(replies(alloc, askers.as_slice(), sums)?)
     }
 
-    /// Who asks by these frames, and the vectors, two for each, if all name this epoch.
-    fn reads(
+    /// Who asks by these frames, and the vectors, two for each, if all name this epoch. With the sums
+    /// over the blocks of a server `replies` of `tk_replica` makes the replies. The first bad frame
+    /// decides.
+    pub fn reads(
         &self,
         alloc: Global,
         frames: &[Bytes],
