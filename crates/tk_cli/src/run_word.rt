@@ -75,7 +75,7 @@ fn threads_by<R: Threads + Wait + Sync + AllocGlobal, T: Taps, G: Gate>(
 {
     let workers = crew.workers;
     match book {
-        Book::Keyed(draws) => threads(crew.rt, script, draws, taps, crew.gate, workers),
-        Book::Drawn(draws) => threads(crew.rt, script, draws, taps, crew.gate, workers),
+        Book::Keyed(draws) => threads(crew.rt, script, draws, taps, crew.gate, workers, 1),
+        Book::Drawn(draws) => threads(crew.rt, script, draws, taps, crew.gate, workers, 1),
     }
 }

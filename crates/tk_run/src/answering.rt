@@ -1,5 +1,5 @@
 //! The reads of a turn of threads, as the servers answer them.
-ghost use Rattle.std.specs.Prelude.{◌≡◌, ◌≤◌, ◌<◌, List, All, IfOk, OnOk, length};
+ghost use Rattle.std.specs.Prelude.{◌≡◌, ◌<◌, List, All, IfOk, OnOk, length};
 ghost use Rattle.std.specs.Thread.{IsSync};
 ghost use Rattle.tk_shape.specs.declared.shape.Shape.{Shape};
 ghost use Rattle.tk_frames.specs.declared.entry.Placed.{Placed};
@@ -7,6 +7,7 @@ ghost use Rattle.tk_run.specs.Reading.{EachAt};
 ghost use Rattle.tk_run.specs.Answering.{MayAnswer, IsAnswered, AllStand, AreGiven};
 ghost use Rattle.tk_run.specs.Answering.{AreReplies, AllReply};
 
+use crate::crew::Crew;
 use crate::replying::replies_of;
 use crate::sharing::side_by_side;
 use crate::talking::Reading;
@@ -23,26 +24,24 @@ pub(crate) fn answer_all<R: Threads + Sync + AllocGlobal>(
     rt: &R,
     servers: u32,
     readings: &mut [Reading],
-    workers: u32,
+    crew: Crew,
 ) -> Result<(), Memory>
-    requires workers { (1 ≤ workers) × (workers ≤ 64) }
     requires asked { (shape : Shape) × (servers ≡ shape.servers)
         × All (MayAnswer shape) readings.old }
     requires stand { (shape : Shape) × (E : List Placed) × AllStand readings.old shape E }
     ensures { OnOk result (EachAt (IsAnswered (AllStand readings.old)) readings.old readings.new) }
 {
-    let answers = answers_from(rt, servers, readings, workers)?;
+    let answers = answers_from(rt, servers, readings, crew)?;
     give_all(readings, answers)
 }
 
-/// What so many servers reply, several of them at once, which share the workers.
+/// What so many servers reply, several of them at once, which share the crew.
 fn answers_from<R: Threads + Sync + AllocGlobal>(
     rt: &R,
     servers: u32,
     readings: &[Reading],
-    workers: u32,
+    crew: Crew,
 ) -> Result<Vec<Replies>, Memory>
-    requires workers { (1 ≤ workers) × (workers ≤ 64) }
     requires asked { (shape : Shape) × (servers ≡ shape.servers)
         × All (MayAnswer shape) readings.now }
     ensures counted { IfOk result (λ v. length v.items ≡ servers) }
@@ -50,11 +49,11 @@ fn answers_from<R: Threads + Sync + AllocGlobal>(
 {
     let mut answers = unanswered(rt.alloc(), servers)?;
     let vectors = 2 * readings.len() as u64;
-    let sides = side_by_side(servers, vectors, workers);
-    let each = workers / sides;
+    let sides = side_by_side(servers, vectors, crew);
+    let each = crew.part(sides);
     let work = |server: usize, replies: &mut Replies|
-        requires { IsSync R.row × (1 ≤ each) × (each ≤ 64)
-            × ((shape : Shape) × (server < shape.servers) × All (MayAnswer shape) readings.now) }
+        requires { IsSync R.row × ((shape : Shape) × (server < shape.servers)
+            × All (MayAnswer shape) readings.now) }
         ensures { AreReplies server readings.entry.now replies.exit.now }
     { *replies = replies_of(rt, server, readings, each) };
     thread::for_each_mut(rt, answers.as_mut_slice(), sides as usize, &work);

@@ -55,7 +55,7 @@ pub(crate) fn ask_all<'a, D: Draws, R: Threads + Sync>(
         ensures { reading.exit.now.done ≡ true
             → HasAsked (D.book draws.entry.now) reading.entry.now reading.exit.now }
     { ask_on(draws, reading) };
-    thread::for_each_mut(rt, readings, round.workers as usize, &work);
+    thread::for_each_mut(rt, readings, round.crew.workers as usize, &work);
     if !all_done(readings) {
         return Err(Memory);
     }

@@ -12,6 +12,7 @@ ghost use Rattle.tk_report.specs.Entries.{write_at};
 
 use crate::acting::{Cue, Desk, Herald, act};
 use crate::arranging::turn_from;
+use crate::crew::Crew;
 use crate::desks::{cleared, desks_for};
 use crate::pinned_write::PinnedWrite;
 use crate::run_error::RunError;
@@ -37,10 +38,9 @@ pub(crate) struct Stage<'a, B: Naming, D: Draws, G: Gate> {
     pub draws: &'a D,
     pub gate: &'a G,
     pub cluster: &'a Cluster<B>,
-    pub workers: u32,
+    pub crew: Crew,
     pub ghost same: { B.shape ≡ script.now.shape },
     pub ghost one_shape: { D.shape draws.now ≡ script.now.shape },
-    pub ghost workers_in: { (1 ≤ workers) × (workers ≤ 64) },
 }
 
 /// A run of threads between two turns: how the turns so far came about, and the clients, their
@@ -149,7 +149,7 @@ fn play_turn<
         turn,
         draws: stage.draws,
         servers,
-        workers: stage.workers,
+        crew: stage.crew,
     };
     let talks = talk_all(rt, &round, &mut course.group.clients, slips)?;
     sights_from(
@@ -157,7 +157,7 @@ fn play_turn<
         servers,
         entries.as_slice(),
         talks.as_slice(),
-        stage.workers,
+        stage.crew.workers,
     )
 }
 

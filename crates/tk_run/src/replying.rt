@@ -11,26 +11,27 @@ ghost use Rattle.tk_run.specs.declared.talking.Reading.{Reading as ReadingOf};
 ghost use Rattle.tk_run.specs.Answering.{MayAnswer, MayReply, AllStand, AreReplies};
 ghost use Rattle.tk_run.specs.Answering.{frame_of, epoch_of};
 
+use crate::crew::Crew;
+use crate::ranging::batch_in_ranges;
 use crate::talking::Reading;
 use std::alloc::{AllocGlobal, Global};
 use std::thread::Threads;
 use tk_cluster::{AnswerError, EpochSet};
 use tk_shape::{Bytes, Memory};
 
-/// What the server at a place replies to the reads of all clients, by so many workers.
+/// What the server at a place replies to the reads of all clients.
 pub(crate) fn replies_of<R: Threads + Sync + AllocGlobal>(
     rt: &R,
     server: usize,
     readings: &[Reading],
-    workers: u32,
+    crew: Crew,
 ) -> Result<Vec<Bytes>, Memory>
-    requires workers { (1 ≤ workers) × (workers ≤ 64) }
     requires asked { (shape : Shape) × (server < shape.servers)
         × All (MayAnswer shape) readings.now }
     ensures { AreReplies server readings.now result }
 {
     let frames = frames_for(rt.alloc(), server, readings)?;
-    replies_from(rt, server as u32 + 1, readings, frames.as_slice(), workers)
+    replies_from(rt, server as u32 + 1, readings, frames.as_slice(), crew)
 }
 
 /// What all clients ask of the server at a place.
@@ -52,9 +53,8 @@ fn replies_from<R: Threads + Sync + AllocGlobal>(
     server: u32,
     readings: &[Reading],
     frames: &[Bytes],
-    workers: u32,
+    crew: Crew,
 ) -> Result<Vec<Bytes>, Memory>
-    requires workers { (1 ≤ workers) × (workers ≤ 64) }
     requires asked { (shape : Shape) × MayReply shape server readings.now frames.now }
     ensures { (shape : Shape) (E : List Placed) → AllStand readings.now shape E
         → IfOk result (λ replies. replies.items ≡ map (reply_bytes shape E) frames.now) }
@@ -65,7 +65,7 @@ fn replies_from<R: Threads + Sync + AllocGlobal>(
     'rows: while !clients.is_empty() {
         let (row, behind) = asked.split_at(in_a_row(clients));
         let set = clients[0].talk.set.as_ref();
-        let mut more = batch(rt, set, server, row, workers)?;
+        let mut more = batch(rt, set, server, row, crew)?;
         let (_answered, others) = clients.split_at(row.len());
         replies.append(&mut more)?;
         clients = others;
@@ -90,28 +90,31 @@ fn in_a_row(readings: &[Reading]) -> usize
     count
 }
 
-/// What a server replies to reads of a set's epoch.
-fn batch<R: Threads + Sync>(
+/// What a server replies to reads of a set's epoch. Where its blocks aren't divided the workers share
+/// the reads.
+fn batch<R: Threads + Sync + AllocGlobal>(
     rt: &R,
     set: &EpochSet,
     server: u32,
     frames: &[Bytes],
-    workers: u32,
+    crew: Crew,
 ) -> Result<Vec<Bytes>, Memory>
     requires server { (1 ≤ server) × (server ≤ set.now.shape.servers) }
-    requires workers { (1 ≤ workers) × (workers ≤ 64) }
     requires asked { All (IsAsked set.now) frames.now }
     ensures { (shape : Shape) (E : List Placed) → Stands shape E set.now.number set.now
         → IfOk result (λ replies. replies.items ≡ map (reply_bytes shape E) frames.now) }
 {
-    match set.answer_many(rt, server, frames, workers) {
+    if crew.shards > 1 {
+        return batch_in_ranges(rt, set, server, frames, crew);
+    }
+    match set.answer_many(rt, server, frames, crew.workers) {
         Ok(replies) => Ok(replies),
         Err(error) => Err(wanting(error)),
     }
 }
 
 /// The one error that is left where what is asked of a set are reads of its epoch.
-fn wanting(error: AnswerError) -> Memory
+pub(crate) fn wanting(error: AnswerError) -> Memory
     requires { error ≡ errors.Memory }
 {
     let _error = error;

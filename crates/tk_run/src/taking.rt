@@ -53,7 +53,7 @@ pub(crate) fn take_all<'a, D: Draws, R: Threads + Sync>(
         ensures { reading.exit.now.done ≡ true
             → HasTaken (D.book draws.entry.now) reading.entry.now reading.exit.now }
     { take_on(draws, reading) };
-    thread::for_each_mut(rt, readings, round.workers.max(2) as usize, &work);
+    thread::for_each_mut(rt, readings, round.crew.workers.max(2) as usize, &work);
     if !all_done(readings) {
         return Err(Memory);
     }

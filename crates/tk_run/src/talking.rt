@@ -1,4 +1,4 @@
-ghost use Rattle.std.specs.Prelude.{◌≡◌, ◌≤◌, ◌+◌, true, All, length, IfOk, OnOk};
+ghost use Rattle.std.specs.Prelude.{◌≡◌, ◌+◌, true, All, length, IfOk, OnOk};
 ghost use Rattle.std.specs.Prelude.{IsPermutation};
 ghost use Rattle.std.specs.List.Sorted.{IsNonDecreasingBy};
 ghost use Rattle.tk_schedule.specs.declared.history.History.{History};
@@ -11,6 +11,7 @@ ghost use Rattle.tk_run.specs.Answering.{epoch_of};
 
 use crate::answering::answer_all;
 use crate::ask_threads::ask_all;
+use crate::crew::Crew;
 use crate::pinned_write::PinnedWrite;
 use crate::taking::take_all;
 use std::alloc::{AllocGlobal, Global};
@@ -23,15 +24,14 @@ use tk_shape::{Bytes, Memory};
 use tk_words::Draws;
 
 /// What is the same for all reads of a turn: which turn it is, the words, how many servers answer,
-/// and how many workers all of them share.
+/// and the crew that all of them share.
 #[derive(Drop)]
 pub(crate) struct Round<'a, D: Draws> {
     pub turn: u32,
     pub draws: &'a D,
     pub servers: u32,
-    pub workers: u32,
+    pub crew: Crew,
     pub ghost servers_are: { servers ≡ (D.shape draws.now).servers },
-    pub ghost workers_in: { (1 ≤ workers) × (workers ≤ 64) },
 }
 
 /// A read in a turn: the set that answers it, and for each server what it is asked and what it
@@ -76,7 +76,7 @@ pub(crate) fn talk_all<'a, D: Draws, R: Threads + Sync + AllocGlobal>(
     let all = readings.as_mut_slice();
     ask_all(rt, round, all)?;
     by_epoch(all);
-    answer_all(rt, round.servers, all, round.workers)?;
+    answer_all(rt, round.servers, all, round.crew)?;
     take_all(rt, round, all)?;
     by_client(all);
     let (read, talks) = parted(alloc, readings)?;

@@ -4,6 +4,7 @@ ghost use Rattle.tk_run.specs.Threads.{CameAbout};
 
 use crate::acting::Herald;
 use crate::course::{Course, Stage, run_turns};
+use crate::crew::Crew;
 use crate::leaving::outcome_of;
 use crate::run_error::RunError;
 use std::alloc::AllocGlobal;
@@ -21,7 +22,8 @@ use tk_words::Draws;
 /// What a run of a script leaves in which the clients and the publisher act at once, and what its
 /// cluster had. However they interleave, each server's tap gains what the server sees of the
 /// history that comes about. Several servers answer at once, each the reads of an epoch in one
-/// batch, and all share so many workers.
+/// batch, and all share so many workers. With several shards each server's blocks are divided into
+/// so many ranges, which its workers share; else they share the reads.
 pub fn threads<D: Draws, T: Taps, G: Gate, R: Threads + Wait + Sync + AllocGlobal>(
     rt: &R,
     script: &Script,
@@ -29,9 +31,11 @@ pub fn threads<D: Draws, T: Taps, G: Gate, R: Threads + Wait + Sync + AllocGloba
     taps: &mut T,
     gate: &G,
     workers: u32,
+    shards: u32,
 ) -> Result<(Outcome, Closed), RunError>
     requires one_shape { D.shape draws.now ≡ script.now.shape }
     requires workers { (1 ≤ workers) × (workers ≤ 64) }
+    requires shards { (1 ≤ shards) × (shards ≤ 64) }
     ensures run { CameAbout script.now (D.book draws.now) result
         (T.tap taps.old) (T.tap taps.new) }
     ensures rose { IfErr result (λ e. e ≡ RunError.Taps
@@ -43,7 +47,7 @@ pub fn threads<D: Draws, T: Taps, G: Gate, R: Threads + Wait + Sync + AllocGloba
         script,
         draws,
         gate,
-        workers,
+        crew: Crew { workers, shards },
     };
     run_over::<Brand, D, T, G, R>(rt, &scene, blank, taps)
 }
@@ -54,9 +58,8 @@ struct Scene<'a, D: Draws, G: Gate> {
     script: &'a Script,
     draws: &'a D,
     gate: &'a G,
-    workers: u32,
+    crew: Crew,
     ghost one_shape: { D.shape draws.now ≡ script.now.shape },
-    ghost workers_in: { (1 ≤ workers) × (workers ≤ 64) },
 }
 
 /// A run over the cluster of a blank.
@@ -99,7 +102,7 @@ fn run_over<
         draws: scene.draws,
         gate: scene.gate,
         cluster: &cluster,
-        workers: scene.workers,
+        crew: scene.crew,
     };
     let ran = run_turns(rt, &stage, &mut course, taps);
     let Course {

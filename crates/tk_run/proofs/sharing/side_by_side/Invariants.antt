@@ -3,4 +3,4 @@ use Rattle.std.proofs.Common.{◌≤◌}
 use Rattle.tk_run.proofs.sharing.side_by_side.Given as goal
 
 abbrev pub invariant-sides : goal.invariant-sides
-invariant-sides l = (1 ≤ l.best) × (l.best ≤ l.workers)
+invariant-sides l = (1 ≤ l.best) × (l.best ≤ l.crew.workers)
