@@ -1,4 +1,4 @@
-//! A server's blocks in ranges, each with its own bytes and its own worker.
+//! A server's blocks in ranges, with bytes of their own or where they lie, each with its own worker.
 #![tactic(auto)]
 
 mod copying;
