@@ -172,6 +172,47 @@ module _ (shape : Shape) (blocks : List (List ℕ)) (pads : PadLists) (frames : 
         second = (joined (second i) (all-served i)).second;
       }
 
+  -- it is of the read of the frames, and has the size of sums
+  pub gathered-client : (gathered_part (all_served shape blocks pads frames)).client
+      ≡ (frame_of frames 1).client
+  unfolding gathered_part served
+  gathered-client = ap (λ (p : Part). p.client) first-served
+
+  pub gathered-turn : (gathered_part (all_served shape blocks pads frames)).turn
+      ≡ (frame_of frames 1).turn
+  unfolding gathered_part served
+  gathered-turn = ap (λ (p : Part). p.turn) first-served
+
+  pub gathered-epoch : (gathered_part (all_served shape blocks pads frames)).epoch
+      ≡ (frame_of frames 1).epoch
+  unfolding gathered_part served
+  gathered-epoch = ap (λ (p : Part). p.epoch) first-served
+
+  served-sized : (j : ℕ) → j ≤ shape.servers →
+      HasHalves (width shape) (masked pads.replies j (sums j))
+  unfolding sums
+  served-sized j high =
+      masked-sized shape (width shape) pads.replies are.replies_counted are.replies_sized j (sums j)
+      high (sums-sized shape blocks (vectors_of (frame_of frames j)) whole.sized)
+
+  pub gathered-sized : HasHalves (width shape)
+      (halves_of (gathered_part (all_served shape blocks pads frames)))
+  unfolding js
+  gathered-sized =
+      subst (HasHalves (width shape)) (sym gathered-halves)
+      (joined-sized (width shape) (map (λ j. masked pads.replies j (sums j)) js)
+      (each-made (HasHalves (width shape)) (λ j. masked pads.replies j (sums j)) 1 shape.servers
+      (λ j low high. served-sized j (omega (arith, high)))))
+
+  -- and so has each reply of a server
+  pub all-sized : AllByRecursion (λ (p : Part). HasHalves (width shape) (halves_of p))
+      (all_served shape blocks pads frames)
+  unfolding served
+  all-sized =
+      each-made (λ (p : Part). HasHalves (width shape) (halves_of p)) served 1 shape.servers
+      (λ j low high. subst (HasHalves (width shape)) (sym (served-halves j low high))
+      (served-sized j (omega (arith, high))))
+
   replies-join : joined (width shape) (map sums_in (replies_from shape pads
       (gathered_part (all_served shape blocks pads frames))))
       ≡ joined (width shape) (map sums js)
@@ -212,7 +253,7 @@ replies_join shape blocks pads frames whole are one =
 -- ---- the blocks of a run
 
 -- what writes leave: a block for each bucket, each of a bucket's width
-blocks-whole : (shape : Shape) (R : List Record) → AreOrdered shape R →
+pub blocks-whole : (shape : Shape) (R : List Record) → AreOrdered shape R →
     AllByRecursion (IsStorable shape) R → AreBlocks shape (blocks_of (layout shape R))
 blocks-whole shape R ordered storable =
     let blocks = blocks_of (layout shape R) in

@@ -11,3 +11,15 @@ pub mod Joins
 pub mod GatheringLaws
 pub mod UnmaskLaws
 pub mod Bundling
+pub mod AskedTurns
+pub mod TakenTurns
+pub mod RelayedReads
+pub mod SeenTurns
+pub mod ReplicaLaws
+pub mod Fronts
+pub mod Results
+pub mod Sent
+pub mod Parting
+pub mod Gathered
+pub mod AnsweredReads
+pub mod Places

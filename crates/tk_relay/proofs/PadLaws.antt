@@ -1,6 +1,6 @@
 -- Pads in bytes: of which sizes they are, where each stands, and those of a seed.
 use Rattle.std.proofs.Common.{◌≡◌, ℕ, zero, suc, ◌+◌, ◌-◌, ◌*◌, ◌≤◌, List, [], ◌∷◌, ◌++◌, length, map, take, drop}
-use Rattle.std.proofs.Common.{flat_map, refl, ap, ap₂, sym, ◌∙◌, arith, append_assoc, append-nil}
+use Rattle.std.proofs.Common.{flat_map, refl, ap, ap₂, sym, subst, ◌∙◌, arith, append_assoc, append-nil}
 use Rattle.std.specs.List.{range_with_len, AllByRecursion}
 use Rattle.std.proofs.Math.Nat.{mul-le-mul_right}
 use Rattle.std.proofs.lemmas.List.Elements.{All-from_recursion}
@@ -145,6 +145,10 @@ module _ (shape : Shape) (seed : List ℕ) (turn : ℕ) where
       }
 
   -- what all servers' pads are one after the other
+  -- they are pads of the shape
+  pub keyed-are : ArePads shape (keyed_pads shape seed turn)
+  keyed-are = subst (ArePads shape) keyed-in (pads-are shape keyed_bytes length-keyed_bytes)
+
   pub keyed-joined : (server : ℕ) (requests replies all : List ℕ) → server ≡ shape.servers + 1 →
       requests ≡ flat_map (request_bytes shape seed turn) (range_with_len 2 (server - 2)) →
       replies ≡ flat_map (reply_bytes shape seed turn) (range_with_len 2 (server - 2)) →

@@ -7,3 +7,7 @@ pub mod Refusals
 pub mod Replies
 pub mod Sights
 pub mod Laws
+pub mod Relayed
+pub mod Reads
+pub mod Replicas
+pub mod Running

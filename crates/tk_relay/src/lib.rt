@@ -2,6 +2,7 @@
 //! the others and joins what they reply, and learns no more of the read by it.
 #![tactic(auto)]
 
+mod answering;
 mod appending;
 mod bundles;
 mod gather_error;
@@ -10,13 +11,23 @@ mod halves;
 mod keyed;
 mod kind;
 mod laws;
+mod leaving;
 mod pads;
 mod part;
 mod part_error;
 mod part_frames;
+mod receiving;
+mod relay_run_error;
+mod relayed_read;
+mod relaying;
+mod replicas;
 mod replies;
+mod run;
+mod seeing;
+mod sending;
 mod serving;
 mod splitting;
+mod turns;
 
 pub use bundles::bundle;
 pub use gather_error::GatherError;
@@ -26,6 +37,8 @@ pub use pads::{PadError, Pads};
 pub use part::Part;
 pub use part_error::PartError;
 pub use part_frames::{decode_masked_reply, decode_part, encode_masked_reply, encode_part};
+pub use relay_run_error::RelayRunError;
+pub use relaying::relayed;
 pub use replies::replies_for;
 pub use serving::serve_part;
 pub use splitting::split;

@@ -1,0 +1,88 @@
+ghost use Rattle.std.specs.Prelude.{◌≡◌, ◌≤◌, ◌++◌, ◌∷◌, [], cond, List, IfOk, OnOk};
+ghost use Rattle.tk_shape.specs.declared.shape.Shape.{Shape};
+ghost use Rattle.tk_frames.specs.declared.entry.Placed.{Placed};
+ghost use Rattle.tk_frames.specs.InOrder.{IsNext};
+ghost use Rattle.tk_frames.specs.Order.{is_mark};
+ghost use Rattle.tk_replica.specs.Replica.{StandsFor};
+ghost use Rattle.tk_relay.specs.Replicas.{IsReplicaOf, AreReplicas, MayApply, MayApplyAll};
+ghost use Rattle.tk_relay.specs.Replicas.{HaveTaken};
+
+use std::alloc::Global;
+use tk_frames::{Entry, Placed, encode_placed};
+use tk_replica::ReplicaState;
+use tk_report::Takes;
+use tk_shape::{Memory, Shape};
+
+/// The servers of a run, server 1 first, and the frames of the entries of a turn, which all of them see.
+#[derive(Drop)]
+pub(crate) struct Replicas {
+    pub list: Vec<ReplicaState>,
+    pub seen: Vec<u8>,
+}
+
+/// The servers of a shape, before any entry.
+pub(crate) fn open_replicas(alloc: Global, shape: &Shape) -> Result<Replicas, Memory>
+    ensures are { IfOk result (λ r. AreReplicas shape.now [] r.list.items) }
+    ensures seen { IfOk result (λ r. r.seen.items ≡ []) }
+{
+    let mut list = Vec::new(alloc);
+    for _ in 0..shape.servers {
+        list.push(ReplicaState::open(alloc, shape)?)?;
+    }
+    Ok(Replicas {
+        list,
+        seen: Vec::new(alloc),
+    })
+}
+
+/// Each replica applies an entry.
+fn apply_all(alloc: Global, list: &mut [ReplicaState], placed: &Placed) -> Result<(), Memory>
+    requires { MayApplyAll placed.now list.old }
+    ensures { (shape : Shape) (E : List Placed)
+        → AreReplicas shape E list.old → IsNext shape E placed.now
+        → OnOk result (AreReplicas shape (E ++ placed.now ∷ []) list.new) }
+{
+    for replica in list.iter_mut() {
+        apply(alloc, replica, placed)?;
+    }
+    Ok(())
+}
+
+/// A replica applies an entry. Before a mark all epochs but the last are let go, so that there are never more than two.
+fn apply(alloc: Global, replica: &mut ReplicaState, placed: &Placed) -> Result<(), Memory>
+    requires { MayApply placed.now replica.old }
+    ensures { (shape : Shape) (E : List Placed)
+        → IsReplicaOf shape E replica.old → IsNext shape E placed.now
+        → OnOk result (IsReplicaOf shape (E ++ placed.now ∷ []) replica.new) }
+{
+    make_room(replica, &placed.entry);
+    replica.apply(alloc, placed)
+}
+
+/// Where a mark comes, lets all epochs but the last go.
+fn make_room(replica: &mut ReplicaState, entry: &Entry)
+    requires { replica.old.floor ≤ replica.old.last }
+    ensures stands { (shape : Shape) (E : List Placed)
+        → StandsFor shape E replica.old → StandsFor shape E replica.new }
+    ensures floor { replica.new.floor
+        ≡ cond (is_mark entry.now) replica.old.last replica.old.floor }
+{
+    if let Entry::Mark(_) = entry {
+        replica.release(replica.last());
+    }
+}
+
+impl Takes for Replicas {
+    ghost took = { λ was shape E F is. HaveTaken shape E F is };
+
+    fn taken(&self) -> u64 {
+        self.list[0].applied()
+    }
+
+    fn take(&mut self, alloc: Global, placed: &Placed) -> Result<(), Memory> {
+        encode_placed(placed, &mut self.seen)?;
+        apply_all(alloc, self.list.as_mut_slice(), placed)
+    }
+
+    ghost in_order = { λ was shape E F is have. have.order };
+}
