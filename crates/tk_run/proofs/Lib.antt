@@ -17,6 +17,7 @@ pub mod AnswerLaws
 pub mod AskingLaws
 pub mod Changes
 pub mod TakingLaws
+pub mod ResumingLaws
 pub mod PlacingLaws
 pub mod ServerLaws
 pub mod EntryLists

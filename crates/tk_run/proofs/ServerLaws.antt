@@ -1,5 +1,5 @@
 -- A server that takes an entry, and one that answers reads.
-use Rattle.std.proofs.Common.{◌≡◌, refl, ap, ap₂, sym, ◌∙◌, arith, ℕ, zero, suc, ◌+◌, ◌-◌, ◌<◌, List, [], ◌∷◌, ◌++◌}
+use Rattle.std.proofs.Common.{◌≡◌, refl, ap, ap₂, sym, ◌∙◌, arith, ℕ, zero, suc, ◌+◌, ◌-◌, ◌<◌, ◌≤◌, List, [], ◌∷◌, ◌++◌}
 use Rattle.std.proofs.Common.{length, map, take, flat_map, append_assoc, append-nil, add-one, cond, true, false}
 use Rattle.std.specs.Prelude.{slice_index_or}
 use Rattle.std.specs.List.{AllByRecursion}
@@ -19,12 +19,12 @@ use Rattle.tk_run.specs.Servers.{AreReads, answered}
 
 -- ---- an entry
 
--- where all epochs but the last are let go before a mark, the epoch before the last is the first
-pub floor-next : (E : List Placed) (p : Placed) (floor last : ℕ) → floor ≡ mark_count E - 1 →
-    last ≡ mark_count E → cond (is_mark p.entry) last floor ≡ mark_count (E ++ p ∷ []) - 1
+-- where all epochs but the last are let go before a mark, none is kept before the last two
+pub floor-next : (E : List Placed) (p : Placed) (floor last : ℕ) → mark_count E - 1 ≤ floor →
+    last ≡ mark_count E → mark_count (E ++ p ∷ []) - 1 ≤ cond (is_mark p.entry) last floor
 floor-next E p floor last low at =
     elim (is_mark p.entry) as (λ b. mark_count (E ++ p ∷ []) ≡ mark_count E + cond b 1 0 →
-    cond b last floor ≡ mark_count (E ++ p ∷ []) - 1) [
+    mark_count (E ++ p ∷ []) - 1 ≤ cond b last floor) [
       | true ↦ λ counted. omega (arith, at, counted)
       | false ↦ λ counted. omega (arith, low, counted)
     ] (marks-push E p)

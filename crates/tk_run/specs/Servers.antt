@@ -1,5 +1,5 @@
 -- A server of a run: the entries that its replica has applied, and what it saw.
-use Rattle.std.specs.Prelude.{◌≡◌, ℕ, ◌+◌, ◌-◌, ◌<◌, List, [], ◌++◌, length, map, flat_map}
+use Rattle.std.specs.Prelude.{◌≡◌, ℕ, ◌+◌, ◌-◌, ◌<◌, ◌≤◌, List, [], ◌++◌, length, map, flat_map}
 use Rattle.std.specs.Prelude.{slice_index_or}
 use Rattle.std.specs.List.{AllByRecursion}
 use Rattle.tk_shape.specs.declared.shape.Shape.{Shape}
@@ -13,11 +13,11 @@ use Rattle.tk_replica.specs.Replica.{StandsFor}
 use Rattle.tk_report.specs.Exchange.{bytes_of, with_reply}
 use Rattle.tk_run.specs.declared.server.Server.{Server}
 
--- Its replica has applied these entries and keeps the last epoch and the one before it, and it saw
--- these bytes since they were last given away.
+-- Its replica has applied these entries and keeps no epoch before the last two, and it saw these bytes
+-- since they were last given away.
 pub record IsServer (shape : Shape) (E : List Placed) (bytes : List ℕ) (s : Server) : Type 0 where
   pub state : StandsFor shape E s.state
-  pub floor : s.state.floor ≡ mark_count E - 1
+  pub floor : mark_count E - 1 ≤ s.state.floor
   pub seen : s.seen.items ≡ bytes
 
 -- a server for each number from 1 on; seen gives what each saw

@@ -15,6 +15,7 @@ mod leaving;
 mod pinned_write;
 mod ranging;
 mod replying;
+mod resuming;
 mod run;
 mod run_error;
 mod serially;
@@ -32,5 +33,5 @@ mod turn_reads;
 mod turns;
 
 pub use run_error::RunError;
-pub use serially::serial;
+pub use serially::{resumed, serial};
 pub use threaded::threads;

@@ -5,6 +5,7 @@ ghost use Rattle.tk_frames.specs.Order.{is_mark};
 ghost use Rattle.tk_replica.specs.Replica.{StandsFor};
 
 use std::alloc::Global;
+use tk_checkpoint::{checkpoint, restore, written_at_marks};
 use tk_frames::{Entry, Placed, encode_placed};
 use tk_replica::ReplicaState;
 use tk_shape::{Bytes, Memory, Shape};
@@ -24,6 +25,8 @@ impl Server {
     ghost use Rattle.tk_frames.specs.Spelling.{placed_frame, reply_frame};
     ghost use Rattle.tk_frames.specs.InOrder.{IsNext};
     ghost use Rattle.tk_replica.specs.Replies.{reply_for};
+    ghost use Rattle.tk_replica.specs.Restoring.{EndsWithMark};
+    ghost use Rattle.tk_checkpoint.specs.Saved.{saved};
     ghost use Rattle.tk_run.specs.Servers.{IsServer, MayTake, MayAnswer, AreReads, answered};
     ghost use Rattle.tk_run.specs.Rows.{in_pairs};
 
@@ -73,6 +76,37 @@ impl Server {
         };
         self.see(frames, replies.as_slice())?;
         Ok(replies)
+    }
+
+    /// The checkpoint of its replica, which has applied nothing behind its last mark.
+    pub(crate) fn saved(&self, alloc: Global) -> Result<Vec<u8>, Memory>
+        ensures ends { (shape : Shape) (E : List Placed) (bytes : List ℕ)
+            → IsServer shape E bytes self.now → OnOk result (EndsWithMark E) }
+        ensures saved { (shape : Shape) (E : List Placed) (bytes : List ℕ)
+            → IsServer shape E bytes self.now
+            → IfOk result (λ out. out.items ≡ saved shape E) }
+    {
+        let mut out = Vec::new(alloc);
+        // the mark came last in its turn, so that only memory may be wanting
+        let Ok(()) = checkpoint(&self.state, &mut out) else {
+            return Err(Memory);
+        };
+        written_at_marks();
+        Ok(out)
+    }
+
+    /// Its replica is made anew, from a checkpoint of what it has applied.
+    pub(crate) fn go_on(&mut self, alloc: Global, shape: &Shape, bytes: &[u8]) -> Result<(), Memory>
+        ensures { (E : List Placed) (seen : List ℕ) → IsServer shape.now E seen self.old
+            → EndsWithMark E → bytes.now ≡ saved shape.now E
+            → OnOk result (IsServer shape.now E seen self.new) }
+    {
+        // what is saved is sound, so that only memory may be wanting
+        let Ok(state) = restore(alloc, shape, bytes) else {
+            return Err(Memory);
+        };
+        self.state = state;
+        Ok(())
     }
 
     /// Sees reads, each with its reply.

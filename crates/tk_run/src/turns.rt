@@ -9,6 +9,7 @@ ghost use Rattle.tk_run.specs.Clients.{AreClients, client_before};
 ghost use Rattle.tk_run.specs.Servers.{nothing_seen};
 ghost use Rattle.tk_run.specs.Turns.{IsRunBefore, turn_seen};
 
+use crate::resuming::go_on_before;
 use crate::run::Run;
 use crate::run_error::RunError;
 use crate::servers::open_servers;
@@ -23,10 +24,12 @@ use tk_shape::Memory;
 use tk_words::Draws;
 
 /// The clients at the end of a run, turn after turn. What each server sees goes to its tap at the
-/// end of each turn.
+/// end of each turn. Where a turn is due, or the end behind the last, the servers go on from a
+/// checkpoint before it.
 pub(crate) fn take_turns<D: Draws, T: Taps>(
     alloc: Global,
     plan: &Plan<D>,
+    due: Option<u32>,
     taps: &mut T,
 ) -> Result<Vec<Client>, RunError>
     ensures clients { let S = plan.now.script.now in
@@ -47,26 +50,27 @@ pub(crate) fn take_turns<D: Draws, T: Taps>(
         → Rose (T.faults taps.old) (T.faults taps.new)) }
     ensures counts { T.faults taps.old ≤ T.faults taps.new }
 {
-    let mut run = open_run(alloc, plan.script)?;
-    take_all_turns(alloc, plan, &mut run, taps)?;
+    let mut run = open_run(alloc, plan.script, due)?;
+    take_all_turns(alloc, plan, due, &mut run, taps)?;
     Ok(run.group.clients)
 }
 
 /// A run before its first turn.
-fn open_run(alloc: Global, script: &Script) -> Result<Run, Memory>
+fn open_run(alloc: Global, script: &Script, due: Option<u32>) -> Result<Run, Memory>
     ensures { (b : WordBook) (H : History)
         → IfOk result (IsRunBefore script.now b H 0 nothing_seen) }
 {
-    Ok(Run {
-        group: Group::open(alloc, script)?,
-        servers: open_servers(alloc, &script.shape)?,
-    })
+    let group = Group::open(alloc, script)?;
+    let mut servers = open_servers(alloc, &script.shape)?;
+    go_on_before(alloc, &script.shape, due, 0, &mut servers)?;
+    Ok(Run { group, servers })
 }
 
 /// All turns of a run, from the first.
 fn take_all_turns<D: Draws, T: Taps>(
     alloc: Global,
     plan: &Plan<D>,
+    due: Option<u32>,
     run: &mut Run,
     taps: &mut T,
 ) -> Result<(), RunError>
@@ -90,15 +94,17 @@ fn take_all_turns<D: Draws, T: Taps>(
     ensures counts { T.faults taps.old ≤ T.faults taps.new }
 {
     'turns: for turn in 0..plan.script.shape.turns() {
-        take_turn(alloc, plan, turn, run, taps)?;
+        take_turn(alloc, plan, due, turn, run, taps)?;
     }
     Ok(())
 }
 
-/// A turn, at the end of which each server's tap gains what the server saw in it.
+/// A turn, at the end of which each server's tap gains what the server saw in it. Then the servers
+/// are ready for the next.
 fn take_turn<D: Draws, T: Taps>(
     alloc: Global,
     plan: &Plan<D>,
+    due: Option<u32>,
     turn: u32,
     run: &mut Run,
     taps: &mut T,
@@ -124,6 +130,8 @@ fn take_turn<D: Draws, T: Taps>(
 {
     meet(alloc, plan, turn, run)?;
     give_all(run.servers.list.as_mut_slice(), taps)?;
+    let next = turn + 1;
+    go_on_before(alloc, &plan.script.shape, due, next, &mut run.servers)?;
     Ok(())
 }
 

@@ -1,7 +1,8 @@
 -- What the taps gain of a turn: all that the servers saw in it, or fronts.
-use Rattle.std.proofs.Common.{arith, ◌≡◌, ◌+◌, sym, subst, length}
+use Rattle.std.proofs.Common.{arith, ◌≡◌, ◌+◌, ap, sym, subst, length}
 use Rattle.std.proofs.lemmas.List.{with_items_is}
 use Rattle.tk_words.specs.Words.{words_of}
+use Rattle.tk_io.proofs.Offers.{fronts-of_all}
 use Rattle.tk_run.specs.Servers.{AreServers, nothing_seen}
 use Rattle.tk_run.specs.Turns.{placed_before, turn_seen}
 use Rattle.tk_run.proofs.ErrorLaws.{on_err}
@@ -37,6 +38,32 @@ returns-in_err-give_all-clause-err g c =
     (subst (AreServers S.shape E seen)
     (sym c.as_mut_slice.ensures.value) c.in_ok-meet.ensures.run.servers))
 
+pub returns-in_err-go_on_before-clause-err : goal.returns-in_err-go_on_before-clause-err
+returns-in_err-go_on_before-clause-err g c =
+    let S = c.args.plan.now.script.now in
+    let book = g.D.Draws.book c.args.plan.now.draws.now in
+    let E = placed_before S (words_of S.shape book) c.args.plan.now.history.now (c.args.turn + 1) in
+    let seen = turn_seen S book c.args.plan.now.history.now c.args.turn in
+    let tap = g.T.Taps.tap in
+    on_err _ c.from_residual-in_err-go_on_before.result
+    (fronts-of_all S.shape.servers seen (tap c.args.taps.now) (tap c.give_all.new.taps)
+    (c.in_ok-give_all.ensures.ok S.shape E seen
+    (subst (AreServers S.shape E seen)
+    (sym c.as_mut_slice.ensures.value) c.in_ok-meet.ensures.run.servers)))
+
+pub go_on_before-requires : goal.go_on_before-requires
+go_on_before-requires g c =
+    let S = c.args.plan.now.script.now in
+    let low = S.shape.in_range.servers_low in
+    let servers = c.meet.new.run.servers.list in
+    let given = c.give_all.new.servers in
+    let counted : length given ≡ servers.len =
+    omega (arith, c.give_all.auto.servers, c.as_mut_slice.ensures.len)
+    in
+    let back = ap length (with_items_is servers given counted) in
+    let lent = ap length c.as_mut_slice.ensures.value in
+    omega (arith, low, back, lent, c.give_all.auto.servers, c.in_ok-meet.ensures.run.servers.counted)
+
 pub returns-clause-run : goal.returns-clause-run
 returns-clause-run g c =
     let S = c.args.plan.now.script.now in
@@ -58,6 +85,6 @@ returns-clause-run g c =
     record {
       said = met.said;
       clients = met.clients;
-      servers = subst (AreServers S.shape E nothing_seen)
-          (sym (with_items_is servers given counted)) gave;
+      servers = c.in_ok-go_on_before.ensures E nothing_seen
+          (subst (AreServers S.shape E nothing_seen) (sym (with_items_is servers given counted)) gave);
     }

@@ -1,5 +1,6 @@
 -- There is a reply to each read, and both are seen.
-use Rattle.std.proofs.Common.{◌∙◌, ap, sym, subst, length}
+use Rattle.std.proofs.Common.{◌∙◌, ◌-◌, ◌≤◌, ap, sym, subst, length}
+use Rattle.tk_frames.specs.InOrder.{mark_count}
 use Rattle.tk_replica.specs.Replica.{ReplicaView, StandsFor}
 use Rattle.tk_run.proofs.ServerLaws.{replies-are, replies-counted, pairs-are}
 use Rattle.tk_run.proofs.server.Server.answer.Goals as goal
@@ -24,7 +25,7 @@ returns-clause-server c = λ shape E bytes reads is are.
     in
     record {
       state = subst (StandsFor shape E) (sym c.see.ensures.state) is.state;
-      floor = ap (λ (s : ReplicaView). s.floor) c.see.ensures.state ∙ is.floor;
+      floor = subst (λ (s : ReplicaView). mark_count E - 1 ≤ s.floor) (sym c.see.ensures.state) is.floor;
       seen =
           pairs-are shape E reads c.args.frames.now c.as_slice.result.now bytes
           c.args.self.now.seen.items c.see.new.self.seen.items are

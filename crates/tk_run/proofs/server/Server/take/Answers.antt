@@ -1,6 +1,7 @@
--- What is next for a server its replica may take, and then it keeps the last two epochs.
-use Rattle.std.proofs.Common.{◌∙◌, ◌++◌, ℕ, List, ap}
+-- What is next for a server its replica may take, and then it keeps no epoch before the last two.
+use Rattle.std.proofs.Common.{◌∙◌, ◌-◌, ◌≤◌, ◌++◌, ◌∷◌, [], ℕ, List, ap, sym, subst}
 use Rattle.tk_frames.specs.Spelling.{placed_frame}
+use Rattle.tk_frames.specs.InOrder.{mark_count}
 use Rattle.tk_replica.proofs.Offers.{entry-next}
 use Rattle.tk_run.proofs.ServerLaws.{floor-next}
 use Rattle.tk_run.proofs.server.Server.take.Goals as goal
@@ -20,9 +21,8 @@ returns c = λ shape E bytes is next.
     let kept = c.make_room.ensures.stands shape E is.state in
     record {
       state = c.in_ok-apply.ensures.stands shape E kept;
-      floor =
-          c.apply.ensures.floor ∙ c.make_room.ensures.floor
-          ∙ floor-next E p _ _ is.floor is.state.last;
+      floor = subst (λ n. mark_count (E ++ p ∷ []) - 1 ≤ n) (sym (c.apply.ensures.floor ∙ c.make_room.ensures.floor))
+          (floor-next E p c.args.self.now.state.floor c.args.self.now.state.last is.floor is.state.last);
       seen =
           c.in_ok-encode_placed.ensures.ok
           ∙ ap (λ (xs : List ℕ). xs ++ placed_frame p) is.seen;

@@ -7,7 +7,7 @@ use Rattle.tk_io.specs.Tapped.{TapsGain, TapsGainFronts}
 use Rattle.tk_io.proofs.Offers.{fronts-of_all}
 use Rattle.tk_run.proofs.ErrorLaws.{on_err}
 use Rattle.tk_run.proofs.GivingLaws.{fronts-none}
-use Rattle.tk_run.proofs.serially.serial.Goals as goal
+use Rattle.tk_run.proofs.serially.run_turns.Goals as goal
 
 pub returns-in_err-history-clause-err : goal.returns-in_err-history-clause-err
 returns-in_err-history-clause-err g c =
