@@ -24,9 +24,9 @@ use Rattle.tk_cli.specs.declared.request.Request.TheVariants as request
 use Rattle.tk_cli.specs.declared.status.Status.{Status}
 use Rattle.tk_cli.specs.declared.status.Status.TheVariants as status
 use Rattle.tk_cli.specs.Errors.{book_status, history_status}
-use Rattle.tk_cli.specs.Inputs.{Reads, IsOfRuns, Refuses, Stops}
+use Rattle.tk_cli.specs.Inputs.{Reads, Refuses, Stops}
 use Rattle.tk_cli.specs.Inputs.{form_of, tape_refusal, wide_refusal, shapes_refusal, history_refusal}
-use Rattle.tk_cli.specs.Inputs.{server_refusal, difference, bad_history_line, hiding_refusal, refusal_of}
+use Rattle.tk_cli.specs.Inputs.{server_refusal, phase_refusal, difference, bad_history_line, hiding_refusal, refusal_of}
 use Rattle.tk_cli.specs.Endings.{IsAnswer, IsMade}
 
 -- ---- how much was taken
@@ -135,6 +135,9 @@ refusal-tape (request.Wrong h) input want got other = hiding-tape h input want g
 refusal-tape request.Lift input want got other =
     let S = input.first.shape in
     other-refused S input.tape (wide_refusal S input.tape None) want got other
+refusal-tape (request.Resume epoch) input want got other =
+    let S = input.first.shape in
+    other-refused S input.tape (phase_refusal epoch S.phases) want got other
 refusal-tape r input want got other =
     other-refused input.first.shape input.tape None want got other
 
@@ -168,20 +171,25 @@ pub server-refuses : (got servers : ℕ) (s : Status) (r : Request) (input : Inp
 server-refuses got servers s r input is refused =
     subst (λ x. refusal_of r input ≡ Some x → Refuses r input x) (sym is) (λ same. same) refused
 
+-- an epoch past the last
+pub epoch-refuses : (e : ℕ) (s : Status) (input : Input) →
+    IsWholeTape input.first.shape input.tape → s ≡ status.Phase e input.first.shape.phases →
+    phase_refusal e input.first.shape.phases ≡ Some s → Refuses (request.Resume e) input s
+epoch-refuses e s input whole is refused =
+    let S = input.first.shape in
+    let r = request.Resume e in
+    subst (λ x. refusal_of r input ≡ Some x → Refuses r input x) (sym is) (λ same. same)
+    (whole-not_refused S input.tape (phase_refusal e S.phases) whole ∙ refused)
+
 -- ---- where an input is had
 
-pub runs-form : (r : Request) → IsOfRuns r → form_of r ≡ form.Run
-runs-form request.Serial runs = refl
-runs-form (request.Run n) runs = refl
-runs-form r runs = absurd runs
-
--- a run that an input refuses
-pub run-stops : (r : Request) (s : Status) (left left' : Option (List ℕ)) (f f' : ℕ)
-    (input : Input) → Reads form.Run left left' input → IsOfRuns r → Refuses r input s →
+-- a run that an input of its form refuses
+pub run-stops : (form : Form) (r : Request) (s : Status) (left left' : Option (List ℕ)) (f f' : ℕ)
+    (input : Input) → Reads form left left' input → form_of r ≡ form → Refuses r input s →
     Stops r s left left' f f'
-run-stops r s left left' f f' input read runs refuses =
+run-stops form r s left left' f f' input read is refuses =
     refuses-stops r s left left' f f' input
-    (subst (λ k. Reads k left left' input) (sym (runs-form r runs)) read) refuses
+    (subst (λ k. Reads k left left' input) (sym is) read) refuses
 
 refused-short : (s : Status) (r : Request) (input : Input) → Refuses r input s →
     s ≢ status.TooLong
@@ -193,6 +201,15 @@ err_same s t e = cc
 
 pub ok_long : {Y : Type 0} (y : Y) → ¬ (let a : Result Y Status = Ok y in a ≡ Err status.TooLong)
 ok_long y is = cc
+
+pub err-short : {X : Type 0} (res : Result X Status) →
+    IfErr res (λ s. s ≢ status.TooLong) → ¬ (res ≡ Err status.TooLong)
+err-short (Ok x) short is = cc
+err-short {X} (Err s) short is = short (err_same {X = X} s status.TooLong is)
+
+pub book-short : (e : BookError) (s : Status) → s ≡ book_status e → s ≢ status.TooLong
+book-short (book_error.Tape want got) s is long = cc
+book-short book_error.Memory s is long = cc
 
 -- what an input that was read is answered with
 module _ {X : Type 0} (r : Request) (left left' : Option (List ℕ)) (f f' : ℕ) (input : Input)

@@ -7,3 +7,4 @@ pub mod LiftLaws
 pub mod CompleteLaws
 pub mod HidingLaws
 pub mod ChosenLaws
+pub mod SerialLaws

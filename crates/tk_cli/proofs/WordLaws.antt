@@ -5,8 +5,10 @@ use Rattle.std.specs.Prelude.{None, Result, IfOk, IfErr}
 use Rattle.tk_io.specs.Content.{TakesUpTo, Rose, before_taking}
 use Rattle.tk_schedule.specs.declared.history.History.{History}
 use Rattle.tk_schedule.specs.Schedule.{serial_history, IsLegal}
+use Rattle.tk_script.specs.declared.form.Form.{Form}
+use Rattle.tk_script.specs.declared.form.Form.TheVariants as form
 use Rattle.tk_script.specs.declared.script.Script.{Script}
-use Rattle.tk_script.specs.Book.{book_of}
+use Rattle.tk_script.specs.Book.{book_from, book_of}
 use Rattle.tk_words.specs.declared.book.Book.{Book}
 use Rattle.tk_words.specs.Book.{words_in}
 use Rattle.tk_words.specs.Words.{WordBook}
@@ -21,12 +23,12 @@ use Rattle.tk_cli.specs.declared.ended.Ended.{Ended}
 use Rattle.tk_cli.specs.Errors.{run_status}
 use Rattle.tk_cli.specs.Puts.{Puts, PutsNothing, PutsSome}
 use Rattle.tk_cli.specs.Texts.{IsTextOf}
-use Rattle.tk_cli.specs.Inputs.{IsDue, IsReady, Stops}
+use Rattle.tk_cli.specs.Inputs.{IsDue, IsReady, Reads, Stops, HasBookOfKeys, tape_refusal, phase_refusal}
 use Rattle.tk_cli.specs.Outside.{Outside, outside, IsUnwritten, IsUntapped, NoCountFalls}
 use Rattle.tk_cli.specs.Endings.{LeavesSource, LeavesTaps, HandsNothing}
 use Rattle.tk_cli.specs.Endings.{IsMade, StopsInTaps, EndsWith}
 use Rattle.tk_cli.specs.Endings.{HowEnds, Ends, WritesText}
-use Rattle.tk_cli.proofs.InputLaws.{not_over, over-as, err_same, ok_long}
+use Rattle.tk_cli.proofs.InputLaws.{not_over, over-as, err_same, ok_long, whole-not_refused, run-stops, epoch-refuses}
 use Rattle.tk_cli.proofs.EndingLaws.{IsPlain, stopped, run_stopped, made-ends}
 
 -- a request that reads its input ends by its status
@@ -37,8 +39,14 @@ pub record ReadsInput (r : Request) : Type 0 where
 pub serial-reads : ReadsInput request.Serial
 serial-reads = record { source = λ no. no; how = λ e old new how. how }
 
-pub run-reads : (n : ℕ) → ReadsInput (request.Run n)
-run-reads n = record { source = λ no. no; how = λ e old new how. how }
+pub relay-reads : ReadsInput request.Relay
+relay-reads = record { source = λ no. no; how = λ e old new how. how }
+
+pub resume-reads : (epoch : ℕ) → ReadsInput (request.Resume epoch)
+resume-reads epoch = record { source = λ no. no; how = λ e old new how. how }
+
+pub run-reads : (n m : ℕ) → ReadsInput (request.Run n m)
+run-reads n m = record { source = λ no. no; how = λ e old new how. how }
 
 pub view-reads : (j : ℕ) → ReadsInput (request.View j)
 view-reads j = record { source = λ no. no; how = λ e old new how. how }
@@ -54,13 +62,13 @@ lift-reads = record { source = λ no. no; how = λ e old new how. how }
 
 -- ---- how much was taken
 
-abbrev Taken : Type 0 → Option (List ℕ) → Option (List ℕ) → Type 0
+abbrev pub Taken : Type 0 → Option (List ℕ) → Option (List ℕ) → Type 0
 Taken over left left' = (taken : List ℕ) × TakesUpTo input_limit left left' over taken
 
 abbrev IsOver : (X : Type 0) → Status → Type 0
 IsOver X s = let a : Result X Status = Err s in a ≡ Err status.TooLong
 
-abbrev IsOverOk : {X : Type 0} → X → Type 0
+abbrev pub IsOverOk : {X : Type 0} → X → Type 0
 IsOverOk {X} x = let a : Result X Status = Ok x in a ≡ Err status.TooLong
 
 pub err-taken : {X : Type 0} (e : Ended) (s : Status) (left left' : Option (List ℕ)) →
@@ -96,6 +104,21 @@ module _ (r : Request) (reads : ReadsInput r) (e : Ended) (old new : Outside)
       Stops r s old.left new.left old.source_faults new.source_faults → Ends r e old new
   early {X} s is nothing taken unwritten untapped stops = record {
     taken = err-taken {X = X} e s old.left new.left is taken;
+    counts = counts;
+    unread = λ leaves. absurd (reads.source leaves);
+    untapped = λ leaves. untapped;
+    how = reads.how e old new (subst (λ x. EndsWith x r e old new) (sym is)
+        (stopped s r e old new stops
+        (record { handed = nothing; unwritten = unwritten; untapped = untapped })));
+  }
+
+  -- one that was had is refused
+  pub late : {X : Type 0} (x : X) (s : Status) → e.status ≡ s → s ≢ status.TooLong →
+      HandsNothing e → Taken (IsOverOk x) old.left new.left → IsUnwritten old new →
+      IsUntapped old new → Stops r s old.left new.left old.source_faults new.source_faults →
+      Ends r e old new
+  late x s is short nothing taken unwritten untapped stops = record {
+    taken = ok-taken x e old.left new.left taken (λ long. short (sym is ∙ long));
     counts = counts;
     unread = λ leaves. absurd (reads.source leaves);
     untapped = λ leaves. untapped;
@@ -149,21 +172,79 @@ module _ (r : Request) (reads : ReadsInput r) (e : Ended) (old new : Outside)
 
 -- ---- runs of an input
 
-module _ (left left' : Option (List ℕ)) (script : Script) (book : Book)
-    (ready : IsReady left left' script book) where
+module _ (f : Form) (left left' : Option (List ℕ)) (script : Script) (book : Book)
+    (ready : IsReady f left left' script book) where
   -- what holds of the script and the words holds of the input's
   pub as-input : (P : Script → WordBook → Type 0) → P script (words_in book) →
       P ready.input.first (book_of ready.input)
   as-input P p = subst (λ b. P ready.input.first b) ready.words
       (subst (λ S. P S (words_in book)) ready.of_input p)
 
-  pub serial-due : IsDue request.Serial left left' ready.input
-      (serial_history ready.input.first.shape)
-  serial-due = record { read = ready.read; accepted = ready.accepted; history = refl }
+  -- its tape refuses nothing
+  accepted : (behind : Option Status) →
+      tape_refusal ready.input.first.shape ready.input.tape behind ≡ behind
+  accepted behind =
+      whole-not_refused ready.input.first.shape ready.input.tape behind ready.whole
 
-  pub run-due : (n : ℕ) (H : History) → IsLegal ready.input.first.shape H →
-      IsDue (request.Run n) left left' ready.input H
-  run-due n H legal = record { read = ready.read; accepted = ready.accepted; history = legal }
+  pub serial-due : f ≡ form.Run → IsDue request.Serial left left' ready.input
+      (serial_history ready.input.first.shape)
+  serial-due is = record {
+    read = subst (λ k. Reads k left left' ready.input) is ready.read;
+    accepted = accepted None;
+    history = refl;
+  }
+
+  pub relay-due : f ≡ form.Relay → IsDue request.Relay left left' ready.input
+      (serial_history ready.input.first.shape)
+  relay-due is = record {
+    read = subst (λ k. Reads k left left' ready.input) is ready.read;
+    accepted = accepted None;
+    history = refl;
+  }
+
+  phases-is : script.shape.phases ≡ ready.input.first.shape.phases
+  phases-is = ap (λ (S : Script). S.shape.phases) ready.of_input
+
+  pub resume-due : (e : ℕ) → f ≡ form.Run → phase_refusal e script.shape.phases ≡ None →
+      IsDue (request.Resume e) left left' ready.input (serial_history ready.input.first.shape)
+  resume-due e is within = record {
+    read = subst (λ k. Reads k left left' ready.input) is ready.read;
+    accepted = accepted (phase_refusal e ready.input.first.shape.phases)
+        ∙ ap (phase_refusal e) (sym phases-is) ∙ within;
+    history = refl;
+  }
+
+  pub phase-short : (e : ℕ) (s : Status) → s ≡ status.Phase e script.shape.phases →
+      s ≢ status.TooLong
+  phase-short e s named long = cc
+
+  -- the epoch is past the last
+  pub resume-stops : (e : ℕ) (s : Status) (faults faults' : ℕ) → f ≡ form.Run →
+      s ≡ status.Phase e script.shape.phases → phase_refusal e script.shape.phases ≡ Some s →
+      Stops (request.Resume e) s left left' faults faults'
+  resume-stops e s faults faults' is named refused =
+      run-stops f (request.Resume e) s left left' faults faults' ready.input ready.read (sym is)
+      (epoch-refuses e s ready.input ready.whole (named ∙ ap (status.Phase e) phases-is)
+      (ap (phase_refusal e) (sym phases-is) ∙ refused))
+
+  pub run-due : (n m : ℕ) (H : History) → f ≡ form.Run → IsLegal ready.input.first.shape H →
+      IsDue (request.Run n m) left left' ready.input H
+  run-due n m H is legal = record {
+    read = subst (λ k. Reads k left left' ready.input) is ready.read;
+    accepted = accepted None;
+    history = legal;
+  }
+
+-- a script that is relayed has keys, which are its book
+pub has-book_of_keys : (left left' : Option (List ℕ)) (script : Script) (book : Book) →
+    IsReady form.Relay left left' script book → HasBookOfKeys script (words_in book)
+has-book_of_keys left left' script book ready =
+    let spelled = ready.read.spelled in
+    record {
+      keys = spelled.keys;
+      own = ap (λ (S : Script). S.keys) ready.of_input ∙ spelled.keyed;
+      book = ready.words ∙ ap (λ k. book_from k ready.input.tape) spelled.keyed;
+    }
 
 -- ---- a text, where there is one
 

@@ -12,6 +12,7 @@ use Rattle.tk_words.specs.Words.{WordBook, keyed, drawn, words_of}
 use Rattle.tk_words.specs.Lifting.{lifted_book}
 use Rattle.tk_report.specs.Report.{report}
 use Rattle.tk_report.specs.Exchange.{exchange, view, bytes_of}
+use Rattle.tk_relay.specs.Relayed.{relayed_exchange, seeds_of}
 use Rattle.tk_privacy.specs.Privacy.{mirror}
 use Rattle.tk_hostile.specs.Choice.{Choice}
 use Rattle.tk_hostile.specs.Wrong.{wrong_mirror}
@@ -41,6 +42,12 @@ report_in input H = report input.first (book_of input) H
 
 abbrev pub seen_in : Input → History → ℕ → List ℕ
 seen_in input H j = bytes_of (exchange input.first (book_of input) H j)
+
+-- the same where its reads go by way of server 1
+abbrev pub relayed_in : Input → History → ℕ → List ℕ
+relayed_in input H j =
+    let b = book_of input in
+    bytes_of (relayed_exchange input.first b (seeds_of b) H j)
 
 -- the frames that a server sees of it, one a line
 abbrev pub view_in : ℕ → Input → History → List ℕ
@@ -78,7 +85,9 @@ pub record IsLiftedText (S : Script) (text : List ℕ) : Type 0 where
 -- what the sink gains
 abbrev pub output_of : Request → Input → History → List ℕ
 output_of request.Serial input H = report_in input H
-output_of (request.Run workers) input H = report_in input H
+output_of request.Relay input H = report_in input H
+output_of (request.Resume epoch) input H = report_in input H
+output_of (request.Run workers shards) input H = report_in input H
 output_of (request.View server) input H = view_in server input H
 output_of (request.Mirror hidden) input H =
     mirror_of hidden input.first input.second H (kept_in input.tape)
@@ -102,23 +111,28 @@ pub record IsMade (r : Request) (left left' : Option (List ℕ)) (text : List �
   pub answer : IsAnswer r input text
 
 -- what the taps gain: what each server sees, and no other tap anything
-pub record TapsSee (input : Input) (H : History) (old new : Outside) : Type 0 where
-  pub gained : TapsGain input.first.shape.servers (seen_in input H) old.tap new.tap
+pub record TapsSee (input : Input) (seen : ℕ → List ℕ) (old new : Outside) : Type 0 where
+  pub gained : TapsGain input.first.shape.servers seen old.tap new.tap
   pub others : TapsKeepBut input.first.shape.servers old.tap new.tap
 
 -- or fronts of it
-pub record TapsSeeFronts (input : Input) (H : History) (old new : Outside) : Type 0 where
-  pub gained : TapsGainFronts input.first.shape.servers (seen_in input H) old.tap new.tap
+pub record TapsSeeFronts (input : Input) (seen : ℕ → List ℕ) (old new : Outside) : Type 0 where
+  pub gained : TapsGainFronts input.first.shape.servers seen old.tap new.tap
   pub others : TapsKeepBut input.first.shape.servers old.tap new.tap
 
 abbrev pub TapsGainAll : Request → Input → History → Outside → Outside → Type 0
-TapsGainAll request.Serial input H old new = TapsSee input H old new
-TapsGainAll (request.Run workers) input H old new = TapsSee input H old new
+TapsGainAll request.Serial input H old new = TapsSee input (seen_in input H) old new
+TapsGainAll request.Relay input H old new = TapsSee input (relayed_in input H) old new
+TapsGainAll (request.Resume epoch) input H old new = TapsSee input (seen_in input H) old new
+TapsGainAll (request.Run workers shards) input H old new = TapsSee input (seen_in input H) old new
 TapsGainAll _ input H old new = Unit {0}
 
 abbrev pub TapsGainSome : Request → Input → History → Outside → Outside → Type 0
-TapsGainSome request.Serial input H old new = TapsSeeFronts input H old new
-TapsGainSome (request.Run workers) input H old new = TapsSeeFronts input H old new
+TapsGainSome request.Serial input H old new = TapsSeeFronts input (seen_in input H) old new
+TapsGainSome request.Relay input H old new = TapsSeeFronts input (relayed_in input H) old new
+TapsGainSome (request.Resume epoch) input H old new = TapsSeeFronts input (seen_in input H) old new
+TapsGainSome (request.Run workers shards) input H old new =
+    TapsSeeFronts input (seen_in input H) old new
 TapsGainSome _ input H old new = ⊥
 
 -- nothing is handed back
@@ -150,7 +164,9 @@ pub record HandsRun (input : Input) (H : History) (e : Ended) : Type 0 where
 
 abbrev pub HandsBack : Request → Input → History → Ended → Type 0
 HandsBack request.Serial input H e = HandsSerial input H e
-HandsBack (request.Run workers) input H e = HandsRun input H e
+HandsBack request.Relay input H e = HandsSerial input H e
+HandsBack (request.Resume epoch) input H e = HandsSerial input H e
+HandsBack (request.Run workers shards) input H e = HandsRun input H e
 HandsBack _ input H e = HandsNothing e
 
 -- ---- how a request ends that reads an input
@@ -221,7 +237,9 @@ LeavesSource _ = ⊥
 -- the taps are left alone
 abbrev pub LeavesTaps : Request → Type 0
 LeavesTaps request.Serial = ⊥
-LeavesTaps (request.Run workers) = ⊥
+LeavesTaps request.Relay = ⊥
+LeavesTaps (request.Resume epoch) = ⊥
+LeavesTaps (request.Run workers shards) = ⊥
 LeavesTaps _ = Unit {0}
 
 -- it ends with this status, with which nothing else comes

@@ -17,11 +17,13 @@ use Rattle.tk_script.specs.declared.form.Form.TheVariants as form
 use Rattle.tk_script.specs.declared.input.RawTape.{RawTape}
 use Rattle.tk_script.specs.declared.input.Input.{Input}
 use Rattle.tk_script.specs.declared.script.Script.{Script}
-use Rattle.tk_script.specs.Book.{book_of}
+use Rattle.tk_script.specs.declared.keys.Keys.{Keys}
+use Rattle.tk_script.specs.Book.{IsWholeTape, book_of}
 use Rattle.tk_script.specs.Grammar.{lines_of, Spells}
 use Rattle.tk_script.specs.Reading.{read_input}
 use Rattle.tk_words.specs.declared.book.Book.{Book}
 use Rattle.tk_words.specs.Book.{shape_of, words_in}
+use Rattle.tk_words.specs.Words.{WordBook, keyed}
 use Rattle.tk_cli.specs.declared.request.Request.{Request}
 use Rattle.tk_cli.specs.declared.request.Request.TheVariants as request
 use Rattle.tk_cli.specs.declared.status.Status.{Status}
@@ -34,6 +36,7 @@ abbrev pub form_of : Request → Form
 form_of (request.View server) = form.View
 form_of (request.Mirror hidden) = form.Mirror
 form_of (request.Wrong hidden) = form.Wrong
+form_of request.Relay = form.Relay
 form_of _ = form.Run
 
 -- these bytes were taken, and they were all that was left
@@ -99,6 +102,10 @@ abbrev pub server_refusal : ℕ → ℕ → Option Status
 server_refusal got servers =
     cond (got == 0 || nat_lt servers got) (Some (status.Hidden got servers)) None
 
+-- it is an epoch past the last
+abbrev pub phase_refusal : ℕ → ℕ → Option Status
+phase_refusal got phases = cond (nat_lt phases got) (Some (status.Phase got phases)) None
+
 -- the first that refuses an input of two scripts where a server is hidden
 abbrev pub hiding_refusal : ℕ → Input → Option Status
 hiding_refusal hidden input =
@@ -120,6 +127,9 @@ refusal_of (request.Wrong hidden) input = hiding_refusal hidden input
 refusal_of request.Lift input =
     let shape = input.first.shape in
     tape_refusal shape input.tape (wide_refusal shape input.tape None)
+refusal_of (request.Resume epoch) input =
+    let shape = input.first.shape in
+    tape_refusal shape input.tape (phase_refusal epoch shape.phases)
 refusal_of _ input = tape_refusal input.first.shape input.tape None
 
 -- all was taken, and what it spells is refused with this status
@@ -162,21 +172,22 @@ IsOfRefusal refusal s = refusal ≡ Some s
 abbrev pub Refuses : Request → Input → Status → Type 0
 Refuses r input = IsOfRefusal (refusal_of r input)
 
--- a run, serial or with threads
-abbrev pub IsOfRuns : Request → Type 0
-IsOfRuns request.Serial = Unit {0}
-IsOfRuns (request.Run workers) = Unit {0}
-IsOfRuns _ = ⊥
-
--- All was taken, and it spells an input that a run doesn't refuse: this is its script, and these
+-- All was taken, and it spells an input that its tape doesn't refuse: this is its script, and these
 -- are its words.
-pub record IsReady (left left' : Option (List ℕ)) (script : Script) (book : Book) : Type 0 where
+pub record IsReady (f : Form) (left left' : Option (List ℕ)) (script : Script) (book : Book)
+    : Type 0 where
   pub input : Input
-  pub read : Reads form.Run left left' input
-  pub accepted : tape_refusal input.first.shape input.tape None ≡ None
+  pub read : Reads f left left' input
+  pub whole : IsWholeTape input.first.shape input.tape
   pub of_input : script ≡ input.first
   pub shape : shape_of book ≡ script.shape
   pub words : words_in book ≡ book_of input
+
+-- a book of a script's keys
+pub record HasBookOfKeys (S : Script) (b : WordBook) : Type 0 where
+  pub keys : Keys
+  pub own : S.keys ≡ Some keys
+  pub book : b ≡ keyed keys.handles keys.seeds
 
 -- ---- the history
 
@@ -188,7 +199,9 @@ TellsIn shape (Some raw) H = Tells shape raw H
 -- a request is done for this history of the input; a script is lifted whatever the history
 abbrev pub IsHistoryFor : Request → Input → History → Type 0
 IsHistoryFor request.Serial input H = H ≡ serial_history input.first.shape
-IsHistoryFor (request.Run workers) input H = IsLegal input.first.shape H
+IsHistoryFor request.Relay input H = H ≡ serial_history input.first.shape
+IsHistoryFor (request.Resume epoch) input H = H ≡ serial_history input.first.shape
+IsHistoryFor (request.Run workers shards) input H = IsLegal input.first.shape H
 IsHistoryFor (request.View server) input H = TellsIn input.first.shape input.history H
 IsHistoryFor (request.Mirror hidden) input H = TellsIn input.first.shape input.history H
 IsHistoryFor (request.Wrong hidden) input H = TellsIn input.first.shape input.history H

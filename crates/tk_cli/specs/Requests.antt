@@ -12,6 +12,11 @@ abbrev pub AsksSerial : Words → Type 0
 AsksSerial (word ∷ []) = word ≡ codes "serial"
 AsksSerial _ = ⊥
 
+-- the same report, of a run whose reads go by way of one server
+abbrev pub AsksRelay : Words → Type 0
+AsksRelay (word ∷ []) = word ≡ codes "relay"
+AsksRelay _ = ⊥
+
 -- the script in format 2
 abbrev pub AsksLift : Words → Type 0
 AsksLift (word ∷ []) = word ≡ codes "lift"
@@ -24,14 +29,22 @@ IsSmall n text = (n < 2 ^ 32) × (text ≡ decimal n)
 abbrev pub IsLong : ℕ → List ℕ → Type 0
 IsLong n text = (n < 2 ^ 64) × (text ≡ decimal n)
 
--- the report of a run with threads, by 1 to 64 workers; alone it is by one
+-- the report of a run with threads, by 1 to 64 workers over 1 to 64 shards; what isn't named is one
 abbrev pub IsCrew : ℕ → List ℕ → Type 0
-IsCrew workers text = ((1 ≤ workers) × (workers ≤ 64)) × (text ≡ decimal workers)
+IsCrew n text = ((1 ≤ n) × (n ≤ 64)) × (text ≡ decimal n)
 
-abbrev pub AsksRun : Words → (workers : ℕ) → Type 0
-AsksRun (word ∷ []) workers = (word ≡ codes "run") × (workers ≡ 1)
-AsksRun (word ∷ number ∷ []) workers = (word ≡ codes "run") × IsCrew workers number
-AsksRun _ workers = ⊥
+abbrev pub AsksRun : Words → (workers shards : ℕ) → Type 0
+AsksRun (word ∷ []) workers shards = (word ≡ codes "run") × (workers ≡ 1) × (shards ≡ 1)
+AsksRun (word ∷ number ∷ []) workers shards =
+    (word ≡ codes "run") × IsCrew workers number × (shards ≡ 1)
+AsksRun (word ∷ number ∷ more ∷ []) workers shards =
+    (word ≡ codes "run") × IsCrew workers number × IsCrew shards more
+AsksRun _ workers shards = ⊥
+
+-- the report of a serial run whose servers begin anew at an epoch
+abbrev pub AsksResume : Words → (epoch : ℕ) → Type 0
+AsksResume (word ∷ number ∷ []) epoch = (word ≡ codes "resume") × IsSmall epoch number
+AsksResume _ epoch = ⊥
 
 -- what a server sees
 abbrev pub AsksView : Words → (server : ℕ) → Type 0
@@ -68,10 +81,14 @@ AsksHandle (word ∷ number ∷ digits ∷ []) id root =
     (word ≡ codes "handle") × IsLong id number × SpellsRoot digits root
 AsksHandle _ id root = ⊥
 
--- a run by some workers, the view of some server, some mirrored tape, also under wrong replies, the handle
--- of some log, some script that is made, and what comes of it
+-- a run by some workers over some shards, one that begins anew at some epoch, the view of some server, some
+-- mirrored tape, also under wrong replies, the handle of some log, some script that is made, and what comes of
+-- it
 abbrev pub AsksSomeRun : Words → Type 0
-AsksSomeRun words = (workers : ℕ) × AsksRun words workers
+AsksSomeRun words = (workers : ℕ) × (shards : ℕ) × AsksRun words workers shards
+
+abbrev pub AsksSomeResume : Words → Type 0
+AsksSomeResume words = (epoch : ℕ) × AsksResume words epoch
 
 abbrev pub AsksSomeView : Words → Type 0
 AsksSomeView words = (server : ℕ) × AsksView words server
@@ -96,11 +113,13 @@ abbrev pub AsksNothing : Words → Type 0
 AsksNothing words =
     ¬ (AsksSerial words ⊎ AsksSomeRun words ⊎ AsksSomeView words ⊎ AsksSomeMirror words
     ⊎ AsksSomeHandle words ⊎ AsksSomeMake words ⊎ AsksSomeTally words ⊎ AsksLift words
-    ⊎ AsksSomeWrong words)
+    ⊎ AsksSomeWrong words ⊎ AsksRelay words ⊎ AsksSomeResume words)
 
 abbrev pub Asks : Words → Request → Type 0
 Asks words request.Serial = AsksSerial words
-Asks words (request.Run workers) = AsksRun words workers
+Asks words request.Relay = AsksRelay words
+Asks words (request.Resume epoch) = AsksResume words epoch
+Asks words (request.Run workers shards) = AsksRun words workers shards
 Asks words (request.View server) = AsksView words server
 Asks words (request.Mirror hidden) = AsksMirror words hidden
 Asks words (request.Wrong hidden) = AsksWrong words hidden

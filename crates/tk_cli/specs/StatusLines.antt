@@ -4,7 +4,7 @@ use Rattle.tk_shape.specs.declared.field.Field.{Field}
 use Rattle.tk_shape.specs.Names.{field_name}
 use Rattle.tk_script.specs.CauseText.{cause_text, spaced}
 use Rattle.tk_cli.specs.declared.status.Status.{Status}
-use Rattle.tk_cli.specs.declared.status.Status.TheVariants.{Done, Memory, Usage, Script, Read, Write, TooLong, History, Shapes, Tape, Hidden, Wide}
+use Rattle.tk_cli.specs.declared.status.Status.TheVariants.{Done, Memory, Usage, Script, Read, Write, TooLong, History, Shapes, Tape, Hidden, Wide, Phase}
 
 abbrev pub code_of : Status → ℕ
 code_of Done = 0
@@ -19,6 +19,7 @@ code_of (Shapes field a b) = 8
 code_of (Tape want got) = 9
 code_of (Hidden got servers) = 10
 code_of (Wide want) = 12
+code_of (Phase got phases) = 13
 
 abbrev pub differing_text : Field → List ℕ
 differing_text field = codes "talek: shapes " ++ field_name field
@@ -28,6 +29,9 @@ shapes_text field a b = differing_text field ++ spaced a ++ spaced b
 
 abbrev pub hidden_text : ℕ → ℕ → List ℕ
 hidden_text got servers = codes "talek: server" ++ spaced got ++ codes " of" ++ spaced servers
+
+abbrev pub phase_text : ℕ → ℕ → List ℕ
+phase_text got phases = codes "talek: phase" ++ spaced got ++ codes " of" ++ spaced phases
 
 abbrev pub status_text : Status → List ℕ
 status_text Done = []
@@ -42,3 +46,4 @@ status_text (Shapes field a b) = shapes_text field a b
 status_text (Tape want got) = codes "talek: tape" ++ spaced want ++ spaced got
 status_text (Hidden got servers) = hidden_text got servers
 status_text (Wide want) = codes "talek: tape over" ++ spaced want
+status_text (Phase got phases) = phase_text got phases

@@ -4,8 +4,8 @@ ghost use Rattle.tk_io.specs.Content.{TakesUpTo};
 ghost use Rattle.tk_schedule.specs.Told.{Names};
 ghost use Rattle.tk_script.specs.Book.{HasTape, IsOtherTape, IsWholeTape};
 ghost use Rattle.tk_cli.specs.declared.request.Request.{Request as Requested};
-ghost use Rattle.tk_cli.specs.Inputs.{form_of, kept_in, IsReady, IsOfRuns, Reads, Stops};
-ghost use Rattle.tk_cli.specs.Inputs.{TellsIn, bad_history_line, server_refusal};
+ghost use Rattle.tk_cli.specs.Inputs.{form_of, kept_in, IsReady, Reads, Stops};
+ghost use Rattle.tk_cli.specs.Inputs.{TellsIn, bad_history_line, phase_refusal, server_refusal};
 ghost use Rattle.tk_cli.specs.Limits.{input_limit};
 
 use crate::status::Status;
@@ -19,18 +19,23 @@ use tk_words::{Book, Tape};
 /// The most bytes of an input.
 const INPUT_LIMIT: usize = 8388608;
 
-/// The script of an input that all bytes of the source spell, and the words of its book; or the status that a run ends
-/// with.
-pub(crate) fn ready<S: Source>(alloc: Global, source: &mut S) -> Result<(Script, Book), Status>
-    ensures ready { IfOk result (λ x. IsReady (S.left source.old) (S.left source.new) x.0 x.1) }
-    ensures stopped { IfErr result (λ s. (request : Requested) → IsOfRuns request →
+/// The first script of an input of a form that all bytes of the source spell, and the words of its book; or the status
+/// that a run ends with.
+pub(crate) fn ready<S: Source>(
+    alloc: Global,
+    source: &mut S,
+    form: Form,
+) -> Result<(Script, Book), Status>
+    ensures ready { IfOk result (λ x.
+        IsReady form (S.left source.old) (S.left source.new) x.0 x.1) }
+    ensures stopped { IfErr result (λ s. (request : Requested) → form_of request ≡ form →
         Stops request s (S.left source.old) (S.left source.new)
         (S.faults source.old) (S.faults source.new)) }
     ensures taken { (taken : List ℕ) × TakesUpTo input_limit (S.left source.old)
         (S.left source.new) (result ≡ Err Status.TooLong) taken }
     ensures counts { S.faults source.old ≤ S.faults source.new }
 {
-    let Input { first, tape, .. } = input_from(alloc, source, Form::Run)?;
+    let Input { first, tape, .. } = input_from(alloc, source, form)?;
     let book = first.book(alloc, tape)?;
     Ok((first, book))
 }
@@ -79,6 +84,20 @@ pub(crate) fn server_in(shape: &Shape, got: u32) -> Result<(), Status>
     let servers = shape.servers;
     if got < 1 || got > servers {
         return Err(Status::Hidden { got, servers });
+    }
+    Ok(())
+}
+
+/// Asks that a number is one of a run's epochs, of which each phase ends with one.
+pub(crate) fn epoch_in(shape: &Shape, got: u32) -> Result<(), Status>
+    ensures within { OnOk result (got ≤ shape.now.phases) }
+    ensures ok { OnOk result (phase_refusal got shape.now.phases ≡ None) }
+    ensures phase { IfErr result (λ s. s ≡ Status.Phase got shape.now.phases) }
+    ensures err { IfErr result (λ s. phase_refusal got shape.now.phases ≡ Some s) }
+{
+    let phases = shape.phases;
+    if got > phases {
+        return Err(Status::Phase { got, phases });
     }
     Ok(())
 }

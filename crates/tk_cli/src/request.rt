@@ -10,8 +10,12 @@ use tk_shape::Bytes;
 pub(crate) enum Request {
     /// The report of a serial run.
     Serial,
-    /// The report of a run with threads.
-    Run { workers: u32 },
+    /// The same report, of a run whose reads go by way of one server.
+    Relay,
+    /// The same report, of a run whose servers begin anew at an epoch.
+    Resume { epoch: u32 },
+    /// The report of a run with threads, whose servers have their buckets in shards.
+    Run { workers: u32, shards: u32 },
     /// What a server sees.
     View { server: u32 },
     /// The tape over which another script shows the same to all servers but one.
@@ -36,7 +40,7 @@ pub(crate) fn request_of(words: &[Bytes]) -> Request
     match words {
         [word] => asked_alone(word.as_slice()),
         [word, number] => asked_numbered(word.as_slice(), number.as_slice()),
-        [word, id, root] => asked_handle(word.as_slice(), id.as_slice(), root.as_slice()),
+        [word, first, second] => asked_twice(word.as_slice(), first.as_slice(), second.as_slice()),
         _ => Request::Nothing,
     }
 }
@@ -49,7 +53,13 @@ fn asked_alone(word: &[u8]) -> Request
         return Request::Serial;
     }
     if word == b"run".as_slice() {
-        return Request::Run { workers: 1 };
+        return Request::Run {
+            workers: 1,
+            shards: 1,
+        };
+    }
+    if word == b"relay".as_slice() {
+        return Request::Relay;
     }
     if word == b"lift".as_slice() {
         return Request::Lift;
@@ -70,7 +80,7 @@ fn asked_numbered(word: &[u8], number: &[u8]) -> Request
     if word == b"tally".as_slice() {
         return asked_tally(number);
     }
-    asked_server(word, number)
+    asked_small(word, number)
 }
 
 /// What the word `run` and a number ask for.
@@ -78,7 +88,7 @@ fn asked_run(number: &[u8]) -> Request
     ensures { Asks (codes "run" ∷ number.now ∷ []) result }
 {
     match crew_number(number) {
-        Some(workers) => Request::Run { workers },
+        Some(workers) => Request::Run { workers, shards: 1 },
         None => Request::Nothing,
     }
 }
@@ -103,8 +113,8 @@ fn asked_tally(number: &[u8]) -> Request
     }
 }
 
-/// What another word and a number, which is a server's, ask for.
-fn asked_server(word: &[u8], number: &[u8]) -> Request
+/// What another word and a number of 32 bits ask for: that of an epoch or a server.
+fn asked_small(word: &[u8], number: &[u8]) -> Request
     requires run { word.now ≢ codes "run" }
     requires make { word.now ≢ codes "make" }
     requires tally { word.now ≢ codes "tally" }
@@ -122,11 +132,38 @@ fn asked_server(word: &[u8], number: &[u8]) -> Request
     if word == b"wrong".as_slice() {
         return Request::Wrong { hidden: number };
     }
+    if word == b"resume".as_slice() {
+        return Request::Resume { epoch: number };
+    }
     Request::Nothing
 }
 
-/// What a word, an id and a root ask for.
+/// What a word and two more ask for.
+fn asked_twice(word: &[u8], first: &[u8], second: &[u8]) -> Request
+    ensures { Asks (word.now ∷ first.now ∷ second.now ∷ []) result }
+{
+    if word == b"run".as_slice() {
+        return asked_sharded(first, second);
+    }
+    asked_handle(word, first, second)
+}
+
+/// What the word `run` and two numbers ask for.
+fn asked_sharded(workers: &[u8], shards: &[u8]) -> Request
+    ensures { Asks (codes "run" ∷ workers.now ∷ shards.now ∷ []) result }
+{
+    let Some(workers) = crew_number(workers) else {
+        return Request::Nothing;
+    };
+    match crew_number(shards) {
+        Some(shards) => Request::Run { workers, shards },
+        None => Request::Nothing,
+    }
+}
+
+/// What another word, an id and a root ask for.
 fn asked_handle(word: &[u8], id: &[u8], root: &[u8]) -> Request
+    requires { word.now ≢ codes "run" }
     ensures { Asks (word.now ∷ id.now ∷ root.now ∷ []) result }
 {
     let Some(named) = handle_of(word, id, root) else {
@@ -152,7 +189,7 @@ fn handle_of(word: &[u8], id: &[u8], root: &[u8]) -> Option<(u64, [u8; 32])>
     Some((number, bytes))
 }
 
-/// The number of workers that a plain decimal is.
+/// The number of workers, or of shards, that a plain decimal is.
 fn crew_number(text: &[u8]) -> Option<u32>
     ensures { (n : ℕ) → (result ≡ Some n) ↔ IsCrew n text.now }
 {

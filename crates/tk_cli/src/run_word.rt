@@ -18,15 +18,17 @@ use tk_cluster::Closed;
 use tk_io::{Gate, Sink, Source, Taps};
 use tk_report::{Outcome, ends, one_history};
 use tk_run::{RunError, threads};
-use tk_script::Script;
+use tk_script::{Form, Script};
 use tk_words::Book;
 
-/// Who runs: its threads, the gate that they come to, and how many answer reads.
+/// Who runs: its threads, the gate that they come to, how many answer reads, and over how many shards of a server's
+/// buckets.
 #[derive(Drop)]
 pub(crate) struct Crew<'a, R, G> {
     pub rt: &'a R,
     pub gate: &'a G,
     pub workers: u32,
+    pub shards: u32,
 }
 
 /// The word `run`.
@@ -38,14 +40,15 @@ pub(crate) fn run_threads<
     G: Gate,
 >(crew: &Crew<R, G>, source: &mut S, sink: &mut K, taps: &mut T) -> Ended
     requires workers { (1 ≤ crew.now.workers) × (crew.now.workers ≤ 64) }
-    ensures { Ends (Request.Run crew.now.workers) result
+    requires shards { (1 ≤ crew.now.shards) × (crew.now.shards ≤ 64) }
+    ensures { Ends (Request.Run crew.now.workers crew.now.shards) result
         (outside (S.left source.old) (S.faults source.old) (K.held sink.old) (K.faults sink.old)
         (T.tap taps.old) (T.faults taps.old))
         (outside (S.left source.new) (S.faults source.new) (K.held sink.new) (K.faults sink.new)
         (T.tap taps.new) (T.faults taps.new)) }
 {
     let alloc = crew.rt.alloc();
-    let (script, book) = match ready(alloc, source) {
+    let (script, book) = match ready(alloc, source, Form::Run) {
         Ok(input) => input,
         Err(status) => return Ended::without(status),
     };
@@ -66,6 +69,7 @@ fn threads_by<R: Threads + Wait + Sync + AllocGlobal, T: Taps, G: Gate>(
     taps: &mut T,
 ) -> Result<(Outcome, Closed), RunError>
     requires workers { (1 ≤ crew.now.workers) × (crew.now.workers ≤ 64) }
+    requires shards { (1 ≤ crew.now.shards) × (crew.now.shards ≤ 64) }
     requires one_shape { shape_of book.now ≡ script.now.shape }
     ensures run { CameAbout script.now (words_in book.now) result
         (T.tap taps.old) (T.tap taps.new) }
@@ -73,9 +77,9 @@ fn threads_by<R: Threads + Wait + Sync + AllocGlobal, T: Taps, G: Gate>(
         → Rose (T.faults taps.old) (T.faults taps.new)) }
     ensures counts { T.faults taps.old ≤ T.faults taps.new }
 {
-    let workers = crew.workers;
+    let (workers, shards) = (crew.workers, crew.shards);
     match book {
-        Book::Keyed(draws) => threads(crew.rt, script, draws, taps, crew.gate, workers, 1),
-        Book::Drawn(draws) => threads(crew.rt, script, draws, taps, crew.gate, workers, 1),
+        Book::Keyed(draws) => threads(crew.rt, script, draws, taps, crew.gate, workers, shards),
+        Book::Drawn(draws) => threads(crew.rt, script, draws, taps, crew.gate, workers, shards),
     }
 }

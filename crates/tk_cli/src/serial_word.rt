@@ -13,13 +13,12 @@ ghost use Rattle.tk_cli.specs.Outside.{outside};
 use crate::ended::Ended;
 use crate::input::ready;
 use crate::request::Request;
-use crate::status::Status;
-use crate::telling::tell;
+use crate::telling::tell_left;
 use std::alloc::Global;
 use tk_io::{Sink, Source, Taps};
 use tk_report::{Outcome, ends};
 use tk_run::{RunError, serial};
-use tk_script::Script;
+use tk_script::{Form, Script};
 use tk_words::Book;
 
 /// The word `serial`.
@@ -35,16 +34,13 @@ pub(crate) fn run_serial<S: Source, K: Sink, T: Taps>(
         (outside (S.left source.new) (S.faults source.new) (K.held sink.new) (K.faults sink.new)
         (T.tap taps.new) (T.faults taps.new)) }
 {
-    let (script, book) = match ready(alloc, source) {
+    let (script, book) = match ready(alloc, source, Form::Run) {
         Ok(input) => input,
         Err(status) => return Ended::without(status),
     };
-    let outcome = match serial_by(alloc, &script, &book, taps) {
-        Ok(outcome) => outcome,
-        Err(error) => return Ended::without(Status::from(error)),
-    };
+    let left = serial_by(alloc, &script, &book, taps);
     ends();
-    tell(alloc, outcome, None, sink)
+    tell_left(alloc, left, sink)
 }
 
 /// What the serial run of a script by the words of a book leaves.

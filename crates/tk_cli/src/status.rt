@@ -1,5 +1,5 @@
 ghost use Rattle.std.specs.Prelude.{◌≡◌, ◌++◌, OnOk, OnErr};
-ghost use Rattle.tk_cli.specs.StatusLines.{code_of, differing_text, hidden_text, shapes_text, status_text};
+ghost use Rattle.tk_cli.specs.StatusLines.{code_of, differing_text, hidden_text, phase_text, shapes_text, status_text};
 
 use std::alloc::Global;
 use tk_script::{Cause, push_cause, push_field, push_number};
@@ -7,7 +7,7 @@ use tk_shape::{Field, Memory};
 
 /// How the top call ended. In order: the words are asked first, then what is read, then what is written. What is read is
 /// asked for its first line that is refused, for its tape and what that becomes, for the shapes of its scripts, for its
-/// history, and then for the server that the words name.
+/// history, and then for the server or the epoch that the words name.
 #[derive(Clone, Copy, Debug, PartialEq, Eq)]
 pub enum Status {
     /// All was read to its end, done and written.
@@ -34,6 +34,8 @@ pub enum Status {
     Hidden { got: u32, servers: u32 },
     /// In format 2 the tape would have this many bytes, more than 2,097,152.
     Wide { want: u64 },
+    /// The words name an epoch past the last, which is that of the last phase.
+    Phase { got: u32, phases: u32 },
 }
 
 impl Status {
@@ -54,6 +56,7 @@ impl Status {
             Status::Tape { .. } => 9,
             Status::Hidden { .. } => 10,
             Status::Wide { .. } => 12,
+            Status::Phase { .. } => 13,
         }
     }
 }
@@ -101,6 +104,7 @@ fn push_text(alloc: Global, status: &Status, out: &mut Vec<u8>) -> Result<(), Me
             out.extend_from_slice(b"talek: tape over")?;
             push_field(alloc, *want, out)?;
         }
+        Status::Phase { got, phases } => push_phase(alloc, *got, *phases, out)?,
     }
     Ok(())
 }
@@ -131,4 +135,14 @@ fn push_hidden(alloc: Global, got: u32, servers: u32, out: &mut Vec<u8>) -> Resu
     push_field(alloc, u64::from(got), out)?;
     out.extend_from_slice(b" of")?;
     push_field(alloc, u64::from(servers), out)
+}
+
+/// Appends what tells of an epoch, and how many phases there are.
+fn push_phase(alloc: Global, got: u32, phases: u32, out: &mut Vec<u8>) -> Result<(), Memory>
+    ensures { OnOk result (out.new.items ≡ out.old.items ++ phase_text got phases) }
+{
+    out.extend_from_slice(b"talek: phase")?;
+    push_field(alloc, u64::from(got), out)?;
+    out.extend_from_slice(b" of")?;
+    push_field(alloc, u64::from(phases), out)
 }

@@ -1,6 +1,7 @@
 //! What is written to the sink.
-ghost use Rattle.std.specs.Prelude.{◌≡◌, ◌≤◌, IfOk, IfErr};
+ghost use Rattle.std.specs.Prelude.{◌≡◌, ◌≤◌, None, IfOk, IfErr};
 ghost use Rattle.tk_report.specs.Outcomes.{outcome_text};
+ghost use Rattle.tk_cli.specs.Errors.{run_status};
 ghost use Rattle.tk_cli.specs.Puts.{Puts, PutsNothing};
 ghost use Rattle.tk_cli.specs.Endings.{HandsAs, HandsNothing};
 
@@ -10,6 +11,7 @@ use std::alloc::Global;
 use tk_cluster::Closed;
 use tk_io::{Sink, put_all};
 use tk_report::{Outcome, print_outcome};
+use tk_run::RunError;
 
 /// Writes a text to a sink at once.
 pub(crate) fn put<K: Sink>(text: &[u8], sink: &mut K) -> Status
@@ -63,5 +65,26 @@ pub(crate) fn tell<K: Sink>(
         status,
         outcome: Some(outcome),
         closed,
+    }
+}
+
+/// Writes the report of what a run without a cluster left to a sink, as `tell` does; or tells why it left nothing.
+pub(crate) fn tell_left<K: Sink>(
+    alloc: Global,
+    left: Result<Outcome, RunError>,
+    sink: &mut K,
+) -> Ended
+    ensures puts { IfOk left (λ outcome. Puts result.status (outcome_text outcome)
+        (K.held sink.old) (K.held sink.new) (K.faults sink.old) (K.faults sink.new)) }
+    ensures handed { IfOk left (λ outcome. HandsAs result.status result outcome None) }
+    ensures status { IfErr left (λ e. result.status ≡ run_status e) }
+    ensures nothing { IfErr left (λ e. HandsNothing result) }
+    ensures quiet { IfErr left (λ e. PutsNothing (K.held sink.old) (K.held sink.new)
+        (K.faults sink.old) (K.faults sink.new)) }
+    ensures counts { K.faults sink.old ≤ K.faults sink.new }
+{
+    match left {
+        Ok(outcome) => tell(alloc, outcome, None, sink),
+        Err(error) => Ended::without(Status::from(error)),
     }
 }

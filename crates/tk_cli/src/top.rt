@@ -9,7 +9,9 @@ use crate::handle_word::handle_line;
 use crate::lift_word::lift_text;
 use crate::make_word::make_text;
 use crate::mirror_word::mirror_text;
+use crate::relay_word::run_relayed;
 use crate::request::{Request, request_of};
+use crate::resume_word::run_resumed;
 use crate::run_word::{Crew, run_threads};
 use crate::serial_word::run_serial;
 use crate::status::Status;
@@ -44,7 +46,17 @@ pub fn talek<R: Threads + Wait + Sync + AllocGlobal, S: Source, K: Sink, T: Taps
     let alloc = rt.alloc();
     match request_of(words) {
         Request::Serial => run_serial(alloc, source, sink, taps),
-        Request::Run { workers } => run_threads(&Crew { rt, gate, workers }, source, sink, taps),
+        Request::Relay => run_relayed(alloc, source, sink, taps),
+        Request::Resume { epoch } => run_resumed(alloc, epoch, source, sink, taps),
+        Request::Run { workers, shards } => {
+            let crew = Crew {
+                rt,
+                gate,
+                workers,
+                shards,
+            };
+            run_threads(&crew, source, sink, taps)
+        }
         Request::View { server } => answer(view_text(alloc, server, source), sink),
         Request::Mirror { hidden } => answer(mirror_text(alloc, hidden, source), sink),
         Request::Wrong { hidden } => answer(wrong_text(alloc, hidden, source), sink),

@@ -1,6 +1,7 @@
 -- How a run with threads ends.
 use Rattle.std.proofs.Common.{◌∙◌, refl, arith}
 use Rattle.std.specs.Prelude.{Some, Ok, Err, Result}
+use Rattle.tk_script.specs.declared.form.Form.TheVariants as form
 use Rattle.tk_script.specs.declared.script.Script.{Script}
 use Rattle.tk_words.specs.Words.{WordBook, words_of}
 use Rattle.tk_script.specs.Book.{book_of}
@@ -19,11 +20,11 @@ use Rattle.tk_cli.proofs.run_word.run_threads.Goals as goal
 
 pub returns-in-Err : goal.returns-in-Err
 returns-in-Err g c =
-    early (request.Run c.args.crew.now.workers) (run-reads c.args.crew.now.workers) c.without.result _ _
+    early (request.Run c.args.crew.now.workers c.args.crew.now.shards) (run-reads c.args.crew.now.workers c.args.crew.now.shards) c.without.result _ _
     (record { source = c.ready.ensures.counts; sink = omega arith; taps = omega arith })
     c.in-Err.status c.without.ensures.status c.without.ensures.nothing c.in-Err.ensures.taken
     (record { held = refl; faults = refl }) (record { tap = λ j. refl; faults = refl })
-    (c.in-Err.ensures.stopped (request.Run c.args.crew.now.workers) tt)
+    (c.in-Err.ensures.stopped (request.Run c.args.crew.now.workers c.args.crew.now.shards) refl)
 
 pub returns-in-Err-threads_by : goal.returns-in-Err-threads_by
 returns-in-Err-threads_by g c =
@@ -34,10 +35,10 @@ returns-in-Err-threads_by g c =
     let ready = c.in-Ok.ensures.ready in
     let e = c.in-Err-threads_by.error in
     let refused : Result (Outcome × Closed) RunError = Err e in
-    let came = as-input left left' c.in-Ok.input.0 c.in-Ok.input.1 ready
+    let came = as-input form.Run left left' c.in-Ok.input.0 c.in-Ok.input.1 ready
     (λ (S : Script) (b : WordBook). CameAbout S b refused tap tap')
     c.in-Err-threads_by.ensures.run in
-    run-early (request.Run c.args.crew.now.workers) (run-reads c.args.crew.now.workers) c.without-in-Err-threads_by.result _ _
+    run-early (request.Run c.args.crew.now.workers c.args.crew.now.shards) (run-reads c.args.crew.now.workers c.args.crew.now.shards) c.without-in-Err-threads_by.result _ _
     (record {
       source = c.ready.ensures.counts;
       sink = omega arith;
@@ -49,7 +50,8 @@ returns-in-Err-threads_by g c =
     (record {
       input = ready.input;
       history = came.history;
-      due = run-due left left' c.in-Ok.input.0 c.in-Ok.input.1 ready c.args.crew.now.workers came.history came.legal;
+      due = run-due form.Run left left' c.in-Ok.input.0 c.in-Ok.input.1 ready c.args.crew.now.workers
+          c.args.crew.now.shards came.history refl came.legal;
       taps = record { gained = came.taps.err; others = came.taps.others };
     })
     c.in-Err-threads_by.ensures.rose
@@ -67,7 +69,7 @@ returns g c =
     let o = ran.0 in
     let e = c.tell.result in
     let answer : Result (Outcome × Closed) RunError = Ok ran in
-    let came = as-input left left' c.in-Ok.input.0 c.in-Ok.input.1 ready
+    let came = as-input form.Run left left' c.in-Ok.input.0 c.in-Ok.input.1 ready
     (λ (S : Script) (b : WordBook). CameAbout S b answer tap tap')
     c.in-Ok-threads_by.ensures.run in
     let H = came.history in
@@ -75,15 +77,16 @@ returns g c =
     (g.K.Sink.faults c.args.sink.now) tap (g.T.Taps.faults c.args.taps.now) in
     let new = outside left' (g.S.Source.faults c.ready.new.source) (g.K.Sink.held c.tell.new.sink)
     (g.K.Sink.faults c.tell.new.sink) tap' (g.T.Taps.faults c.threads_by.new.taps) in
-    run-told (request.Run c.args.crew.now.workers) (run-reads c.args.crew.now.workers) e old new
+    run-told (request.Run c.args.crew.now.workers c.args.crew.now.shards) (run-reads c.args.crew.now.workers c.args.crew.now.shards) e old new
     (record {
       source = c.ready.ensures.counts;
       sink = c.tell.ensures.counts;
       taps = c.threads_by.ensures.counts;
     })
     c.in-Ok.input c.in-Ok.ensures.taken (λ no. no) (outcome_text o)
-    (told (request.Run c.args.crew.now.workers) e old new input H (outcome_text o) o (Some ran.1)
-    (run-due left left' c.in-Ok.input.0 c.in-Ok.input.1 ready c.args.crew.now.workers H came.legal)
+    (told (request.Run c.args.crew.now.workers c.args.crew.now.shards) e old new input H (outcome_text o) o (Some ran.1)
+    (run-due form.Run left left' c.in-Ok.input.0 c.in-Ok.input.1 ready c.args.crew.now.workers
+    c.args.crew.now.shards H refl came.legal)
     (record { gained = came.taps.ok; others = came.taps.others })
     (record {
       gained = fronts-of_all input.first.shape.servers (seen_in input H) tap tap' came.taps.ok;

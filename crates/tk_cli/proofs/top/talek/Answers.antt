@@ -20,10 +20,29 @@ returns-in-Serial g c =
       ends = ends-as words request.Serial c.run_serial.result _ _ c.in-Serial.ensures ends;
     }
 
+pub returns-in-Relay : goal.returns-in-Relay
+returns-in-Relay g c =
+    let words = c.args.words.now in
+    let ends = c.run_relayed.ensures in
+    record {
+      usage = usage-is words request.Relay c.run_relayed.result _ _ c.in-Relay.ensures ends;
+      ends = ends-as words request.Relay c.run_relayed.result _ _ c.in-Relay.ensures ends;
+    }
+
+pub returns-in-Resume : goal.returns-in-Resume
+returns-in-Resume g c =
+    let words = c.args.words.now in
+    let q = request.Resume c.in-Resume.epoch in
+    let ends = c.run_resumed.ensures in
+    record {
+      usage = usage-is words q c.run_resumed.result _ _ c.in-Resume.ensures ends;
+      ends = ends-as words q c.run_resumed.result _ _ c.in-Resume.ensures ends;
+    }
+
 pub returns-in-Run : goal.returns-in-Run
 returns-in-Run g c =
     let words = c.args.words.now in
-    let q = request.Run c.in-Run.workers in
+    let q = request.Run c.in-Run.workers c.in-Run.shards in
     let ends = c.run_threads.ensures in
     record {
       usage = usage-is words q c.run_threads.result _ _ c.in-Run.ensures ends;
@@ -32,7 +51,11 @@ returns-in-Run g c =
 
 pub run_threads-requires-clause-workers : goal.run_threads-requires-clause-workers
 run_threads-requires-clause-workers g c κs within =
-    crew-of c.args.words.now c.in-Run.workers c.in-Run.ensures
+    (crew-of c.args.words.now c.in-Run.workers c.in-Run.shards c.in-Run.ensures).0
+
+pub run_threads-requires-clause-shards : goal.run_threads-requires-clause-shards
+run_threads-requires-clause-shards g c κs within =
+    (crew-of c.args.words.now c.in-Run.workers c.in-Run.shards c.in-Run.ensures).1
 
 pub returns-in-View : goal.returns-in-View
 returns-in-View g c =

@@ -1,0 +1,68 @@
+-- How a run ends that begins anew at an epoch.
+use Rattle.std.proofs.Common.{refl, arith}
+use Rattle.tk_cli.specs.declared.request.Request.TheVariants as request
+use Rattle.tk_script.specs.declared.form.Form.TheVariants as form
+use Rattle.tk_cli.specs.Outside.{outside}
+use Rattle.tk_cli.proofs.SerialLaws.{serial-ends, resume-runs, serial_seen}
+use Rattle.tk_cli.proofs.WordLaws.{resume-reads, early, late, phase-short, resume-due, resume-stops}
+use Rattle.tk_cli.proofs.resume_word.run_resumed.Goals as goal
+
+pub returns-in-Err : goal.returns-in-Err
+returns-in-Err g c =
+    early (request.Resume c.args.epoch) (resume-reads c.args.epoch) c.without.result _ _
+    (record { source = c.ready.ensures.counts; sink = omega arith; taps = omega arith })
+    c.in-Err.status c.without.ensures.status c.without.ensures.nothing c.in-Err.ensures.taken
+    (record { held = refl; faults = refl }) (record { tap = λ j. refl; faults = refl })
+    (c.in-Err.ensures.stopped (request.Resume c.args.epoch) refl)
+
+pub returns-in-Err-epoch_in : goal.returns-in-Err-epoch_in
+returns-in-Err-epoch_in g c =
+    let left = g.S.Source.left c.args.source.now in
+    let left' = g.S.Source.left c.ready.new.source in
+    let ready = c.in-Ok.ensures.ready in
+    let script = c.in-Ok.input.0 in
+    let book = c.in-Ok.input.1 in
+    let s = c.in-Err-epoch_in.status in
+    late (request.Resume c.args.epoch) (resume-reads c.args.epoch)
+    c.without-in-Err-epoch_in.result _ _
+    (record { source = c.ready.ensures.counts; sink = omega arith; taps = omega arith })
+    c.in-Ok.input s c.without-in-Err-epoch_in.ensures.status
+    (phase-short form.Run left left' script book ready c.args.epoch s
+    c.in-Err-epoch_in.ensures.phase)
+    c.without-in-Err-epoch_in.ensures.nothing c.in-Ok.ensures.taken
+    (record { held = refl; faults = refl }) (record { tap = λ j. refl; faults = refl })
+    (resume-stops form.Run left left' script book ready c.args.epoch s _ _ refl
+    c.in-Err-epoch_in.ensures.phase c.in-Err-epoch_in.ensures.err)
+
+pub returns : goal.returns
+returns g c =
+    let left = g.S.Source.left c.args.source.now in
+    let left' = g.S.Source.left c.ready.new.source in
+    let script = c.in-Ok.input.0 in
+    let book = c.in-Ok.input.1 in
+    let ready = c.in-Ok.ensures.ready in
+    let ran = c.resumed_by-left.ensures in
+    let told = c.tell_left.ensures in
+    let old = outside left (g.S.Source.faults c.args.source.now) (g.K.Sink.held c.args.sink.now)
+    (g.K.Sink.faults c.args.sink.now) (g.T.Taps.tap c.args.taps.now)
+    (g.T.Taps.faults c.args.taps.now) in
+    let new = outside left' (g.S.Source.faults c.ready.new.source)
+    (g.K.Sink.held c.tell_left.new.sink) (g.K.Sink.faults c.tell_left.new.sink)
+    (g.T.Taps.tap c.resumed_by-left.new.taps) (g.T.Taps.faults c.resumed_by-left.new.taps) in
+    serial-ends (request.Resume c.args.epoch) serial_seen (resume-runs c.args.epoch) c.tell_left.result old new
+    (record {
+      source = c.ready.ensures.counts;
+      sink = told.counts;
+      taps = ran.counts;
+    })
+    c.ends.ensures.outcome c.in-Ok.input c.in-Ok.ensures.taken form.Run script book ready
+    (resume-due form.Run left left' script book ready c.args.epoch refl c.in_default.ensures.ok) c.resumed_by-left.result
+    (record { left_by = ran.left; ok = ran.ok; err = ran.err; others = ran.others })
+    (record {
+      puts = told.puts;
+      handed = told.handed;
+      status = told.status;
+      nothing = told.nothing;
+      quiet = told.quiet;
+    })
+    ran.rose

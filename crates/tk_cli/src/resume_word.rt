@@ -1,0 +1,80 @@
+//! The word `resume`: the report of an input's serial run in which the servers begin anew at an epoch, from what server 1
+//! had then.
+ghost use Rattle.std.specs.Prelude.{◌≡◌, ◌≤◌, IfOk, IfErr, OnOk, OnErr};
+ghost use Rattle.tk_io.specs.Content.{Rose};
+ghost use Rattle.tk_io.specs.Tapped.{TapsGain, TapsGainFronts, TapsKeepBut};
+ghost use Rattle.tk_schedule.specs.Schedule.{serial_history};
+ghost use Rattle.tk_words.specs.Words.{words_of};
+ghost use Rattle.tk_words.specs.Book.{shape_of, words_in};
+ghost use Rattle.tk_report.specs.Exchange.{exchange, bytes_of};
+ghost use Rattle.tk_report.specs.Outcomes.{IsLeftBy};
+ghost use Rattle.tk_cli.specs.Endings.{Ends};
+ghost use Rattle.tk_cli.specs.Outside.{outside};
+
+use crate::ended::Ended;
+use crate::input::{epoch_in, ready};
+use crate::request::Request;
+use crate::telling::tell_left;
+use std::alloc::Global;
+use tk_io::{Sink, Source, Taps};
+use tk_report::{Outcome, ends};
+use tk_run::{RunError, resumed};
+use tk_script::{Form, Script};
+use tk_words::Book;
+
+/// The word `resume` and an epoch.
+pub(crate) fn run_resumed<S: Source, K: Sink, T: Taps>(
+    alloc: Global,
+    epoch: u32,
+    source: &mut S,
+    sink: &mut K,
+    taps: &mut T,
+) -> Ended
+    ensures { Ends (Request.Resume epoch) result
+        (outside (S.left source.old) (S.faults source.old) (K.held sink.old) (K.faults sink.old)
+        (T.tap taps.old) (T.faults taps.old))
+        (outside (S.left source.new) (S.faults source.new) (K.held sink.new) (K.faults sink.new)
+        (T.tap taps.new) (T.faults taps.new)) }
+{
+    let (script, book) = match ready(alloc, source, Form::Run) {
+        Ok(input) => input,
+        Err(status) => return Ended::without(status),
+    };
+    if let Err(status) = epoch_in(&script.shape, epoch) {
+        return Ended::without(status);
+    }
+    let left = resumed_by(alloc, &script, &book, taps, epoch);
+    ends();
+    tell_left(alloc, left, sink)
+}
+
+/// What the run of a script by the words of a book leaves that begins anew at an epoch.
+fn resumed_by<T: Taps>(
+    alloc: Global,
+    script: &Script,
+    book: &Book,
+    taps: &mut T,
+    epoch: u32,
+) -> Result<Outcome, RunError>
+    requires one_shape { shape_of book.now ≡ script.now.shape }
+    requires within { epoch ≤ script.now.shape.phases }
+    ensures left { let words = words_of script.now.shape (words_in book.now) in
+        IfOk result (IsLeftBy script.now words (serial_history script.now.shape)) }
+    ensures ok { let history = serial_history script.now.shape in
+        OnOk result (TapsGain script.now.shape.servers
+        (λ j. bytes_of (exchange script.now (words_in book.now) history j))
+        (T.tap taps.old) (T.tap taps.new)) }
+    ensures err { let history = serial_history script.now.shape in
+        OnErr result (TapsGainFronts script.now.shape.servers
+        (λ j. bytes_of (exchange script.now (words_in book.now) history j))
+        (T.tap taps.old) (T.tap taps.new)) }
+    ensures others { TapsKeepBut script.now.shape.servers (T.tap taps.old) (T.tap taps.new) }
+    ensures rose { IfErr result (λ e. e ≡ RunError.Taps
+        → Rose (T.faults taps.old) (T.faults taps.new)) }
+    ensures counts { T.faults taps.old ≤ T.faults taps.new }
+{
+    match book {
+        Book::Keyed(draws) => resumed(alloc, script, draws, taps, epoch),
+        Book::Drawn(draws) => resumed(alloc, script, draws, taps, epoch),
+    }
+}
