@@ -37,20 +37,6 @@ fn lengths_of(traces: &Traces) -> (usize, usize, usize) {
     (traces.left, traces.written.len(), tapped)
 }
 
-/// Whether the sink and each tap have a front of what a whole run leaves.
-fn is_front(traces: &Traces, whole: &Traces) -> bool {
-    let written = whole
-        .written
-        .as_slice()
-        .starts_with(traces.written.as_slice());
-    let first = whole.first.as_slice().starts_with(traces.first.as_slice());
-    let second = whole
-        .second
-        .as_slice()
-        .starts_with(traces.second.as_slice());
-    written && first && second
-}
-
 #[test]
 fn faults_of_serial_runs(rt: HostRuntime) -> Result<(), Fail> {
     let words = ["serial"].as_slice();
@@ -66,7 +52,7 @@ fn faults_of_serial_runs(rt: HostRuntime) -> Result<(), Fail> {
                 lengths(object, call),
                 "at {object:?} {call}"
             );
-            assert!(rt; is_front(&traces, &whole), "at {object:?} {call}");
+            assert!(rt; traces.is_front_of(&whole), "at {object:?} {call}");
         }
         assert_eq!(rt;
             traces_of(&rt, words, ONE_TEXT, object, calls.saturating_add(1))?,

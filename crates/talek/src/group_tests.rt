@@ -83,8 +83,9 @@ fn made_group_twice(rt: HostRuntime) -> Result<(), Fail> {
     Ok(())
 }
 
+// four workers answer over the whole of a server's buckets, and two over three shards of them
 #[test]
-fn run_of_four_workers(rt: HostRuntime) -> Result<(), Fail> {
+fn runs_of_several_workers(rt: HostRuntime) -> Result<(), Fail> {
     let alloc = rt.alloc();
     let script = generate(alloc, 1)?;
     let Ok(Book::Keyed(draws)) = script.book(alloc, None) else {
@@ -92,10 +93,12 @@ fn run_of_four_workers(rt: HostRuntime) -> Result<(), Fail> {
     };
     let mut text = Vec::new(alloc);
     print(&script, &mut text)?;
-    let ((status, left, _), written) = tried(&rt, &["run", "4"], text.as_slice())?;
-    assert_eq!(rt; (status, left), (Status::Done, 0));
-    let told = retold(alloc, &script, &draws, written.as_slice())?;
-    assert_eq!(rt; written, told);
+    for words in [["run", "4"].as_slice(), &["run", "2", "3"]] {
+        let ((status, left, _), written) = tried(&rt, words, text.as_slice())?;
+        assert_eq!(rt; (status, left), (Status::Done, 0));
+        let told = retold(alloc, &script, &draws, written.as_slice())?;
+        assert_eq!(rt; written, told);
+    }
     Ok(())
 }
 

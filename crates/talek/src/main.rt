@@ -19,7 +19,11 @@ mod group_tests;
 #[cfg(test)]
 mod refusal_tests;
 #[cfg(test)]
+mod relay_tests;
+#[cfg(test)]
 mod report_tests;
+#[cfg(test)]
+mod resume_tests;
 #[cfg(test)]
 mod schedule_tests;
 #[cfg(test)]

@@ -52,7 +52,7 @@ reads 2 1 1 1
 
 /// Three clients and three logs: one whose writer follows it, and one that nobody follows. The window has two writes of
 /// each turn's three, and one text is left over.
-const LARGER: &[u8] = b"talek 1
+pub(crate) const LARGER: &[u8] = b"talek 1
 shape 2 8 2 2 24 64 1 0 3 2 2 3
 drawn
 log 2 0 2
@@ -100,7 +100,7 @@ end
 ";
 
 /// A script of which every write wants one bucket of one slot, where five are retained.
-const ONE_BUCKET: &[u8] = b"talek 1
+pub(crate) const ONE_BUCKET: &[u8] = b"talek 1
 shape 4 64 1 5 32 64 2 0 3 4 1 1
 drawn
 log 1 2
@@ -110,7 +110,7 @@ fill 00 1440
 end
 ";
 
-const ONE_BUCKET_REPORT: &[u8] = b"report
+pub(crate) const ONE_BUCKET_REPORT: &[u8] = b"report
 order 1 1 0 1 2 mark
 reads 1 1 0 0 0
 order 2 1 0 1 2 mark

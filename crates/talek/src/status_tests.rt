@@ -75,6 +75,11 @@ fn status_lines(rt: HostRuntime) -> Result<(), Fail> {
             "talek: tape over 4528640",
             12,
         ),
+        (
+            Status::Phase { got: 3, phases: 2 },
+            "talek: phase 3 of 2",
+            13,
+        ),
     ] {
         assert!(rt; is_told(alloc, &status, line, code)?, "at {line}");
     }

@@ -1,6 +1,5 @@
 use crate::report_tests::LARGER_REPORT;
-use crate::testing::{ONE_TEXT, REPORT, run_tapped, source_of, taps_of};
-use std::alloc::{AllocError, Global};
+use crate::testing::{ONE_TEXT, REPORT, digits_of, run_tapped, source_of, taps_of};
 use std::test::Fail;
 use tk_cli::Status;
 use tk_io::MemSink;
@@ -83,15 +82,6 @@ const SECOND: &str =
 000000000000000000000000000000000000000000000000000000000000000000000000000000000000000000000000
 000000000000000000000000
 ";
-
-/// The digits of lines, one after the other.
-fn digits_of(alloc: Global, lines: &str) -> Result<Vec<u8>, AllocError> {
-    let mut digits = Vec::new(alloc);
-    for line in lines.as_bytes().split(|byte| *byte == b'\n') {
-        digits.extend_from_slice(line)?;
-    }
-    Ok(digits)
-}
 
 /// Eight servers, three clients and three logs, as in the larger run of two servers.
 const EIGHT: &[u8] = b"talek 1

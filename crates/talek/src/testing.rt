@@ -134,6 +134,15 @@ pub(crate) fn joined(alloc: Global, parts: &[&[u8]]) -> Result<Vec<u8>, AllocErr
     Ok(all)
 }
 
+/// The digits of lines, one after the other.
+pub(crate) fn digits_of(alloc: Global, lines: &str) -> Result<Vec<u8>, AllocError> {
+    let mut digits = Vec::new(alloc);
+    for line in lines.as_bytes().split(|byte| *byte == b'\n') {
+        digits.extend_from_slice(line)?;
+    }
+    Ok(digits)
+}
+
 /// The report for the history that a report tells.
 pub(crate) fn retold<D: Draws>(
     alloc: Global,

@@ -28,6 +28,10 @@ fn run_with_threads(rt: HostRuntime) -> Result<(), Fail> {
         &["run", "1"],
         &["run", "2"],
         &["run", "64"],
+        &["run", "2", "64"],
+        &["run", "1", "8"],
+        &["run", "7", "3"],
+        &["run", "64", "64"],
     ] {
         let words = words_of(alloc, words)?;
         let mut source = MemSource::new(ONE_TEXT.to_vec(alloc)?, 4096, Vec::new(alloc));

@@ -25,6 +25,19 @@ pub(crate) struct Traces {
     pub second: Vec<u8>,
 }
 
+impl Traces {
+    /// Whether the sink and each tap have a front of what a whole run leaves.
+    pub(crate) fn is_front_of(&self, whole: &Traces) -> bool {
+        let written = whole
+            .written
+            .as_slice()
+            .starts_with(self.written.as_slice());
+        let first = whole.first.as_slice().starts_with(self.first.as_slice());
+        let second = whole.second.as_slice().starts_with(self.second.as_slice());
+        written && first && second
+    }
+}
+
 /// What words leave behind where one of an object's calls fails, counted from 1; at 0 none does.
 pub(crate) fn traces_of<R: AllocGlobal + Threads + Wait + Sync>(
     rt: &R,
