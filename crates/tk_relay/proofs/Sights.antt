@@ -11,11 +11,30 @@ use Rattle.tk_relay.specs.Bundles.{part_for, bundle_frame}
 use Rattle.tk_relay.specs.Serving.{sums_for, served_part}
 use Rattle.tk_relay.specs.Sights.{Reading, frames_for, AreBuckets, AreBlocks, units_of, blocks_at}
 use Rattle.tk_relay.specs.Sights.{sight, moved_last, moved_pads}
-use Rattle.tk_relay.specs.Laws.{SameSight, MovedBack}
+use Rattle.tk_relay.specs.Laws.{SameSight, MovedBack, MovedStay}
 use Rattle.tk_relay.proofs.Lists.{map-same}
 use Rattle.tk_relay.proofs.Masks.{moved-counted, moved-each, other-shows, last-shows, back}
 use Rattle.tk_relay.proofs.Asking.{vectors_for, part-at, served-at, drawn-asked, all_drawn}
 use Rattle.tk_relay.proofs.Asking.{last-asked, last-replied, units-sized, blocks-sized}
+
+-- the moved pads are pads too
+pub moved_stay : MovedStay
+unfolding moved_pads
+moved_stay shape blocks pads old new whole are from to =
+    record {
+      requests_counted = moved-counted shape (vector_len shape) pads.requests
+          are.requests_counted are.requests_sized (units_of shape old) (units_of shape new)
+          (units-sized shape old) (units-sized shape new);
+      requests_sized = moved-each shape (vector_len shape) pads.requests
+          are.requests_counted are.requests_sized (units_of shape old) (units_of shape new)
+          (units-sized shape old) (units-sized shape new);
+      replies_counted = moved-counted shape (width shape) pads.replies are.replies_counted
+          are.replies_sized (blocks_at blocks old) (blocks_at blocks new)
+          (blocks-sized shape blocks old whole from) (blocks-sized shape blocks new whole to);
+      replies_sized = moved-each shape (width shape) pads.replies are.replies_counted
+          are.replies_sized (blocks_at blocks old) (blocks_at blocks new)
+          (blocks-sized shape blocks old whole from) (blocks-sized shape blocks new whole to);
+    }
 
 module _ (shape : Shape) (blocks : List (List ℕ)) (pads : PadLists) (r : Reading) (old new : ℕ × ℕ)
     (whole : AreBlocks shape blocks) (are : ArePads shape pads) (vectors : AreWhole shape r.drawn)
@@ -28,22 +47,7 @@ module _ (shape : Shape) (blocks : List (List ℕ)) (pads : PadLists) (r : Readi
 
   -- the moved pads are pads too
   still-pads : ArePads shape (moved_pads shape blocks old new pads)
-  unfolding moved_pads
-  still-pads =
-      record {
-        requests_counted = moved-counted shape (vector_len shape) pads.requests
-            are.requests_counted are.requests_sized (units_of shape old) (units_of shape new)
-            (units-sized shape old) (units-sized shape new);
-        requests_sized = moved-each shape (vector_len shape) pads.requests
-            are.requests_counted are.requests_sized (units_of shape old) (units_of shape new)
-            (units-sized shape old) (units-sized shape new);
-        replies_counted = moved-counted shape (width shape) pads.replies are.replies_counted
-            are.replies_sized (blocks_at blocks old) (blocks_at blocks new)
-            (blocks-sized shape blocks old whole from) (blocks-sized shape blocks new whole to);
-        replies_sized = moved-each shape (width shape) pads.replies are.replies_counted
-            are.replies_sized (blocks_at blocks old) (blocks_at blocks new)
-            (blocks-sized shape blocks old whole from) (blocks-sized shape blocks new whole to);
-      }
+  still-pads = moved_stay shape blocks pads old new whole are from to
 
   -- what server j is asked, as it stands in the bundle
   asked-shows : (j : ℕ) → 1 ≤ j → j < 1 + shape.servers →

@@ -34,6 +34,13 @@ MovedBack =
     AreBlocks shape blocks → ArePads shape pads → AreBuckets shape old → AreBuckets shape new →
     moved_pads shape blocks new old (moved_pads shape blocks old new pads) ≡ pads
 
+-- and moved they are pads of the shape
+abbrev pub MovedStay : Type 0
+MovedStay =
+    (shape : Shape) (blocks : List (List ℕ)) (pads : PadLists) (old new : ℕ × ℕ) →
+    AreBlocks shape blocks → ArePads shape pads → AreBuckets shape old → AreBuckets shape new →
+    ArePads shape (moved_pads shape blocks old new pads)
+
 -- the replies of all servers to the parts of a read, where all have these blocks
 abbrev pub all_served : Shape → List (List ℕ) → PadLists → List ReadFrame → List Part
 all_served shape blocks pads frames =

@@ -9,7 +9,8 @@ use tk_shape::{Memory, Shape};
 
 impl Pads {
     /// The pads of a client in a turn, from its seed. Each server shares a secret with the client, of which both of its
-    /// pads come, the request pad first.
+    /// pads come, the request pad first. A server must not know the seed, which gives all pads and all drawn vectors: it
+    /// takes its own two pads into `from_bytes`, with any bytes in the place of the others.
     pub fn keyed(alloc: Global, shape: &Shape, seed: &[u8; 32], turn: u32) -> Result<Pads, Memory>
         ensures found { IfOk result (λ p. p
             ≡ record { shape = shape.now; pads = keyed_pads shape.now seed.now turn }) }

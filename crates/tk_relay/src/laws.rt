@@ -1,14 +1,16 @@
-//! Why the server in between learns nothing of what is read, and why the client reads what it would have read.
-ghost use Rattle.tk_relay.specs.Laws.{SameSight, MovedBack, RepliesJoin, HonestRepliesJoin};
+//! Why what the server in between sees of a read fits any two buckets, and why the client reads what it would have read.
+ghost use Rattle.tk_relay.specs.Laws.{SameSight, MovedBack, MovedStay, RepliesJoin, HonestRepliesJoin};
 
 /// What the server in between sees of a read is the same for any two buckets, after a change of the last server's pads.
 pub fn same_sight()
     ensures { SameSight }
 {}
 
-/// The change of the pads is one to one: changed back they are the pads again.
+/// The change of the pads is one to one among the pads of a shape: changed they are pads of it too, and changed back
+/// they are the pads again.
 pub fn moved_back()
-    ensures { MovedBack }
+    ensures back { MovedBack }
+    ensures stay { MovedStay }
 {}
 
 /// The replies made of the one reply join to the blocks that those of all servers join to.

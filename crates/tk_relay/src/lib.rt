@@ -1,5 +1,5 @@
 //! Reads by way of one server: a client sends it one bundle and gets one reply. The server passes masked parts on to
-//! the others and joins what they reply, and learns no more of the read by it.
+//! the others and joins what they reply; what it sees of a read fits any two buckets.
 #![tactic(auto)]
 
 mod answering;

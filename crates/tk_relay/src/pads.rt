@@ -6,7 +6,8 @@ ghost use Rattle.tk_relay.specs.Pads.{ArePads, pads_len, pads_in, pad_of};
 use std::marker::Model;
 use tk_shape::Shape;
 
-/// What masks a relayed read: for each server but the first a request pad and a reply pad.
+/// What masks a relayed read: for each server but the first a request pad and a reply pad. They are for one bundle and
+/// one reply: used for two they give the difference of what is asked, or replied, away.
 #[derive(Debug, Drop)]
 pub struct Pads {
     pub(crate) shape: Shape,

@@ -21,8 +21,9 @@ use tk_cluster::EpochSet;
 use tk_shape::Memory;
 use tk_table::Snapshot;
 
-/// A server's reply to its part of a read, over its blocks of the set's epoch. For servers other than the first the mask
-/// is taken off the vectors, and another put on the sums. It waits for nobody.
+/// A server's reply to its part of a read, over the blocks of the set's epoch. For servers other than the first the mask
+/// is taken off the vectors, and another put on the sums. It waits for nobody, and keeps no record: a server should
+/// answer a client's part of a turn once.
 pub fn serve_part(
     alloc: Global,
     set: &EpochSet,
