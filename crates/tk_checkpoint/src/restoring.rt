@@ -24,7 +24,7 @@ use tk_shape::{Memory, Shape};
 use tk_table::Table;
 
 /// The state that goes on from a checkpoint. Bytes that aren't sound are refused for the first
-/// check that they fail, before any memory is taken.
+/// check that they fail, before any memory is taken. It needs 128 KiB of stack for what it has found.
 pub fn restore(alloc: Global, shape: &Shape, bytes: &[u8]) -> Result<ReplicaState, RestoreError>
     ensures sound { OnOk result (IsSound shape.now bytes.now) }
     ensures refused { IfErr result (IsRefusal (first_refusal (restore_checks shape.now bytes.now))) }
