@@ -13,7 +13,6 @@ use Rattle.tk_schedule.specs.Told.{Names}
 use Rattle.tk_script.specs.declared.book.BookError.{BookError}
 use Rattle.tk_script.specs.declared.book.BookError.TheVariants as book_error
 use Rattle.tk_script.specs.declared.form.Form.{Form}
-use Rattle.tk_script.specs.declared.form.Form.TheVariants as form
 use Rattle.tk_script.specs.declared.input.RawTape.{RawTape}
 use Rattle.tk_script.specs.declared.input.Input.{Input}
 use Rattle.tk_script.specs.Book.{HasTape, IsWholeTape, IsOtherTape}
