@@ -3,6 +3,7 @@ use crate::testing::{FULL, SMALL, TIGHT, apply_turn, open, saved, shape};
 use std::alloc::Global;
 use std::test::Fail;
 use tk_checkpoint::restore;
+use tk_replica::PinError;
 use tk_shape::Shape;
 
 /// The checkpoint after these turns of a state that goes on from another checkpoint.
@@ -68,5 +69,18 @@ fn a_full_table_goes_on_from_each_mark(rt: HostRuntime) -> Result<(), Fail> {
 #[test]
 fn a_table_with_room_goes_on_from_each_mark(rt: HostRuntime) -> Result<(), Fail> {
     assert!(rt; agrees_behind_all(rt.alloc(), SMALL)?);
+    Ok(())
+}
+
+#[test]
+fn epochs_before_a_checkpoint_are_retired(rt: HostRuntime) -> Result<(), Fail> {
+    let alloc = rt.alloc();
+    let small = shape(1, SMALL)?;
+    let bytes = gone_through(alloc, &small, 1)?;
+    let mut state = restore(alloc, &small, bytes.as_slice())
+        .ok()
+        .ok_or("restore")?;
+    apply_turn(alloc, &mut state, 1)?;
+    assert!(rt; state.pin(0).err() == Some(PinError::Retired { floor: 1 }));
     Ok(())
 }
