@@ -2,7 +2,7 @@
 use Rattle.std.proofs.Common.{◌≡◌, ℕ, zero, suc, ◌+◌, ◌*◌, ◌/◌, ◌%◌, ◌<◌, ◌≤◌, ◌==◌, true, false, cond, List, [], ◌∷◌, ◌++◌, length, take, drop, set, slice_index, ◌^◌, slice_index_or, replicate, refl, ap, ap₂, sym, ◌∙◌, arith, append_assoc}
 use Rattle.std.specs.Simd.Lanes.{chunk}
 use Rattle.std.proofs.Math.Nat.{mul-le-mul_right}
-use Rattle.std.proofs.lemmas.List.{take_more_set, length-drop, drop-drop}
+use Rattle.std.proofs.lemmas.List.{take_more_set, take-take, take_all, length-drop, drop-drop}
 use Rattle.std.proofs.lemmas.Simd.{length-chunk}
 use Rattle.std.specs.List.{AllByRecursion}
 use Rattle.tk_kernel.specs.Xor.{xor_bytes, xor_all}
@@ -42,6 +42,48 @@ taken-added (suc count) word (t ∷ u ∷ ts) sum e =
     ∙ ap₂ (λ m rest. taken ts (xor_bytes (xor_bytes sum a) (slice_index_or u m [])) rest) high next
     ∙ ap (λ xs. taken ts xs (word / 256)) (xor_bytes_assoc sum a b)
     ∙ taken-added count (word / 256) ts (xor_bytes sum (xor_bytes a b)) (omega arith)
+
+length-bytes_of : (count word : ℕ) → length (bytes_of count word) ≡ count
+length-bytes_of zero word = refl
+length-bytes_of (suc count) word = ap suc (length-bytes_of count (word / 256))
+
+length-tables_of : (n size i : ℕ) (blocks : List ℕ) (h count : ℕ) → length (tables_of n size i blocks h count) ≡ count
+length-tables_of n size i blocks h zero = refl
+length-tables_of n size i blocks h (suc count) = ap suc (length-tables_of n size i blocks (h + 1) count)
+
+take-bytes_of : (n m word : ℕ) → n ≤ m → take n (bytes_of m word) ≡ bytes_of n word
+take-bytes_of zero m word h = refl
+take-bytes_of (suc n) zero word h = absurd (omega arith)
+take-bytes_of (suc n) (suc m) word h = ap (λ bs. word % 256 ∷ bs) (take-bytes_of n m (word / 256) (omega arith))
+
+-- the first bytes of a word whose bytes begin with those of a list
+pub first_bytes_of : (word i : ℕ) (eight bytes : List ℕ) → length bytes ≤ 8 → length bytes ≤ i →
+    bytes_of 8 word ≡ eight → take i eight ≡ take i bytes → bytes_of (length bytes) word ≡ bytes
+first_bytes_of word i eight bytes few upto all begun =
+    let n = length bytes in
+    sym (take-bytes_of n 8 word few)
+    ∙ ap (take n) all
+    ∙ sym (take-take n i eight upto)
+    ∙ ap (take n) begun
+    ∙ take-take n i bytes upto
+    ∙ take_all n bytes (omega arith)
+
+byte_set : (to bytes : List ℕ) (i : ℕ) → i < length to → i < length bytes → take i to ≡ take i bytes →
+    take (suc i) (set to i (slice_index bytes i)) ≡ take (suc i) bytes
+byte_set [] bytes i h k e = absurd (omega arith)
+byte_set (x ∷ xs) [] i h k e = absurd (omega arith)
+byte_set (x ∷ xs) (y ∷ ys) zero h k e = refl
+byte_set (x ∷ xs) (y ∷ ys) (suc i) h k e =
+    ap₂ (λ z zs. z ∷ zs) (ap (λ zs. slice_index zs 0) e) (byte_set xs ys i (omega arith) (omega arith) (ap (drop 1) e))
+
+-- one byte more of a list copied
+pub byte_copied : (to bytes : List ℕ) (i : ℕ) → i < length to → i < length bytes → take i to ≡ take i bytes →
+    take (i + 1) (set to i (slice_index bytes i)) ≡ take (i + 1) bytes
+byte_copied to bytes i h k e =
+    let next : i + 1 ≡ suc i = omega arith in
+    ap (λ n. take n (set to i (slice_index bytes i))) next
+    ∙ byte_set to bytes i h k e
+    ∙ ap (λ n. take n bytes) (sym next)
 
 bytes-small : (count word : ℕ) → AllByRecursion (λ x. x < 256) (bytes_of count word)
 bytes-small zero word = tt
@@ -247,15 +289,19 @@ added_is n size i blocks within (x ∷ xs) h sum e small fits =
     ∙ ap (λ ys. xor_bytes sum (chunk i n ys)) (sym (xor_all-append size here later later_sized))
     ∙ ap (λ cs. xor_bytes sum (chunk i n (xor_all size cs))) joined
 
--- what a word chooses, by sixteen tables
-pub taken_is : (n size i : ℕ) (blocks sum : List ℕ) (word : ℕ) → i + n ≤ size → length sum ≡ n → 64 * size ≤ length blocks →
-    taken (tables_of n size i blocks 0 16) sum word
-    ≡ xor_bytes sum (chunk i n (xor_all size (chosen_from 0 (pieces size 64 blocks) (bytes_of 8 word))))
-taken_is n size i blocks sum word within e fits =
+-- what so many bytes of a word choose, by two tables for each
+pub taken_is : (n size i count : ℕ) (blocks sum : List ℕ) (word : ℕ) → i + n ≤ size → length sum ≡ n → 8 * count * size ≤ length blocks →
+    taken (tables_of n size i blocks 0 (2 * count)) sum word
+    ≡ xor_bytes sum (chunk i n (xor_all size (chosen_from 0 (pieces size (8 * count) blocks) (bytes_of count word))))
+taken_is n size i count blocks sum word within e fits =
+    let bits = bytes_of count word in
+    let long : length bits ≡ count = length-bytes_of count word in
     let none : 4 * 0 * size ≡ 0 = omega arith in
-    taken-added 8 word (tables_of n size i blocks 0 16) sum refl
-    ∙ added_is n size i blocks within (bytes_of 8 word) 0 sum e (bytes-small 8 word) fits
-    ∙ ap (λ m. xor_bytes sum (chunk i n (xor_all size (chosen_from 0 (pieces size 64 (drop m blocks)) (bytes_of 8 word))))) none
+    let all : (4 * 0 + 8 * length bits) * size ≡ 8 * count * size = ap (λ m. m * size) (omega (arith, long)) in
+    taken-added count word (tables_of n size i blocks 0 (2 * count)) sum (length-tables_of n size i blocks 0 (2 * count))
+    ∙ ap (λ m. added (tables_of n size i blocks 0 (2 * m)) sum bits) (sym long)
+    ∙ added_is n size i blocks within bits 0 sum e (bytes-small count word) (omega (arith, all, fits))
+    ∙ ap₂ (λ m k. xor_bytes sum (chunk i n (xor_all size (chosen_from 0 (pieces size (8 * k) (drop m blocks)) bits)))) none long
 
 -- each of sixteen places set
 pub sixteen_set : (xs : List (List ℕ)) → length xs ≡ 16 → (a0 a1 a2 a3 a4 a5 a6 a7 a8 a9 a10 a11 a12 a13 a14 a15 : List ℕ) →

@@ -1,5 +1,5 @@
 -- Lists of which each has the same length.
-use Rattle.std.proofs.Common.{◌≡◌, ℕ, zero, suc, ◌+◌, ◌*◌, List, [], ◌∷◌, ◌++◌, map, length, set, ◌∙◌, arith, length-append}
+use Rattle.std.proofs.Common.{◌≡◌, ℕ, zero, suc, ◌*◌, List, [], ◌∷◌, ◌++◌, map, length, set, ◌∙◌, arith, length-append}
 use Rattle.std.specs.List.{concat}
 use Rattle.tk_kernel.specs.Pieces.{AllSized}
 

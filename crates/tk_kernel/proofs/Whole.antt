@@ -1,13 +1,12 @@
 -- Sums of many vectors, a pass over some blocks at a time.
 use Rattle.std.proofs.Common.{◌≡◌, ℕ, ◌+◌, ◌-◌, ◌*◌, ◌/◌, ◌%◌, ◌^◌, ◌<◌, ◌≤◌, ◌==◌, List, ◌++◌, length, take, drop, replicate, slice_index, slice_index_or, Vec, Global, refl, ap, ap₂, sym, ◌∙◌, arith}
 use Rattle.std.specs.List.{All}
-use Rattle.std.proofs.Math.Nat.{mul-le-mul_right, mul-div_cancel, mul-mod_left}
+use Rattle.std.proofs.Math.Nat.{mul-le-mul_right}
 use Rattle.std.proofs.lemmas.List.{length-drop, drop-drop, get_or-take, get_or-drop}
 use Rattle.std.proofs.lemmas.Nat.{div-add-mod'}
 use Rattle.tk_kernel.specs.Xor.{xor_bytes, xor_all}
 use Rattle.tk_kernel.specs.Chosen.{has_bit, chosen_from}
 use Rattle.tk_kernel.specs.Pieces.{pieces, all_pieces, AllSized}
-use Rattle.tk_kernel.specs.Stripes.{chosen_of_64}
 use Rattle.tk_kernel.proofs.Sums.{xor_bytes_assoc, xor_bytes-zeros, length-xor_bytes, length-xor_all, xor_all-append}
 use Rattle.tk_kernel.proofs.Cuts.{length-pieces, AllSized-pieces}
 use Rattle.tk_kernel.proofs.Chosen.{AllSized-chosen_from, chosen_from-append}
@@ -139,50 +138,6 @@ module _ (size first : ℕ) (blocks : List ℕ) (vectors start : List (Vec ℕ G
             ∙ pass_added done now (slice_index_or sums k d).items v h
             ∙ before.each k d e less;
       }
-
-  -- a pass over 64 blocks
-  pub passed_64 : (done : ℕ) (sums new : List (Vec ℕ Global)) → done + 8 ≤ length blocks / size / 8 →
-      IsBegun size first blocks vectors start done sums →
-      length new ≡ length sums →
-      ((k : ℕ) (d e : Vec ℕ Global) → k < length sums → (slice_index_or new k d).items
-      ≡ xor_bytes (slice_index_or sums k d).items (chosen_of_64 size (drop (8 * done * size) blocks) (take 8 (drop (first + done) (slice_index_or vectors k e).items)))) →
-      IsBegun size first blocks vectors start (done + 8) new
-  passed_64 done sums new h before count each = passed done 8 sums new h before count each
-
-  -- the bytes of so many blocks, eight by eight, after the first
-  pub behind : (done now : ℕ) → done + now ≡ length blocks / size / 8 →
-      length (drop (8 * done * size) blocks) ≡ 8 * now * size
-  behind done now e =
-      let apart : 8 * (done + now) * size ≡ 8 * done * size + 8 * now * size = omega arith in
-      let eight : 8 * (done + now) ≡ length blocks / size = omega (arith, e, eights) in
-      let long : 8 * (done + now) * size ≡ length blocks = ap (λ m. m * size) eight ∙ all_blocks in
-      omega (arith, apart, long, length-drop (8 * done * size) blocks)
-
-  pub behind_count : (done now : ℕ) → done + now ≡ length blocks / size / 8 →
-      length (drop (8 * done * size) blocks) / size ≡ 8 * now
-  behind_count done now e = ap (λ n. n / size) (behind done now e) ∙ mul-div_cancel (8 * now) some
-
-  pub behind_whole : (done now : ℕ) → done + now ≡ length blocks / size / 8 →
-      length (drop (8 * done * size) blocks) % size ≡ 0
-  behind_whole done now e = ap (λ n. n % size) (behind done now e) ∙ mul-mod_left (8 * now) size
-
-  -- the blocks that no pass went over are added one by one
-  pub rest_added : (done now : ℕ) (sums new : List (Vec ℕ Global)) → done + now ≡ length blocks / size / 8 →
-      IsBegun size first blocks vectors start done sums →
-      ((k : ℕ) (d e : Vec ℕ Global) → k < length sums → (slice_index_or new k d).items
-      ≡ xor_bytes (slice_index_or sums k d).items (xor_all size (chosen_from (8 * (first + done)) (all_pieces size (drop (8 * done * size) blocks)) (slice_index_or vectors k e).items))) →
-      (k : ℕ) (d e : Vec ℕ Global) → k < length start → (slice_index_or new k d).items
-      ≡ xor_bytes (slice_index_or start k d).items (xor_all size (chosen_from (8 * first) (all_pieces size blocks) (slice_index_or vectors k e).items))
-  rest_added done now sums new h before each k d e less =
-      let v = (slice_index_or vectors k e).items in
-      let xs = (slice_index_or sums k d).items in
-      let rest = drop (8 * done * size) blocks in
-      let from : 8 * (first + done) ≡ 8 * first + 8 * done = omega arith in
-      let count : length rest / size ≡ 8 * (length blocks / size / 8 - done) =
-      behind_count done now h ∙ ap (λ m. 8 * m) (omega (arith, h)) in
-      each k d e (omega (arith, before.count))
-      ∙ ap₂ (λ f m. xor_bytes xs (xor_all size (chosen_from f (pieces size m rest) v))) from count
-      ∙ before.each k d e less
 
   pub all_passed : (done : ℕ) (sums : List (Vec ℕ Global)) → length blocks / size / 8 ≤ done → IsBegun size first blocks vectors start done sums →
       (k : ℕ) (d e : Vec ℕ Global) → k < length start → (slice_index_or sums k d).items

@@ -7,7 +7,7 @@ ghost use Rattle.tk_kernel.specs.Pieces.{all_pieces};
 ghost use Rattle.tk_kernel.specs.Xor.{xor_bytes, xor_all};
 
 use crate::columns::{Pass, Tables, add_pass};
-use crate::words::MOST;
+use crate::words::{MOST, WORD};
 use crate::xor_choose;
 use std::simd::prelude::*;
 
@@ -94,7 +94,7 @@ fn add_chosen(sum: &mut [u8], size: usize, blocks: &[u8], vector: &[u8], first: 
     xor_choose(sum, blocks, &vector[first..], 0);
 }
 
-// Goes over the blocks once for all vectors, 64 blocks at a time, and once for each over those that are left.
+// Goes over the blocks once for all vectors, 64 blocks at a time, or as many as are left.
 fn add_by_tables(
     sums: &mut [Vec<u8>],
     size: usize,
@@ -126,18 +126,16 @@ fn add_by_tables(
         of_1: &mut [[Simd::<u8, 1>::splat(0); 16]; 16],
     };
     let mut done = 0;
-    while count - done >= 8 {
+    while done < count {
+        let bytes = (count - done).min(WORD);
         let pass = Pass {
             size,
             blocks: &blocks[8 * done * size..],
             vectors,
             first: first + done,
+            bytes,
         };
         add_pass(sums, &pass, &mut tables);
-        done += 8;
-    }
-    if done < count {
-        let blocks = &blocks[8 * done * size..];
-        add_one_by_one(sums, size, blocks, vectors, first + done);
+        done += bytes;
     }
 }

@@ -91,6 +91,29 @@ pub(crate) fn add_entries<const N: usize>(
     sum.copy_to_slice(&mut dst[i..]);
 }
 
+/// Adds to the N bytes of `dst` from number i on the entries of fewer tables, of two for each byte of the word.
+#[inline(always)]
+pub(crate) fn add_some_entries<const N: usize>(
+    dst: &mut [u8],
+    i: usize,
+    tables: &[[Simd<u8, N>; 16]],
+    word: u64,
+)
+    requires within { i + N ≤ length dst.old }
+    requires pairs { length tables.now % 2 ≡ 0 }
+    ensures { dst.new ≡ put_chunk i dst.old (taken tables.now (chunk i N dst.old) word) }
+{
+    let mut sum = Simd::<u8, N>::from_slice(&dst[i..]);
+    let mut left = word;
+    let mut rest = tables;
+    while let [low, high, others @ ..] = rest {
+        add_entry(&mut sum, low, &mut left);
+        add_entry(&mut sum, high, &mut left);
+        rest = others;
+    }
+    sum.copy_to_slice(&mut dst[i..]);
+}
+
 // Adds the entry that the lowest four bits name, and goes on to the bits after them.
 #[inline(always)]
 fn add_entry<const N: usize>(sum: &mut Simd<u8, N>, table: &[Simd<u8, N>; 16], left: &mut u64)

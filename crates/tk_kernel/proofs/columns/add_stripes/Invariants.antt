@@ -9,8 +9,8 @@ invariant-loop-i g l =
     × (length l.sums ≡ length l.fn.sums)
     × (All (λ v. v.len ≡ l.pass.size) l.sums)
     × ((start : List (Vec ℕ Global)) → All (λ v. v.len ≡ l.pass.size) start
-    → IsFront l.pass.size l.pass.blocks.now l.words start l.from l.fn.sums
-    → IsFront l.pass.size l.pass.blocks.now l.words start l.i l.sums)
+    → IsFront l.pass.size l.pass.bytes l.pass.blocks.now l.words start l.from l.fn.sums
+    → IsFront l.pass.size l.pass.bytes l.pass.blocks.now l.words start l.i l.sums)
 
 abbrev pub decreases-loop-i : goal.decreases-loop-i
 decreases-loop-i g l = l.pass.size - l.i

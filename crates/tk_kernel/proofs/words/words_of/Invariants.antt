@@ -6,4 +6,4 @@ abbrev pub invariant-loop-k : goal.invariant-loop-k
 invariant-loop-k l =
     (length l.words ≡ 128)
     × ((k : ℕ) (e : Vec ℕ Global) → k < l.k
-    → bytes_of 8 (slice_index l.words k) ≡ take 8 (drop l.first (slice_index_or l.vectors k e).items))
+    → bytes_of l.bytes (slice_index l.words k) ≡ take l.bytes (drop l.first (slice_index_or l.vectors k e).items))

@@ -1,7 +1,7 @@
 use Rattle.std.proofs.Common.{◌≡◌, ℕ, ◌<◌, ◌≤◌, length, slice_index, slice_index_or, Vec, Global}
 use Rattle.std.specs.Simd.Lanes.{put_chunk, chunk}
 use Rattle.tk_kernel.specs.Nibbles.{taken}
-use Rattle.tk_kernel.proofs.columns.add_to_each.Given as goal
+use Rattle.tk_kernel.proofs.columns.add_short_words.Given as goal
 
 abbrev pub invariant-loop-k : goal.invariant-loop-k
 invariant-loop-k g l =
