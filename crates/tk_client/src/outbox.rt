@@ -1,15 +1,16 @@
-ghost use Rattle.std.specs.Prelude.{◌≡◌, ◌<◌, ◌+◌, ◌==◌, ◌++◌, All, IfOk, IfErr, OnOk};
-ghost use Rattle.std.specs.Prelude.{OnErr, Some, None, length, map, position};
+ghost use Rattle.std.specs.Prelude.{◌≡◌, ◌<◌, ◌≤◌, ◌+◌, ◌==◌, ◌++◌, All, IfOk, IfErr, OnOk};
+ghost use Rattle.std.specs.Prelude.{OnErr, Some, None, IsTrue, length, map, position};
 ghost use Rattle.std.specs.Option.{ForSome};
 ghost use Rattle.std.specs.List.Sorted.{IsStrictlyIncreasing};
 ghost use Rattle.tk_shape.specs.Lengths.{turn_count};
+ghost use Rattle.tk_seal.specs.Texts.{is_allowed};
 ghost use Rattle.tk_words.specs.Words.{words_of};
 ghost use Rattle.tk_frames.specs.Spelling as spelling;
 ghost use Rattle.tk_frames.specs.Ranges.{IsWrite};
 ghost use Rattle.tk_client.specs.Writing.{unwritten, new_writing, with_text, first_waiting};
 ghost use Rattle.tk_client.specs.Writing.{after_write};
 ghost use Rattle.tk_client.specs.Writes.{write_of};
-ghost use Rattle.tk_client.specs.Saying.{text_fault, fault_of, IsRefusedFor};
+ghost use Rattle.tk_client.specs.Saying.{fault_of, IsRefusedFor};
 
 use crate::SayError;
 use crate::waiting::Waiting;
@@ -65,6 +66,28 @@ impl Outbox {
     /// Puts a text after those that wait. Where that can't be, nothing changes. As many texts as
     /// 32 bits can count may wait, and no more: that counts as out of memory.
     pub(crate) fn say(&mut self, alloc: Global, log: u32, text: &[u8]) -> Result<(), SayError>
+        ensures shape { self.new.shape ≡ self.old.shape }
+        ensures may { let logs = self.old.writing.logs in
+            OnOk result (fault_of self.old.shape logs log text.now ≡ None) }
+        ensures said { OnOk result (self.new.writing ≡ with_text log text.now self.old.writing) }
+        ensures refused { IfErr result
+            (IsRefusedFor (fault_of self.old.shape self.old.writing.logs log text.now)) }
+        ensures kept { OnErr result (self.new ≡ self.old) }
+    {
+        if let Some(fault) = fault_in(&self.shape, self.logs.as_slice(), log, text) {
+            return Err(fault);
+        }
+        self.say_allowed(alloc, log, text)
+    }
+
+    /// The same for a text that is known to be allowed.
+    pub(crate) fn say_allowed(
+        &mut self,
+        alloc: Global,
+        log: u32,
+        text: &[u8],
+    ) -> Result<(), SayError>
+        requires allowed { IsTrue (is_allowed text.now) }
         ensures shape { self.new.shape ≡ self.old.shape }
         ensures may { let logs = self.old.writing.logs in
             OnOk result (fault_of self.old.shape logs log text.now ≡ None) }
@@ -171,31 +194,46 @@ fn place_of(logs: &[Written], log: u32) -> Option<usize>
     logs.iter().position(|written| written.log == log)
 }
 
-/// The place among these of a log on which a text may be said.
+/// The place among these of a log on which an allowed text may be said.
 fn place_to_say(shape: &Shape, logs: &[Written], log: u32, text: &[u8]) -> Result<usize, SayError>
+    requires allowed { IsTrue (is_allowed text.now) }
     ensures place { IfOk result (λ place. Some place ≡ position (λ f. f.log == log) logs.now) }
     ensures may { OnOk result (fault_of shape.now logs.now log text.now ≡ None) }
     ensures refused { IfErr result (IsRefusedFor (fault_of shape.now logs.now log text.now)) }
 {
+    place_with_room(shape, logs, log, text)
+}
+
+/// The place among these of a log on which a text is said for which a block has room.
+fn place_with_room(
+    shape: &Shape,
+    logs: &[Written],
+    log: u32,
+    text: &[u8],
+) -> Result<usize, SayError>
+    ensures place { IfOk result (λ place. Some place ≡ position (λ f. f.log == log) logs.now) }
+    ensures fits { OnOk result (length text.now + 18 ≤ shape.now.block) }
+    ensures fault { IfErr result (λ e. fault_of shape.now logs.now log text.now ≡ Some e) }
+{
     let Some(place) = place_of(logs, log) else {
         return Err(SayError::NotWriter { log });
     };
-    match fault_in(shape, text) {
-        Some(fault) => Err(fault),
-        None => Ok(place),
-    }
-}
-
-/// Why a text may not be said on a log of its client.
-fn fault_in(shape: &Shape, text: &[u8]) -> Option<SayError>
-    ensures { result ≡ text_fault shape.now text.now }
-{
     let room = shape.block - 18;
     if text.len() > room as usize {
-        return Some(SayError::TooLong { room });
+        return Err(SayError::TooLong { room });
     }
-    match allowed(text) {
-        Some(at) => Some(SayError::Text { at: at as u64 }),
-        None => None,
+    Ok(place)
+}
+
+/// Why a text may not be said on one of these logs, if it may not.
+fn fault_in(shape: &Shape, logs: &[Written], log: u32, text: &[u8]) -> Option<SayError>
+    ensures { result ≡ fault_of shape.now logs.now log text.now }
+{
+    match place_with_room(shape, logs, log, text) {
+        Ok(_) => match allowed(text) {
+            Some(at) => Some(SayError::Text { at: at as u64 }),
+            None => None,
+        },
+        Err(fault) => Some(fault),
     }
 }

@@ -45,7 +45,7 @@ pub(crate) fn say_turn(
         }
         let writer = &mut clients[script.role(say.log).writer as usize];
         // the writer of the log says a text of the script, so that only memory may be wanting
-        let Ok(()) = writer.say(alloc, say.log, say.text.as_slice()) else {
+        let Ok(()) = writer.say_allowed(alloc, say.log, say.text.as_slice()) else {
             return Err(Memory);
         };
     }

@@ -24,6 +24,18 @@ pub(crate) fn rest_behind<'a>(line: &'a [u8], words: &[u8]) -> Option<&'a [u8]>
     Some(&line[words.len()..])
 }
 
+/// What follows a space at the front of a text.
+fn after_space(text: &[u8]) -> Option<&[u8]>
+    ensures found { IfSome result (λ rest. text.now ≡ 0x20 ∷ rest.now) }
+    ensures only { (rest : List ℕ) → text.now ≡ 0x20 ∷ rest →
+        IsSomeAnd result (λ x. x.now ≡ rest) }
+{
+    match text {
+        [b' ', rest @ ..] => Some(rest),
+        _ => None,
+    }
+}
+
 /// The field at the front of a text, up to its first space, and what follows it.
 fn next_field(text: &[u8]) -> (&[u8], &[u8])
     ensures whole { text.now ≡ result.0.now ++ result.1.now }
@@ -46,7 +58,7 @@ pub(crate) fn next_number(text: &[u8]) -> Option<(u32, &[u8])>
         text.now ≡ 0x20 ∷ (decimal n ++ rest) →
         IsSomeAnd result (λ x. (x.0 ≡ n) × (x.1.now ≡ rest)) }
 {
-    let text = rest_behind(text, b" ")?;
+    let text = after_space(text)?;
     let (field, rest) = next_field(text);
     let number = number_of(field)?;
     Some((number, rest))
@@ -67,7 +79,7 @@ pub(crate) fn three_behind<'a>(word: &[u8], line: &'a [u8]) -> Option<(u32, u32,
     let (first, rest) = next_number(rest)?;
     let (second, rest) = next_number(rest)?;
     let (third, rest) = next_number(rest)?;
-    let text = rest_behind(rest, b" ")?;
+    let text = after_space(rest)?;
     Some((first, second, third, text))
 }
 

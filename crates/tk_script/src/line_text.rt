@@ -7,12 +7,12 @@ use tk_shape::Memory;
 
 /// Appends the plain decimal of a number, or nothing if memory runs out. The other calls may
 /// then have appended a part of what they append.
-pub fn push_number(alloc: Global, number: u64, out: &mut Vec<u8>) -> Result<(), Memory>
+pub fn push_number(_alloc: Global, number: u64, out: &mut Vec<u8>) -> Result<(), Memory>
     ensures ok { OnOk result (out.new.items ≡ out.old.items ++ decimal number) }
     ensures err { OnErr result (out.new.items ≡ out.old.items) }
 {
-    let digits = number.to_string(alloc)?;
-    out.extend_from_slice(digits.as_bytes())?;
+    let mut digits = itoa::Buffer::new();
+    out.extend_from_slice(digits.format(number).as_bytes())?;
     Ok(())
 }
 

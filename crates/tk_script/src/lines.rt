@@ -2,7 +2,9 @@ ghost use Rattle.std.specs.Prelude.{◌≡◌, ◌≢◌, ◌<◌, ◌↔◌, �
 ghost use Rattle.std.specs.Prelude.{slice_index, IfSome, IfNone};
 ghost use Rattle.tk_script.specs.Grammar.{lines_of};
 
-/// Where a byte stands first in a text.
+use memchr::memchr;
+
+/// Where a byte stands first in a text: for one that is near.
 pub(crate) fn place_of(text: &[u8], byte: u8) -> Option<usize>
     ensures within { IfSome result (λ i. i < length text.now) }
     ensures at { IfSome result (λ i. slice_index text.now i ≡ byte) }
@@ -17,6 +19,16 @@ pub(crate) fn place_of(text: &[u8], byte: u8) -> Option<usize>
     None
 }
 
+/// Where the first line feed stands in a text, which may be far.
+fn line_feed(text: &[u8]) -> Option<usize>
+    ensures within { IfSome result (λ i. i < length text.now) }
+    ensures at { IfSome result (λ i. slice_index text.now i ≡ 10) }
+    ensures first { IfSome result (λ i. (k : ℕ) → k < i → slice_index text.now k ≢ 10) }
+    ensures none { IfNone result ((k : ℕ) → k < length text.now → slice_index text.now k ≢ 10) }
+{
+    memchr(b'\n', text)
+}
+
 /// The first line of a text, without its line feed, and the text after it.
 pub fn next_line(text: &[u8]) -> Option<(&[u8], &[u8])>
     ensures line { IfSome result (λ x. lines_of text.now ≡ x.0.now ∷ lines_of x.1.now) }
@@ -26,7 +38,7 @@ pub fn next_line(text: &[u8]) -> Option<(&[u8], &[u8])>
     if text.is_empty() {
         return None;
     }
-    match place_of(text, b'\n') {
+    match line_feed(text) {
         Some(end) => Some((&text[..end], &text[end + 1..])),
         None => Some((text, &text[text.len()..])),
     }

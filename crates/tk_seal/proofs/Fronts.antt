@@ -1,14 +1,24 @@
 -- The longest front of a text that may be sent.
-use Rattle.std.proofs.Common.{◌≡◌, ℕ, zero, suc, ◌+◌, ◌<◌, ◌≤◌, List, [], ◌∷◌, length, take, Bool, true, false, cond, ◌&&◌, refl, ap, sym, ◌∙◌, subst, arith, inl, inr, ◌⊎◌}
+use Rattle.std.proofs.Common.{◌≡◌, ℕ, zero, suc, ◌+◌, ◌<◌, ◌≤◌, List, [], ◌∷◌, ◌++◌, length, take, Bool, true, false, cond, ◌&&◌, refl, ap, sym, ◌∙◌, subst, arith, inl, inr, ◌⊎◌}
+use Rattle.std.specs.Prelude.{◌↔◌, IsTrue}
 use Rattle.std.specs.List.{list_all, prefix_len}
 use Rattle.std.specs.Str.{IsUtf8, is_utf8, IsValidUpTo}
 use Rattle.std.proofs.lemmas.Str.{IsUtf8-from_is_utf8, is_utf8-from_IsUtf8}
 use Rattle.std.proofs.lemmas.List.{take_all, take-take, length-take-le}
 use Rattle.std.proofs.lemmas.List.Sums.{prefix_len-le-length}
+use Rattle.std.proofs.lemmas.List.Folds.{list_all-append}
 use Rattle.std.proofs.lemmas.Bool.{and_parts, and_from}
 use Rattle.tk_seal.specs.Texts.{is_printable, is_allowed, IsAllowedUpTo, allowed_front}
 
 -- ---- bytes that pass a test
+
+-- one more byte is asked
+pub list_all-push : (p : ℕ → Bool) (xs : List ℕ) (x : ℕ) → list_all p (xs ++ x ∷ []) ≡ (list_all p xs && p x)
+list_all-push p xs x = list_all-append p xs (x ∷ []) ∙ ap (λ b. list_all p xs && b) (and-true (p x))
+  where
+    and-true : (b : Bool) → (b && true) ≡ b
+    and-true true = refl
+    and-true false = refl
 
 list_all-take : (p : ℕ → Bool) (n : ℕ) (xs : List ℕ) → n ≤ prefix_len p xs → list_all p (take n xs) ≡ true
 list_all-take p zero xs h = refl
@@ -37,6 +47,19 @@ allowed-take text n h u =
 
 allowed_utf8 : (xs : List ℕ) → is_allowed xs ≡ true → IsUtf8 xs
 allowed_utf8 xs e = IsUtf8-from_is_utf8 xs (and_parts (is_utf8 xs) (list_all is_printable xs) e).0
+
+-- a text of printable bytes is allowed where it is UTF-8
+pub allowed-printable : (text : List ℕ) (utf8 : Bool) → (IsTrue utf8 ↔ IsUtf8 text) →
+    list_all is_printable text ≡ true → utf8 ≡ is_allowed text
+allowed-printable text utf8 is printable =
+    same utf8 (is_allowed text)
+    (λ e. and_from (is_utf8 text) (list_all is_printable text) (is_utf8-from_IsUtf8 text (is.0 e)) printable)
+    (λ e. is.1 (allowed_utf8 text e))
+  where
+    same : (a b : Bool) → (a ≡ true → b ≡ true) → (b ≡ true → a ≡ true) → a ≡ b
+    same true b there back = sym (there refl)
+    same false true there back = back refl
+    same false false there back = refl
 
 allowed_printable : (text : List ℕ) (n : ℕ) → n ≤ length text → is_allowed (take n text) ≡ true → n ≤ prefix_len is_printable text
 allowed_printable text n h e = within_prefix is_printable n text h (and_parts (is_utf8 (take n text)) (list_all is_printable (take n text)) e).1

@@ -78,11 +78,11 @@ loop-place-preserved c =
     c.as_slice.ensures
     in
     record {
-      counted = length-set clients role.writer c.say.new.self ∙ so_far.counted;
+      counted = length-set clients role.writer c.say_allowed.new.self ∙ so_far.counted;
       from = omega (arith, so_far.from);
       up_to = omega (arith, below);
       clients = λ knows are.
-          told-next S knows g place role.writer y clients c.index-clients-role.result c.say.new.self
+          told-next S knows g place role.writer y clients c.index-clients-role.result c.say_allowed.new.self
           within here now mine low said (so_far.clients knows are);
     }
 
