@@ -1,16 +1,16 @@
 -- The sum of replies grows reply by reply.
-use Rattle.std.proofs.Common.{◌≡◌, ap, sym, ◌∙◌, arith}
+use Rattle.std.proofs.Common.{◌≡◌, refl, ap, sym, ◌∙◌, arith}
 use Rattle.std.proofs.Common.{ℕ, zero, suc, ◌+◌, ◌<◌}
-use Rattle.std.proofs.Common.{List, [], ◌∷◌, ◌++◌, length, map, get_or, take, replicate}
-use Rattle.std.specs.List.{AllByRecursion}
-use Rattle.std.proofs.lemmas.List.{map_more}
+use Rattle.std.proofs.Common.{List, [], ◌∷◌, ◌++◌, length, map, get_or, take, drop, replicate}
+use Rattle.std.proofs.lemmas.List.{map_more, length-take-le, length-drop}
 use Rattle.tk_shape.specs.declared.shape.Shape.{Shape}
 use Rattle.tk_shape.specs.Lengths.{width}
 use Rattle.tk_kernel.specs.Xor.{xor_bytes, xor_all}
 use Rattle.tk_kernel.specs.Pieces.{AllSized}
 use Rattle.tk_kernel.proofs.Offers.{xor_bytes-zeros, xor_all-append}
 use Rattle.tk_frames.specs.declared.reply_frame.ReplyFrame.{ReplyFrame}
-use Rattle.tk_frames.specs.Ranges.{IsReply}
+use Rattle.tk_frames.specs.Fields.{reply_in}
+use Rattle.tk_client.specs.Replies.{frames_in, AreWholeReplies}
 
 pub sized_part : {X : Type 0} (size : ℕ) (f : X → List ℕ) (xs : List X) (i : ℕ) (x : X) →
     AllSized size (map f xs) → i < length xs →
@@ -36,12 +36,27 @@ sum_more size f xs i x sum h low is so_far =
 
 -- ---- the replies have the blocks' length
 
-pub firsts_sized : (shape : Shape) (rs : List ReplyFrame) → AllByRecursion (IsReply shape) rs →
-    AllSized (width shape) (map (λ (r : ReplyFrame). r.first) rs)
+pub firsts_sized : (shape : Shape) (replies : List (List ℕ)) → AreWholeReplies shape replies →
+    AllSized (width shape) (map (λ b. (reply_in shape b).first) replies)
 firsts_sized shape [] all = tt
-firsts_sized shape (r ∷ rs) all = (all.0.first_len, firsts_sized shape rs all.1)
+firsts_sized shape (b ∷ bs) all =
+    let long = all.0 in (
+      length-take-le (width shape) (drop 14 b) (omega (arith, long, length-drop 14 b)),
+      firsts_sized shape bs all.1,
+    )
 
-pub seconds_sized : (shape : Shape) (rs : List ReplyFrame) → AllByRecursion (IsReply shape) rs →
-    AllSized (width shape) (map (λ (r : ReplyFrame). r.second) rs)
+pub seconds_sized : (shape : Shape) (replies : List (List ℕ)) → AreWholeReplies shape replies →
+    AllSized (width shape) (map (λ b. (reply_in shape b).second) replies)
 seconds_sized shape [] all = tt
-seconds_sized shape (r ∷ rs) all = (all.0.second_len, seconds_sized shape rs all.1)
+seconds_sized shape (b ∷ bs) all =
+    let long = all.0 in (
+      omega (arith, long, length-drop 14 b, length-drop (width shape) (drop 14 b)),
+      seconds_sized shape bs all.1,
+    )
+
+-- the parts of frames that are read are those that lie in the replies
+pub parts_in : (shape : Shape) (part : ReplyFrame → List ℕ) (replies : List (List ℕ)) →
+    map (λ b. part (reply_in shape b)) replies ≡ map part (frames_in shape replies)
+parts_in shape part [] = refl
+parts_in shape part (b ∷ bs) =
+    ap (λ (xs : List (List ℕ)). part (reply_in shape b) ∷ xs) (parts_in shape part bs)

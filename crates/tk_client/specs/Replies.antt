@@ -1,9 +1,10 @@
 -- What the replies to a read give, and which replies give nothing.
-use Rattle.std.specs.Prelude.{◌≡◌, ◌≢◌, ◌⊎◌, ◌+◌, ◌==◌, ℕ, cond, List, [], ◌∷◌, map}
+use Rattle.std.specs.Prelude.{◌≡◌, ◌≢◌, ◌⊎◌, ◌+◌, ◌==◌, ℕ, cond, List, [], ◌∷◌, length, map}
 use Rattle.std.specs.Prelude.{Option, Some, None}
+use Rattle.std.specs.List.{AllByRecursion}
 use Rattle.std.specs.Option.{option_or, option_map}
 use Rattle.tk_shape.specs.declared.shape.Shape.{Shape}
-use Rattle.tk_shape.specs.Lengths.{width}
+use Rattle.tk_shape.specs.Lengths.{width, reply_len}
 use Rattle.tk_kernel.specs.Xor.{xor_all}
 use Rattle.tk_words.specs.Words.{BookWords, opened}
 use Rattle.tk_frames.specs.declared.reply_frame.ReplyFrame.{ReplyFrame}
@@ -20,6 +21,10 @@ use Rattle.tk_client.specs.Reader.{Target}
 -- the frames of replies
 abbrev pub frames_in : Shape → List (List ℕ) → List ReplyFrame
 frames_in shape replies = map (reply_in shape) replies
+
+-- each is as long as a reply
+abbrev pub AreWholeReplies : Shape → List (List ℕ) → Type 0
+AreWholeReplies shape replies = AllByRecursion (λ reply. length reply ≡ reply_len shape) replies
 
 -- the block of either bucket that replies join to
 abbrev pub first_joined : Shape → List ReplyFrame → List ℕ

@@ -157,6 +157,7 @@ fn read_len_of(shape: &Shape, kind: u8) -> u32
     }
 }
 
+/// Whether bytes are a reply.
 pub fn check_reply(shape: &Shape, bytes: &[u8]) -> Result<(), FrameError>
     ensures { result_err result ≡ first_fault (reply_checks shape.now bytes.now) }
 {

@@ -15,7 +15,7 @@ mod seeds;
 mod value;
 mod write_frame;
 
-pub use check::check_asked;
+pub use check::{check_asked, check_reply};
 pub use decode::{decode_placed, decode_read, decode_reply, decode_write};
 pub use encode::{encode_placed, encode_read, encode_record, encode_reply, encode_write, head_of};
 pub use entry::{Entry, Placed};
@@ -26,4 +26,5 @@ pub use read_frame::ReadFrame;
 pub use reply_frame::ReplyFrame;
 pub use seeds::Seeds;
 pub use tk_shape::Memory;
+pub use value::sums_of;
 pub use write_frame::WriteFrame;

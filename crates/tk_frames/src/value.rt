@@ -129,6 +129,15 @@ pub fn reply_of(alloc: Global, shape: &Shape, bytes: &[u8]) -> Result<ReplyFrame
     })
 }
 
+/// The two sums of a reply, where they lie in its bytes.
+pub fn sums_of<'a>(shape: &Shape, bytes: &'a [u8]) -> (&'a [u8], &'a [u8])
+    requires { length bytes.now ≡ reply_len shape.now }
+    ensures first { result.0.now ≡ (reply_in shape.now bytes.now).first }
+    ensures second { result.1.now ≡ (reply_in shape.now bytes.now).second }
+{
+    bytes.split_at(14).1.split_at(shape.width() as usize)
+}
+
 pub fn record_of(alloc: Global, shape: &Shape, bytes: &[u8]) -> Result<Placed, Memory>
     requires { 26 + 4 * shape.now.hits ≤ length bytes.now }
     ensures { IfOk result (λ p. p ≡ placed_record_in shape.now bytes.now) }
