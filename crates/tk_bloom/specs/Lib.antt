@@ -1,5 +1,6 @@
 pub mod Counts
 pub mod Filters
 pub mod Laws
+pub mod Packing
 pub mod Queues
 pub mod Windows

@@ -4,6 +4,7 @@
 
 mod filter;
 mod laws;
+mod marks;
 mod queue;
 mod tally;
 mod window;

@@ -130,6 +130,7 @@ impl Window {
         ensures pushes_shown { let pushes = self.now.pushes in
             IfOk result (λ f. All (λ hits. IsTrue (all_marked f hits)) pushes) }
     {
-        Ok(Filter::from_vec(self.tally.occurring(alloc)?))
+        let marks = self.tally.occurring(alloc)?;
+        Ok(Filter::from_vec(alloc, marks)?)
     }
 }

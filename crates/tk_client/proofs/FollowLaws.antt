@@ -36,13 +36,13 @@ find-past test i n past = ap (λ k. find test (range_with_len i k)) none
     none : n - i ≡ 0
     none = omega arith
 
-find-none : (test : ℕ → Bool) → ((i : ℕ) → test i ≡ false) → (xs : List ℕ) → find test xs ≡ None
+pub find-none : (test : ℕ → Bool) → ((i : ℕ) → test i ≡ false) → (xs : List ℕ) → find test xs ≡ None
 find-none test fails [] = refl
 find-none test fails (x ∷ xs) = cond-false (test x) _ _ (fails x) ∙ find-none test fails xs
 
 -- ---- what is wanted of a log
 
-next-anew : (anew : Bool) (f : Follow) → next_of (follow_anew anew f) ≡ next_of f
+pub next-anew : (anew : Bool) (f : Follow) → next_of (follow_anew anew f) ≡ next_of f
 next-anew true f = refl
 next-anew false f = refl
 

@@ -3,7 +3,7 @@ use Rattle.std.proofs.Common.{◌≡◌, ◌<◌, ◌≤◌, ◌+◌, ℕ, suc, 
 use Rattle.std.proofs.Common.{◌∷◌, ◌++◌, Bool, true, false, ◌-◌, tests, length, map, drop}
 use Rattle.std.proofs.Common.{arith, IsTrue, ◌^◌, length-append, length-drop}
 use Rattle.std.specs.Prelude.{All, if◌then◌else◌, nat_lt, Option, Some, None}
-use Rattle.std.specs.Prelude.{slice_index_or}
+use Rattle.std.specs.Prelude.{slice_index_or, position, ◌↔◌, IsNone, Result, Ok, Err, IfOk, IfErr, OnOk}
 use Rattle.std.specs.List.Sorted.{IsStrictlyIncreasing}
 use Rattle.std.proofs.lemmas.List.Elements.{All-push}
 use Rattle.tk_shape.specs.declared.shape.Shape.{Shape}
@@ -15,7 +15,7 @@ use Rattle.tk_client.specs.declared.say_error.SayError.TheVariants.{NotWriter, T
 use Rattle.tk_client.specs.Writing.{Writing, unwritten, count_of, one_more_of, with_text}
 use Rattle.tk_client.specs.Saying.{is_written, text_fault, fault_of, IsRefusedFor}
 use Rattle.tk_client.specs.Outboxes.{CanWait, IsOutbox}
-use Rattle.tk_client.proofs.LogPlaces.{logs_of-more, is_written-more, logs_of-unwritten}
+use Rattle.tk_client.proofs.LogPlaces.{is_log, logs_of-more, is_written-more, logs_of-unwritten, written-at}
 
 -- nothing waits yet
 pub opened-sound : (shape : Shape) (logs : List ℕ) → IsStrictlyIncreasing logs →
@@ -111,6 +111,64 @@ fault-none shape text none =
         ◌≡◌ {A = Option SayError} (if b then None else Some e) None → IsTrue b
     allowed-none true e h = refl
     allowed-none false e h = absurd (never e h)
+
+-- a text that is too long has that fault, and else only the one that it may not be sent
+pub fault-long : (shape : Shape) (text : List ℕ) → shape.block < length text + 18 →
+    text_fault shape text ≡ Some (TooLong (shape.block - 18))
+fault-long shape text long =
+    ap (λ b. if b then Some (TooLong (shape.block - 18))
+    else (if is_allowed text then None else Some (Text (allowed_front (length text) text))))
+    (is_long shape.block (length text + 18) long)
+  where
+    is_long : (a b : ℕ) → a < b → nat_lt a b ≡ true
+    is_long a b h = grind (arith, tests)
+
+pub fault-fits : (shape : Shape) (text : List ℕ) → length text + 18 ≤ shape.block →
+    text_fault shape text
+    ≡ (if is_allowed text then None else Some (Text (allowed_front (length text) text)))
+fault-fits shape text fits =
+    ap (λ b. if b then Some (TooLong (shape.block - 18))
+    else (if is_allowed text then None else Some (Text (allowed_front (length text) text))))
+    (is_short shape.block (length text + 18) fits)
+  where
+    is_short : (a b : ℕ) → b ≤ a → nat_lt a b ≡ false
+    is_short a b h = grind (arith, tests)
+
+pub fault-text : (shape : Shape) (text : List ℕ) → length text + 18 ≤ shape.block →
+    is_allowed text ≡ false →
+    text_fault shape text ≡ Some (Text (allowed_front (length text) text))
+fault-text shape text fits other =
+    fault-fits shape text fits
+    ∙ ap (λ b. if b then None else Some (Text (allowed_front (length text) text))) other
+
+-- a text that has room and is allowed has none
+pub fault-free : (shape : Shape) (text : List ℕ) → length text + 18 ≤ shape.block →
+    IsTrue (is_allowed text) → text_fault shape text ≡ None
+fault-free shape text fits allowed =
+    fault-fits shape text fits
+    ∙ ap (λ b. if b then None else Some (Text (allowed_front (length text) text))) allowed
+
+-- where a log has a place and a text has room, an allowed text has none
+pub may-allowed : (shape : Shape) (logs : List Written) (log : ℕ) (text : List ℕ) (place : Result ℕ SayError) →
+    IsTrue (is_allowed text) → IfOk place (λ i. Some i ≡ position (is_log log) logs) →
+    OnOk place (length text + 18 ≤ shape.block) → OnOk place (fault_of shape logs log text ≡ None)
+may-allowed shape logs log text (Ok i) allowed at fits =
+    fault-mine shape logs log text (written-at log logs i at) ∙ fault-free shape text fits allowed
+may-allowed shape logs log text (Err e) allowed at fits = tt
+
+pub refused-each : {A : Type 0} (r : Result A SayError) (fault : Option SayError) → IfErr r (λ e. fault ≡ Some e) →
+    IfErr r (IsRefusedFor fault)
+refused-each (Ok x) fault is = tt
+refused-each (Err e) fault is = refused-for fault e is
+
+-- a text of which a longest front is named is not allowed
+pub not_allowed : (front : Option ℕ) (n : ℕ) (text : List ℕ) → front ≡ Some n →
+    (IsNone front ↔ IsTrue (is_allowed text)) → is_allowed text ≡ false
+not_allowed front n text is none =
+    elim (is_allowed text) as (λ b. (b ≡ true → ⊥) → b ≡ false) [
+      | true ↦ λ never. absurd (never refl)
+      | false ↦ λ never. refl
+    ] (λ e. absurd (cc (subst IsNone is (none.1 e))))
 
 -- what is said can wait
 pub can_wait : (shape : Shape) (logs : List Written) (log number : ℕ) (text kept : List ℕ) →

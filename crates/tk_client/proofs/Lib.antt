@@ -9,4 +9,5 @@ pub mod TakingLaws
 pub mod RepliesLaws
 pub mod ClientLaws
 pub mod LookingLaws
+pub mod VainLaws
 pub mod Offers

@@ -12,3 +12,4 @@ pub mod Replies
 pub mod Client
 pub mod Looking
 pub mod Laws
+pub mod Vain

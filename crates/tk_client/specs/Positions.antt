@@ -23,3 +23,7 @@ pub record IsOrigin (shape : Shape) (b : WordBook) (log : ℕ) (o : Origin) : Ty
 abbrev pub IsOriginOrNone : Shape → WordBook → ℕ → Option Origin → Type 0
 IsOriginOrNone shape b log None = Unit {0}
 IsOriginOrNone shape b log (Some o) = IsOrigin shape b log o
+
+abbrev pub IsOriginOf : Shape → WordBook → ℕ → Option Origin → Type 0
+IsOriginOf shape b log None = ⊥
+IsOriginOf shape b log (Some o) = IsOrigin shape b log o

@@ -1,8 +1,9 @@
 ghost use Rattle.std.specs.Prelude.{◌≡◌, ◌+◌, ◌<◌, ◌≤◌, ◌++◌, All, length, map, Some, None};
-ghost use Rattle.std.specs.Prelude.{IsSome, IfOk, IfErr, OnOk, OnErr};
+ghost use Rattle.std.specs.Prelude.{IsSome, IsTrue, IfOk, IfErr, OnOk, OnErr};
 ghost use Rattle.std.specs.Option.{ForSome};
 ghost use Rattle.std.specs.List.Sorted.{IsStrictlyIncreasing};
 ghost use Rattle.tk_shape.specs.Lengths.{turn_count};
+ghost use Rattle.tk_seal.specs.Texts.{is_allowed};
 ghost use Rattle.tk_words.specs.Words.{words_of};
 ghost use Rattle.tk_frames.specs.Spelling as spelling;
 ghost use Rattle.tk_frames.specs.Ranges.{IsWrite};
@@ -21,7 +22,7 @@ use crate::open_read::OpenRead;
 use crate::outbox::Outbox;
 use crate::pairing::KeptPair;
 use crate::reader::Reader;
-use crate::replies::{answer_of, frames_named};
+use crate::replies::{answer_of, check_replies};
 use crate::say_error::SayError;
 use crate::sight::Sight;
 use crate::take_error::TakeError;
@@ -115,6 +116,21 @@ impl Client {
         ensures kept { OnErr result (self.new ≡ self.old) }
     {
         self.outbox.say(alloc, log, text)
+    }
+
+    /// Says a text that is known to be allowed, as a script's texts are: its bytes are not looked at
+    /// again.
+    pub fn say_allowed(&mut self, alloc: Global, log: u32, text: &[u8]) -> Result<(), SayError>
+        requires allowed { IsTrue (is_allowed text.now) }
+        ensures may { OnOk result
+            (fault_of self.old.shape self.old.writing.logs log text.now ≡ None) }
+        ensures said { OnOk result
+            (self.new ≡ record self.old { writing = with_text log text.now self.old.writing }) }
+        ensures refused { IfErr result
+            (IsRefusedFor (fault_of self.old.shape self.old.writing.logs log text.now)) }
+        ensures kept { OnErr result (self.new ≡ self.old) }
+    {
+        self.outbox.say_allowed(alloc, log, text)
     }
 
     /// How many texts wait.
@@ -221,9 +237,8 @@ impl Client {
         ensures kept { OnErr result (self.new ≡ self.old) }
     {
         let read = self.read.unwrap();
-        let frames = frames_named(alloc, &self.shape, self.number, read, replies)?;
-        let frames = frames.as_slice();
-        let answer = answer_of(alloc, &self.shape, draws, frames, read.target, self.pair)?;
+        check_replies(&self.shape, self.number, read, replies)?;
+        let answer = answer_of(alloc, &self.shape, draws, replies, read.target, self.pair)?;
         self.reader
             .take(alloc, &self.shape, read.epoch, read.target, answer)?;
         self.read = None;

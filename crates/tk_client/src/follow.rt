@@ -1,6 +1,6 @@
 ghost use Rattle.std.specs.Prelude.{◌≡◌, ◌+◌, ◌-◌, ◌<◌, ◌≤◌, true};
 ghost use Rattle.std.specs.Prelude.{[], ◌∷◌, ◌++◌, replicate, find};
-ghost use Rattle.std.specs.Prelude.{Some, IfSome, IfOk, OnOk, OnErr};
+ghost use Rattle.std.specs.Prelude.{Some, IfSome, IfNone, IfOk, OnOk, OnErr};
 ghost use Rattle.std.specs.List.{range_with_len};
 ghost use Rattle.tk_shape.specs.declared.shape.Shape.{Shape};
 ghost use Rattle.tk_shape.specs.Lengths.{turn_count};
@@ -10,6 +10,7 @@ ghost use Rattle.tk_client.specs.Reader.{next_of, new_follow, wanted, follow_aft
 ghost use Rattle.tk_client.specs.Asked.{shown_by};
 ghost use Rattle.tk_client.specs.Positions.{IsOriginOrNone};
 ghost use Rattle.tk_client.specs.Searching.{follow_anew, is_wanted};
+ghost use Rattle.tk_client.specs.Vain.{NoneShown, ShowsNothing};
 
 use crate::got::Got;
 use crate::positions::Positions;
@@ -28,8 +29,6 @@ pub(crate) struct Follow {
     got: Vec<Got>,
     /// How many numbers from the next one on were asked for in vain in this epoch.
     tried: u32,
-    /// The filter positions of those numbers that were looked at.
-    positions: Positions,
 }
 
 impl Model for Follow {
@@ -49,7 +48,6 @@ impl Follow {
             log,
             got: Vec::new(alloc),
             tried: 0,
-            positions: Positions::new(),
         }
     }
 
@@ -74,16 +72,23 @@ impl Follow {
 
     /// How far ahead of the next number the one is that is wanted. Where the epoch is a new one all
     /// numbers count as not tried yet.
-    pub(crate) fn wanted<D: Draws>(&mut self, sight: &Sight<D>, anew: bool) -> Option<u32>
-        requires log_in { self.old.log < sight.now.shape.now.logs }
+    pub(crate) fn wanted<D: Draws>(
+        &self,
+        sight: &Sight<D>,
+        positions: &mut Positions,
+        anew: bool,
+    ) -> Option<u32>
+        requires log_in { self.now.log < sight.now.shape.now.logs }
         ensures wanted { let shape = sight.now.shape.now in
             let words = words_of shape (D.book sight.now.draws.now) in
             let shown = shown_by sight.now.filter.now words in
-            result ≡ wanted shape shown (follow_anew anew self.old) }
+            result ≡ wanted shape shown (follow_anew anew self.now) }
         ensures number_in { IfSome result
-            (λ j. next_of self.old + j < turn_count sight.now.shape.now) }
+            (λ j. next_of self.now + j < turn_count sight.now.shape.now) }
         ensures ahead_in { IfSome result (λ j. j ≤ sight.now.shape.now.ahead) }
-        ensures same { self.new ≡ self.old }
+        ensures vain { let shape = sight.now.shape.now in IfNone result
+            (ShowsNothing (turn_count shape) shape.ahead sight.now.filter.now positions.new
+            (follow_anew anew self.now)) }
     {
         let next = self.got.len();
         if next >= sight.shape.turns() as usize {
@@ -93,7 +98,7 @@ impl Follow {
             return Some(0);
         }
         let tried = self.tried(anew);
-        first_shown(&mut self.positions, sight, self.log, next as u32, tried)
+        first_shown(positions, sight, self.log, next as u32, tried)
     }
 
     /// How many numbers from the next one on count as tried.
@@ -154,6 +159,8 @@ fn first_shown<D: Draws>(
         (range_with_len tried (shape.ahead - tried)) }
     ensures number_in { IfSome result (λ j. next + j < turn_count sight.now.shape.now) }
     ensures ahead_in { IfSome result (λ j. j < sight.now.shape.now.ahead) }
+    ensures vain { let shape = sight.now.shape.now in IfNone result
+        (NoneShown (turn_count shape) shape.ahead sight.now.filter.now positions.new next tried) }
 {
     positions.turn_to(sight.shape, sight.draws, log);
     for ahead in tried..sight.shape.ahead {

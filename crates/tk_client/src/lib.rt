@@ -23,6 +23,7 @@ mod sight;
 mod take_error;
 mod taking;
 mod target;
+mod vain_search;
 mod waiting;
 mod writes;
 mod written;

@@ -2,11 +2,11 @@
 ghost use Rattle.std.specs.Prelude.{◌≡◌, ◌<◌, true, take, None};
 ghost use Rattle.tk_shape.specs.Lengths.{turn_count};
 ghost use Rattle.tk_words.specs.Words.{hits_of};
-ghost use Rattle.tk_client.specs.Positions.{IsOriginOrNone};
+ghost use Rattle.tk_client.specs.Positions.{IsOriginOrNone, IsOriginOf};
 
 use std::marker::Model;
 use tk_shape::Shape;
-use tk_words::Draws;
+use tk_words::{Draws, is_same_seed};
 
 /// What the filter positions of all numbers of a log come from.
 #[derive(Clone, Copy, Debug, PartialEq, Eq)]
@@ -70,6 +70,19 @@ impl Positions {
         }
     }
 
+    /// Whether what is kept comes from where the positions of a log do; never where the book gives
+    /// these number by number.
+    pub(crate) fn is_of<D: Draws>(&self, shape: &Shape, draws: &D, log: u32) -> bool
+        requires one_shape { D.shape draws.now ≡ shape.now }
+        requires log_in { log < shape.now.logs }
+        ensures { result ≡ true → IsOriginOf shape.now (D.book draws.now) log self.now }
+    {
+        match (&self.origin, origin_of(shape, draws, log)) {
+            (Some(kept), Some(origin)) => is_same_origin(kept, &origin),
+            _ => false,
+        }
+    }
+
     /// The filter positions of a number, which are the first of these.
     pub(crate) fn of<D: Draws>(
         &mut self,
@@ -105,10 +118,16 @@ fn is_same(one: Option<Origin>, other: Option<Origin>) -> bool
     ensures { result ≡ true → one ≡ other }
 {
     match (one, other) {
-        (Some(one), Some(other)) => one == other,
+        (Some(one), Some(other)) => is_same_origin(&one, &other),
         (None, None) => true,
         _ => false,
     }
+}
+
+fn is_same_origin(one: &Origin, other: &Origin) -> bool
+    ensures { result ≡ true → one.now ≡ other.now }
+{
+    one.bits == other.bits && one.hits == other.hits && is_same_seed(&one.seed, &other.seed)
 }
 
 /// What the filter positions of a log's numbers come from, if not from the book number by number.

@@ -1,4 +1,5 @@
 ghost use Rattle.std.specs.Prelude.{◌≡◌, ◌==◌, ◌<◌, ◌≤◌, length, find, IfOk, IfSome, OnOk, OnErr};
+ghost use Rattle.std.specs.Prelude.{Some, None, true};
 ghost use Rattle.std.specs.Option.{option_copied};
 ghost use Rattle.tk_words.specs.Words.{words_of};
 ghost use Rattle.tk_client.specs.Reader.{new_reader, at_epoch, target, after_read};
@@ -8,10 +9,12 @@ ghost use Rattle.tk_client.specs.Searching.{AreBelow, IsTargetOrNone};
 
 use crate::follow::Follow;
 use crate::got::Got;
+use crate::positions::Positions;
 use crate::recording::{record_answer, renew};
-use crate::searching::first_target;
+use crate::searching::{come_from, first_from};
 use crate::sight::Sight;
 use crate::target::Target;
+use crate::vain_search::VainSearch;
 use std::alloc::Global;
 use std::marker::Model;
 use tk_shape::{Bytes, Memory, Shape};
@@ -22,21 +25,26 @@ use tk_words::Draws;
 pub(crate) struct Reader {
     /// The logs, ascending.
     follows: Vec<Follow>,
+    /// The filter positions of those numbers of each log that were looked at.
+    positions: Vec<Positions>,
     /// The place among them where the next search begins.
     cursor: usize,
     /// The epoch that was read last.
     last: u32,
+    /// The last search, where it found nothing and nothing was read since.
+    vain: Option<VainSearch>,
 }
 
 impl Model for Reader {
-    ghost use Rattle.std.specs.Prelude.{◌≤◌, length};
     ghost use Rattle.tk_client.specs.Reader.{Reader};
+    ghost use Rattle.tk_client.specs.Vain.{IsReader};
 
     ghost Value = { Reader };
 
     ghost view = { λ r. record { follows = r.follows.items; cursor = r.cursor; last = r.last } };
 
-    ghost invariant = { λ r. r.cursor ≤ length r.follows.items };
+    ghost invariant = { λ r.
+        IsReader r.follows.items r.positions.items r.cursor r.last r.vain };
 }
 
 impl Reader {
@@ -49,9 +57,11 @@ impl Reader {
             follows.push(Follow::new(alloc, *log))?;
         }
         Ok(Reader {
+            positions: no_positions(alloc, logs.len())?,
             follows,
             cursor: 0,
             last: 0,
+            vain: None,
         })
     }
 
@@ -67,14 +77,36 @@ impl Reader {
         ensures in_range { IsTargetOrNone sight.now.shape.now (length self.old.follows) result }
         ensures same { self.new ≡ self.old }
     {
-        let anew = epoch != self.last;
-        let cursor = self.cursor;
-        let count = self.follows.len();
-        let follows = self.follows.as_mut_slice();
-        if let Some(target) = first_target(sight, follows, anew, cursor, count) {
-            return Some(target);
+        if self.is_vain(sight, epoch) {
+            return None;
         }
-        first_target(sight, follows, anew, 0, cursor)
+        let anew = epoch != self.last;
+        let found = first_from(
+            sight,
+            self.follows.as_slice(),
+            self.positions.as_mut_slice(),
+            anew,
+            self.cursor,
+        );
+        self.vain = VainSearch::after(sight, epoch, found);
+        found
+    }
+
+    /// Whether a search over an epoch is known to find nothing.
+    fn is_vain<D: Draws>(&self, sight: &Sight<D>, epoch: u32) -> bool
+        requires follows_in { AreBelow sight.now.shape.now.logs self.now.follows }
+        ensures { let shape = sight.now.shape.now in
+            let words = words_of shape (D.book sight.now.draws.now) in
+            let shown = shown_by sight.now.filter.now words in
+            result ≡ true → target shape shown (at_epoch epoch self.now) ≡ None }
+    {
+        match &self.vain {
+            Some(vain) => {
+                vain.is_over(sight, epoch)
+                    && come_from(sight, self.follows.as_slice(), self.positions.as_slice())
+            }
+            None => false,
+        }
     }
 
     /// Takes the answer to a read over an epoch.
@@ -96,6 +128,7 @@ impl Reader {
         let Some(target) = target else {
             renew(self.follows.as_mut_slice(), anew);
             self.last = epoch;
+            keep_of_epoch(&mut self.vain, epoch);
             return Ok(());
         };
         let behind = (target.place + 1) % self.follows.len();
@@ -109,6 +142,7 @@ impl Reader {
         )?;
         self.cursor = behind;
         self.last = epoch;
+        self.vain = None;
         Ok(())
     }
 
@@ -120,6 +154,30 @@ impl Reader {
             Some(follow) => follow.got(),
             None => &[],
         }
+    }
+}
+
+/// Of so many logs, none of whose numbers was looked at yet.
+fn no_positions(alloc: Global, count: usize) -> Result<Vec<Positions>, Memory>
+    ensures { IfOk result (λ positions. length positions.items ≡ count) }
+{
+    let mut positions = Vec::with_capacity(alloc, count)?;
+    for _ in 0..count {
+        positions.push(Positions::new())?;
+    }
+    Ok(positions)
+}
+
+/// Forgets a search over another epoch than this one.
+fn keep_of_epoch(vain: &mut Option<VainSearch>, epoch: u32)
+    ensures { IfSome vain.new (λ v. (v.epoch ≡ epoch) × (vain.old ≡ Some v)) }
+{
+    let is_other = match vain {
+        Some(search) => search.epoch != epoch,
+        None => false,
+    };
+    if is_other {
+        *vain = None;
     }
 }
 

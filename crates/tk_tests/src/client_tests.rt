@@ -7,6 +7,7 @@ use std::alloc::Global;
 use tk_bloom::{Filter, Window};
 use tk_client::{Client, Got, SayError, TakeError};
 use tk_frames::FrameError;
+use tk_seal::allowed;
 use tk_shape::{Bytes, Memory, Shape};
 use tk_words::{DrawnDraws, Draws, Tape};
 
@@ -265,6 +266,18 @@ fn a_text_is_written_once_and_then_what_is_drawn(rt: HostRuntime) -> Result<(), 
     assert!(rt; client.say(alloc, 0, b"hi").is_ok());
     write(alloc, &mut client, &draws, OF_HI)?;
     write(alloc, &mut client, &draws, DRAWN)
+}
+
+#[test]
+fn an_allowed_text_is_written_too(rt: HostRuntime) -> Result<(), Memory> {
+    let alloc = rt.alloc();
+    let shape = small()?;
+    let draws = book(alloc, &shape)?;
+    let mut client = Client::open(alloc, &shape, 1, &[0], &[])?;
+    assert!(rt; allowed(b"hi").is_none());
+    assert!(rt; client.say_allowed(alloc, 1, b"hi") == Err(SayError::NotWriter { log: 1 }));
+    assert!(rt; client.say_allowed(alloc, 0, b"hi").is_ok());
+    write(alloc, &mut client, &draws, OF_HI)
 }
 
 /// A log, what is said on it, and why that is refused.

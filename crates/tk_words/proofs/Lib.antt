@@ -1,3 +1,4 @@
+pub mod SeedBytes
 pub mod Joined
 pub mod Written
 pub mod KeyedReads

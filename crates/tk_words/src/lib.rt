@@ -17,5 +17,5 @@ pub use draws::Draws;
 pub use keyed::KeyedDraws;
 pub use laws::one_text_seals;
 pub use lifting::{LiftError, lift_tape};
-pub use log_seeds::LogSeeds;
+pub use log_seeds::{LogSeeds, is_same_seed};
 pub use tape::{Tape, TapeError};

@@ -5,6 +5,7 @@ use Rattle.tk_client.specs.Asked.{shown_by}
 use Rattle.tk_client.specs.Positions.{IsOriginOrNone}
 use Rattle.tk_client.specs.Searching.{is_wanted}
 use Rattle.tk_client.proofs.FollowLaws.{find-here, find-later, find-past}
+use Rattle.tk_client.proofs.VainLaws.{none-shown}
 use Rattle.tk_client.proofs.follow.first_shown.Goals as goal
 
 pub loop-ahead-init : goal.loop-ahead-init
@@ -41,6 +42,7 @@ returns-then-is_shown g c =
           ∙ c.loop-ahead.invariant.found;
       number_in = c.is_shown.ensures.number_in c.if-is_shown.true;
       ahead_in = c.loop-ahead-test.true;
+      vain = tt;
     }
 
 pub returns : goal.returns
@@ -49,11 +51,15 @@ returns g c =
     let book = g.D.Draws.book c.args.sight.now.draws.now in
     let shown = shown_by c.args.sight.now.filter.now (words_of shape book) in
     let test : ℕ → Bool = λ j. is_wanted shape shown c.args.log (c.args.next + j) in
+    let none =
+    sym (find-past test c.loop-ahead.ahead shape.ahead (omega (arith, c.loop-ahead-test.false)))
+    ∙ c.loop-ahead.invariant.found
+    in
     record {
-      first =
-          sym
-          (find-past test c.loop-ahead.ahead shape.ahead (omega (arith, c.loop-ahead-test.false)))
-          ∙ c.loop-ahead.invariant.found;
+      first = none;
       number_in = tt;
       ahead_in = tt;
+      vain =
+          none-shown shape book c.args.sight.now.filter.now c.args.log c.loop-ahead.positions
+          c.args.next c.args.tried c.loop-ahead.invariant.ready (sym none);
     }

@@ -4,7 +4,9 @@ use Rattle.tk_shape.specs.Lengths.{turn_count}
 use Rattle.tk_words.specs.Words.{words_of}
 use Rattle.tk_client.specs.Asked.{shown_by}
 use Rattle.tk_client.specs.Reader.{next_of}
-use Rattle.tk_client.proofs.FollowLaws.{wanted-settled, next-by-view}
+use Rattle.tk_client.proofs.FollowLaws.{wanted-settled, next-by-view, next-anew}
+use Rattle.tk_client.proofs.VainLaws.{settled-shows_nothing}
+use Rattle.tk_client.specs.Searching.{follow_anew}
 use Rattle.tk_client.proofs.follow.Follow.wanted.Goals as goal
 
 pub returns-then-next-turns-clause-wanted : goal.returns-then-next-turns-clause-wanted
@@ -26,3 +28,24 @@ returns-then-next-turns-clause-wanted g c =
     )
     in
     sym (wanted-settled shape shown c.args.anew f settled)
+
+pub returns-then-next-turns-clause-vain : goal.returns-then-next-turns-clause-vain
+returns-then-next-turns-clause-vain g c =
+    let shape = c.args.sight.now.shape.now in
+    let f = c.args.self.now in
+    let known = follow_anew c.args.anew f in
+    let was = c.self.inside in
+    let same = next-by-view was.log was.got.items was.tried f c.self.view_is in
+    let settled : turn_count shape ≤ next_of known =
+    omega (
+      arith,
+      same,
+      next-anew c.args.anew f,
+      c.if-next-turns.true,
+      c.turns.ensures.count,
+      c.len-next.ensures,
+      c.self.inside.got.ok.0,
+    )
+    in
+    settled-shows_nothing (turn_count shape) shape.ahead c.args.sight.now.filter.now
+    c.args.positions.now (next_of known) known.tried settled
