@@ -11,6 +11,7 @@ use Rattle.tk_frames.specs.Order.{is_mark}
 use Rattle.tk_frames.specs.Spelling.{placed_frame}
 use Rattle.tk_frames.proofs.Offers.{marks-push, order-push}
 use Rattle.tk_replica.specs.Replica.{ReplicaView}
+use Rattle.tk_report.specs.Displaced.{displaced_in}
 use Rattle.tk_relay.specs.declared.replicas.Replicas.{Replicas}
 use Rattle.tk_relay.specs.Replicas.{IsReplicaOf, AreReplicas, MayApply, MayApplyAll, HaveTaken}
 
@@ -44,7 +45,14 @@ all-apply p i old new shape E past h are next =
           h.done k d (omega (arith, within, past)) low shape E (are.each k d low) next;
     }
 
--- a replica that has not changed may apply what all may
+-- a replica that has not changed has applied what all have
+pub one-left : (p : Placed) (i : ℕ) (old new : List ReplicaView) (d : ReplicaView) (shape : Shape)
+    (E : List Placed) → AreReplicas shape E old → i < length old →
+    ChangedUpTo (Applies p) i old new → IsReplicaOf shape E (slice_index_or new i d)
+one-left p i old new d shape E are low h =
+    subst (IsReplicaOf shape E) (sym (h.left i d (omega arith))) (are.each i d low)
+
+-- and may apply what all may
 pub one-may : (p : Placed) (i : ℕ) (old new : List ReplicaView) (d : ReplicaView) →
     MayApplyAll p old → i < length old → ChangedUpTo (Applies p) i old new →
     MayApply p (slice_index_or new i d)
@@ -52,9 +60,7 @@ one-may p i old new d may low h =
     record {
       shape = may.shape;
       E = may.E;
-      is =
-          subst (IsReplicaOf may.shape may.E) (sym (h.left i d (omega arith)))
-          (may.are.each i d low);
+      is = one-left p i old new d may.shape may.E may.are low h;
       next = may.next;
     }
 
@@ -81,17 +87,24 @@ replicas-order shape E list are =
 
 -- before any entry of the turn
 pub taken-none : (shape : Shape) (E : List Placed) (r : Replicas) →
-    AreReplicas shape E r.list.items → r.seen.items ≡ [] → HaveTaken shape E [] r
-taken-none shape E r are none =
+    AreReplicas shape E r.list.items → r.seen.items ≡ [] → r.displaced ≡ displaced_in shape E →
+    HaveTaken shape E [] r
+taken-none shape E r are none count =
     let now = subst (λ (F : List Placed). AreReplicas shape F r.list.items) (sym (append-nil E)) are in
-    record { order = replicas-order shape (E ++ []) r.list.items now; are = now; seen = none }
+    record {
+      order = replicas-order shape (E ++ []) r.list.items now;
+      are = now;
+      seen = none;
+      displaced = count ∙ ap (displaced_in shape) (sym (append-nil E));
+    }
 
 -- one entry more
 pub taken-more : (shape : Shape) (E F : List Placed) (p : Placed) (old new : Replicas) →
     HaveTaken shape E F old → IsNext shape (E ++ F) p →
     AreReplicas shape ((E ++ F) ++ p ∷ []) new.list.items →
-    new.seen.items ≡ old.seen.items ++ placed_frame p → HaveTaken shape E (F ++ p ∷ []) new
-taken-more shape E F p old new have next are seen =
+    new.seen.items ≡ old.seen.items ++ placed_frame p →
+    new.displaced ≡ displaced_in shape ((E ++ F) ++ p ∷ []) → HaveTaken shape E (F ++ p ∷ []) new
+taken-more shape E F p old new have next are seen count =
     let same = append_assoc E F (p ∷ []) in
     record {
       order = subst (IsOrder shape) same (order-push shape (E ++ F) p have.order next);
@@ -100,4 +113,5 @@ taken-more shape E F p old new have next are seen =
           seen ∙ ap (λ (xs : List ℕ). xs ++ placed_frame p) have.seen
           ∙ ap (λ (xs : List ℕ). flat_map placed_frame F ++ xs) (sym (append-nil (placed_frame p)))
           ∙ sym (flat_map-append placed_frame F (p ∷ []));
+      displaced = count ∙ ap (displaced_in shape) same;
     }

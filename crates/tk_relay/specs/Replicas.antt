@@ -5,6 +5,7 @@ use Rattle.tk_frames.specs.declared.entry.Placed.{Placed}
 use Rattle.tk_frames.specs.InOrder.{IsNext, IsOrder, mark_count}
 use Rattle.tk_frames.specs.Spelling.{placed_frame}
 use Rattle.tk_replica.specs.Replica.{ReplicaView, StandsFor}
+use Rattle.tk_report.specs.Displaced.{displaced_in}
 use Rattle.tk_relay.specs.declared.replicas.Replicas.{Replicas}
 
 -- a replica that has applied these entries, and keeps the last epoch and the one before it
@@ -31,8 +32,10 @@ pub record MayApplyAll (p : Placed) (list : List ReplicaView) : Type 0 where
   pub are : AreReplicas shape E list
   pub next : IsNext shape E p
 
--- they have applied the second entries after the first, of which alone the frames are seen
+-- They have applied the second entries after the first, of which alone the frames are seen. Of all
+-- of them the displaced writes were counted.
 pub record HaveTaken (shape : Shape) (E F : List Placed) (r : Replicas) : Type 0 where
   pub order : IsOrder shape (E ++ F)
   pub are : AreReplicas shape (E ++ F) r.list.items
   pub seen : r.seen.items ≡ flat_map placed_frame F
+  pub displaced : r.displaced ≡ displaced_in shape (E ++ F)

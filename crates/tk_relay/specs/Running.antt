@@ -7,6 +7,7 @@ use Rattle.tk_script.specs.declared.script.Script.{Script}
 use Rattle.tk_words.specs.Words.{WordBook, BookWords, words_of}
 use Rattle.tk_client.specs.Client.{ClientState, opened}
 use Rattle.tk_report.specs.Clients.{AreClients, known_before, client_before, client_knowing}
+use Rattle.tk_report.specs.Displaced.{displaced_in}
 use Rattle.tk_report.specs.Queues.{said_before}
 use Rattle.tk_report.specs.Report.{target_at}
 use Rattle.tk_report.specs.Turns.{placed_before}
@@ -56,3 +57,5 @@ pub record IsRunBefore (S : Script) (b : WordBook) (H : History) (g : ℕ) (run 
   pub replicas : AreReplicas S.shape (placed_before S (words_of S.shape b) H g)
       run.replicas.list.items
   pub seen : run.replicas.seen.items ≡ []
+  pub displaced : run.replicas.displaced
+      ≡ displaced_in S.shape (placed_before S (words_of S.shape b) H g)

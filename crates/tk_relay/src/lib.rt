@@ -11,7 +11,6 @@ mod halves;
 mod keyed;
 mod kind;
 mod laws;
-mod leaving;
 mod pads;
 mod part;
 mod part_error;

@@ -8,7 +8,6 @@ ghost use Rattle.tk_report.specs.Outcomes.{IsLeftBy};
 ghost use Rattle.tk_relay.specs.Relayed.{seeds_of, relayed_exchange};
 
 use crate::RelayRunError;
-use crate::leaving::outcome_of;
 use crate::turns::take_turns;
 use std::alloc::Global;
 use tk_io::Taps;
@@ -52,6 +51,7 @@ pub fn relayed<T: Taps>(
         draws,
         history: &history,
     };
-    let clients = take_turns(alloc, &plan, seeds, taps)?;
-    Ok(outcome_of(alloc, script, draws, history, clients)?)
+    let run = take_turns(alloc, &plan, seeds, taps)?;
+    let displaced = run.replicas.displaced;
+    Ok(Outcome::of(script, history, run.group.clients, displaced)?)
 }

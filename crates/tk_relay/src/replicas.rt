@@ -3,6 +3,7 @@ ghost use Rattle.tk_shape.specs.declared.shape.Shape.{Shape};
 ghost use Rattle.tk_frames.specs.declared.entry.Placed.{Placed};
 ghost use Rattle.tk_frames.specs.InOrder.{IsNext};
 ghost use Rattle.tk_frames.specs.Order.{is_mark};
+ghost use Rattle.tk_table.specs.Puts.{put_of};
 ghost use Rattle.tk_replica.specs.Replica.{StandsFor};
 ghost use Rattle.tk_relay.specs.Replicas.{IsReplicaOf, AreReplicas, MayApply, MayApplyAll};
 ghost use Rattle.tk_relay.specs.Replicas.{HaveTaken};
@@ -10,20 +11,24 @@ ghost use Rattle.tk_relay.specs.Replicas.{HaveTaken};
 use std::alloc::Global;
 use tk_frames::{Entry, Placed, encode_placed};
 use tk_replica::ReplicaState;
-use tk_report::Takes;
+use tk_report::{Takes, displaced_with};
 use tk_shape::{Memory, Shape};
+use tk_table::Put;
 
-/// The servers of a run, server 1 first, and the frames of the entries of a turn, which all of them see.
+/// The servers of a run, server 1 first, the frames of the entries of a turn, which all of them see, and how many writes
+/// found no place when they came.
 #[derive(Drop)]
 pub(crate) struct Replicas {
     pub list: Vec<ReplicaState>,
     pub seen: Vec<u8>,
+    pub displaced: u32,
 }
 
 /// The servers of a shape, before any entry.
 pub(crate) fn open_replicas(alloc: Global, shape: &Shape) -> Result<Replicas, Memory>
     ensures are { IfOk result (λ r. AreReplicas shape.now [] r.list.items) }
     ensures seen { IfOk result (λ r. r.seen.items ≡ []) }
+    ensures displaced { IfOk result (λ r. r.displaced ≡ 0) }
 {
     let mut list = Vec::new(alloc);
     for _ in 0..shape.servers {
@@ -32,31 +37,43 @@ pub(crate) fn open_replicas(alloc: Global, shape: &Shape) -> Result<Replicas, Me
     Ok(Replicas {
         list,
         seen: Vec::new(alloc),
+        displaced: 0,
     })
 }
 
-/// Each replica applies an entry.
-fn apply_all(alloc: Global, list: &mut [ReplicaState], placed: &Placed) -> Result<(), Memory>
+/// Each replica applies an entry. The answer is what became of it where it is a write.
+fn apply_all(
+    alloc: Global,
+    list: &mut [ReplicaState],
+    placed: &Placed,
+) -> Result<Option<Put>, Memory>
     requires { MayApplyAll placed.now list.old }
-    ensures { (shape : Shape) (E : List Placed)
+    ensures applied { (shape : Shape) (E : List Placed)
         → AreReplicas shape E list.old → IsNext shape E placed.now
         → OnOk result (AreReplicas shape (E ++ placed.now ∷ []) list.new) }
+    ensures put { (shape : Shape) (E : List Placed)
+        → AreReplicas shape E list.old → IsNext shape E placed.now
+        → IfOk result (λ put. put ≡ put_of shape E placed.now) }
 {
+    let mut put = None;
     for replica in list.iter_mut() {
-        apply(alloc, replica, placed)?;
+        put = apply(alloc, replica, placed)?;
     }
-    Ok(())
+    Ok(put)
 }
 
-/// A replica applies an entry. Before a mark all epochs but the last are let go, so that there are never more than two.
-fn apply(alloc: Global, replica: &mut ReplicaState, placed: &Placed) -> Result<(), Memory>
+/// A replica applies an entry, and says what became of it. Before a mark all epochs but the last are let go, so that
+/// there are never more than two.
+fn apply(alloc: Global, replica: &mut ReplicaState, placed: &Placed) -> Result<Option<Put>, Memory>
     requires { MayApply placed.now replica.old }
-    ensures { (shape : Shape) (E : List Placed)
+    ensures applied { (shape : Shape) (E : List Placed)
         → IsReplicaOf shape E replica.old → IsNext shape E placed.now
         → OnOk result (IsReplicaOf shape (E ++ placed.now ∷ []) replica.new) }
+    ensures put { (shape : Shape) (E : List Placed)
+        → IsReplicaOf shape E replica.old → IfOk result (λ put. put ≡ put_of shape E placed.now) }
 {
     make_room(replica, &placed.entry);
-    replica.apply(alloc, placed)
+    replica.apply_and_tell(alloc, placed)
 }
 
 /// Where a mark comes, lets all epochs but the last go.
@@ -81,7 +98,9 @@ impl Takes for Replicas {
 
     fn take(&mut self, alloc: Global, placed: &Placed) -> Result<(), Memory> {
         encode_placed(placed, &mut self.seen)?;
-        apply_all(alloc, self.list.as_mut_slice(), placed)
+        let put = apply_all(alloc, self.list.as_mut_slice(), placed)?;
+        self.displaced = displaced_with(self.displaced, put);
+        Ok(())
     }
 
     ghost in_order = { λ was shape E F is have. have.order };

@@ -31,20 +31,19 @@ use tk_script::Script;
 use tk_shape::{Bytes, Memory};
 use tk_words::Draws;
 
-/// The clients at the end of a serial run whose reads are relayed, turn after turn. What each server sees goes to its
-/// tap at the end of each turn.
+/// A serial run at its end, whose reads are relayed, turn after turn. What each server sees goes to its tap at the end of
+/// each turn.
 pub(crate) fn take_turns<D: Draws, T: Taps>(
     alloc: Global,
     plan: &Plan<D>,
     seeds: &[[u8; 32]],
     taps: &mut T,
-) -> Result<Vec<Client>, RelayRunError>
+) -> Result<Run, RelayRunError>
     requires serial { plan.now.history.now ≡ serial_history plan.now.script.now.shape }
     requires seeds { length seeds.now ≡ plan.now.script.now.shape.clients }
-    ensures clients { let S = plan.now.script.now in
-        let words = words_of S.shape (D.book plan.now.draws.now) in
-        IfOk result (λ clients. AreClients S.shape.clients
-        (client_before S words plan.now.history.now (turn_count S.shape)) clients.items) }
+    ensures run { let end = turn_count plan.now.script.now.shape in
+        IfOk result (IsRunBefore plan.now.script.now (D.book plan.now.draws.now)
+        plan.now.history.now end) }
     ensures ok { let S = plan.now.script.now in
         let book = D.book plan.now.draws.now in
         OnOk result (TapsGain S.shape.servers
@@ -63,7 +62,7 @@ pub(crate) fn take_turns<D: Draws, T: Taps>(
 {
     let mut run = open_run(alloc, plan.script)?;
     take_all_turns(alloc, plan, seeds, &mut run, taps)?;
-    Ok(run.group.clients)
+    Ok(run)
 }
 
 /// A run before its first turn.

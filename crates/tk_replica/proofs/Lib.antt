@@ -8,4 +8,5 @@ pub mod MarksAmong
 pub mod LastMarks
 pub mod Following
 pub mod KeptNumbers
+pub mod Puts
 pub mod Offers

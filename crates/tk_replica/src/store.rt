@@ -1,9 +1,10 @@
-ghost use Rattle.std.specs.Prelude.{◌≡◌, ◌<◌, ◌≤◌, ◌++◌, ◌∷◌, [], List, All, IfOk};
+ghost use Rattle.std.specs.Prelude.{◌≡◌, ◌<◌, ◌≤◌, ◌↔◌, ◌++◌, ◌∷◌, [], List, All, IfOk, true};
 ghost use Rattle.std.specs.Arc.{arc_value};
 ghost use Rattle.tk_frames.specs.Order.{Record};
 ghost use Rattle.tk_frames.specs.Ranges.{IsWrite};
 ghost use Rattle.tk_table.specs.Ordered.{AreOrdered};
 ghost use Rattle.tk_table.specs.Stands.{TableStandsFor, IsWrite as IsRecord};
+ghost use Rattle.tk_table.specs.Table.{is_displaced};
 ghost use Rattle.tk_replica.specs.Store.{IsStore, IsNewStore, IsTaken, pushed};
 
 use crate::Epoch;
@@ -13,7 +14,7 @@ use std::sync::Arc;
 use tk_bloom::Window;
 use tk_frames::WriteFrame;
 use tk_shape::{Memory, Shape};
-use tk_table::Table;
+use tk_table::{Put, Table};
 
 /// What a server has of the latest writes: their table, and the window of their positions in the
 /// filter.
@@ -86,8 +87,9 @@ impl Store {
         &self.window
     }
 
-    /// Takes a write: it goes into the table, and its positions into the window.
-    pub(crate) fn put(&mut self, position: u64, write: &WriteFrame)
+    /// Takes a write: it goes into the table, and its positions into the window. The answer is what
+    /// became of it in the table.
+    pub(crate) fn put(&mut self, position: u64, write: &WriteFrame) -> Put
         requires in_range { IsWrite self.old.shape write.now }
         requires first { 1 ≤ position }
         requires above { All (λ p. p < position) self.old.table.positions }
@@ -103,10 +105,14 @@ impl Store {
             → TableStandsFor self.old.table R → AreOrdered self.old.table.shape R
             → IsRecord w position (write.now.first, write.now.second) write.now.block
             → TableStandsFor self.new.table (R ++ w ∷ []) }
+        ensures displaced { (R : List Record) (w : Record)
+            → TableStandsFor self.old.table R → AreOrdered self.old.table.shape R
+            → IsRecord w position (write.now.first, write.now.second) write.now.block
+            → (result ≡ Put.Displaced) ↔ (is_displaced self.old.table.shape R w ≡ true) }
     {
         let pair = (write.first, write.second);
-        self.table.put(position, pair, write.block.as_slice());
         self.window.push(write.hits.as_slice());
+        self.table.put(position, pair, write.block.as_slice())
     }
 
     /// An epoch of what is there now.

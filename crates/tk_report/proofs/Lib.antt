@@ -39,6 +39,7 @@ pub mod ReadingLaws
 pub mod DisplacedLaws
 pub mod SaidLaws
 pub mod CountedLaws
+pub mod OrderCounts
 pub mod BlankLaws
 pub mod ListingLaws
 pub mod SendingsLaws

@@ -1,12 +1,14 @@
-ghost use Rattle.std.specs.Prelude.{◌≡◌, ◌+◌, ◌<◌, ◌++◌, ◌∷◌, [], List, ℕ, IfOk, IsTrue};
+ghost use Rattle.std.specs.Prelude.{◌≡◌, ◌+◌, ◌<◌, ◌++◌, ◌∷◌, [], List, ℕ, map, IfOk, IsTrue};
+ghost use Rattle.std.specs.Arc.{arc_value};
 ghost use Rattle.tk_shape.specs.Lengths.{turn_count};
 ghost use Rattle.tk_schedule.specs.Schedule.{IsLegal, is_within};
 ghost use Rattle.tk_words.specs.Words.{words_of};
 ghost use Rattle.tk_frames.specs.declared.entry.Placed.{Placed};
+ghost use Rattle.tk_frames.specs.InOrder.{IsOrder};
 ghost use Rattle.tk_frames.specs.Order.{records};
 ghost use Rattle.tk_table.specs.Ordered.{AreOrdered};
 ghost use Rattle.tk_report.specs.Counts.{HasCounted, MayCount};
-ghost use Rattle.tk_report.specs.Displaced.{displaced_count};
+ghost use Rattle.tk_report.specs.Displaced.{displaced_count, displaced_in};
 ghost use Rattle.tk_report.specs.Entries.{write_at};
 ghost use Rattle.tk_report.specs.Rooms.{IsRoom};
 ghost use Rattle.tk_report.specs.Turns.{placed_before, entry_due, next_placed};
@@ -17,9 +19,11 @@ use crate::pairs::Pairs;
 use crate::plan::Plan;
 use crate::room::Room;
 use std::alloc::Global;
+use std::sync::Arc;
+use tk_frames::Placed;
 use tk_schedule::{History, Item};
 use tk_script::Script;
-use tk_shape::Memory;
+use tk_shape::{Memory, Shape};
 use tk_words::Draws;
 
 /// How many writes of a run of a script are displaced when they come, where the history is this
@@ -101,4 +105,21 @@ fn count_entry<D: Draws>(
         }
         Item::Publish => count.pass(),
     }
+}
+
+/// How many writes of an order are displaced when they come.
+pub fn displaced_in_order(
+    alloc: Global,
+    shape: &Shape,
+    order: &[Arc<Placed>],
+) -> Result<u32, Memory>
+    requires { IsOrder shape.now (map (λ a. arc_value a) order.now) }
+    ensures { IfOk result
+        (λ n. n ≡ displaced_in shape.now (map (λ a. arc_value a) order.now)) }
+{
+    let mut count = Count::open(alloc, shape)?;
+    'entries: for placed in order {
+        count.take_entry(placed);
+    }
+    Ok(count.displaced)
 }

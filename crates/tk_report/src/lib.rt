@@ -34,7 +34,8 @@ mod telling;
 mod writing;
 
 pub use clients::Clients;
-pub use displacing::displaced;
+pub use count::displaced_with;
+pub use displacing::{displaced, displaced_in_order};
 pub use group::Group;
 pub use laws::{
     agreement, clear, delivered, ends, honest_passing_over, laid_out, lifted, marks, one_history,

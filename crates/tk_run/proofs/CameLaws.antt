@@ -10,7 +10,9 @@ use Rattle.tk_schedule.specs.Schedule.{IsLegal, blank_turn, epoch_at}
 use Rattle.tk_script.specs.declared.script.Script.{Script}
 use Rattle.tk_words.specs.Words.{WordBook, words_of}
 use Rattle.tk_order.proofs.Offers.{prefix_self}
+use Rattle.tk_report.specs.Displaced.{displaced_in}
 use Rattle.tk_report.specs.Entries.{write_at, entries_before, entries}
+use Rattle.tk_report.specs.Outcomes.{HasEnded}
 use Rattle.tk_cluster.specs.Passes.{Passing}
 use Rattle.tk_cluster.specs.Tellings.{Telling}
 use Rattle.tk_cluster.specs.Closings.{Ended, AllOnce, Closes}
@@ -74,6 +76,17 @@ module _ {S : Script} {b : WordBook} {K : List TurnOrder} {group : Group} {xs : 
   course_order {c} closes =
       (ran_ends course.ran closes).0
       ∙ ap (entries_before (write_at S (words_of S.shape b)) K) course.counted
+
+  -- of which the displaced writes were counted
+  pub course_ended : {c : Ended} {count : ℕ} → Closes S.shape xs p c →
+      count ≡ displaced_in S.shape c.order →
+      HasEnded S (words_of S.shape b) K group.clients.items count
+  course_ended {c} {count} closes is =
+      record {
+        legal = course_legal;
+        clients = course_clients;
+        displaced = is ∙ ap (displaced_in S.shape) (course_order closes);
+      }
 
   pub course_epochs : {c : Ended} → Closes S.shape xs p c →
       c.epochs ≡ map (epochs_of S.shape K) (range_with_len 0 S.shape.clients)

@@ -32,6 +32,7 @@ servers-same shape E F seen saw servers entries same are =
             floor = now.floor;
             seen =
                 now.seen ∙ same (i + 1) (omega arith) (omega (arith, within, are.counted));
+            displaced = now.displaced;
           };
     }
 

@@ -5,6 +5,7 @@ use Rattle.tk_shape.specs.declared.shape.Shape.{Shape}
 use Rattle.tk_frames.specs.declared.entry.Placed.{Placed}
 use Rattle.tk_frames.specs.Spelling.{placed_frame}
 use Rattle.tk_frames.specs.InOrder.{IsNext}
+use Rattle.tk_report.specs.Displaced.{displaced_in}
 use Rattle.tk_run.specs.declared.server.Server.{Server}
 use Rattle.tk_run.specs.Servers.{IsServer, AreServers, MayTake, MayTakeAll}
 use Rattle.tk_run.proofs.Changes.{ChangedUpTo}
@@ -51,3 +52,11 @@ pub first-applied : (shape : Shape) (E : List Placed) (seen : ℕ → List ℕ) 
 first-applied shape E seen servers d are =
     let low = shape.in_range.servers_low in
     (are.each 0 d (omega (arith, low, are.counted))).state.applied
+
+-- and counted their displaced writes
+pub first-displaced : (shape : Shape) (E : List Placed) (seen : ℕ → List ℕ)
+    (servers : List Server) (d : Server) → AreServers shape E seen servers →
+    (slice_index_or servers 0 d).displaced ≡ displaced_in shape E
+first-displaced shape E seen servers d are =
+    let low = shape.in_range.servers_low in
+    (are.each 0 d (omega (arith, low, are.counted))).displaced

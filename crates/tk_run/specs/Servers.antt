@@ -10,15 +10,17 @@ use Rattle.tk_frames.specs.Spelling.{placed_frame, read_frame}
 use Rattle.tk_frames.specs.Order.{before}
 use Rattle.tk_frames.specs.InOrder.{IsNext, IsOrder, mark_count}
 use Rattle.tk_replica.specs.Replica.{StandsFor}
+use Rattle.tk_report.specs.Displaced.{displaced_in}
 use Rattle.tk_report.specs.Exchange.{bytes_of, with_reply}
 use Rattle.tk_run.specs.declared.server.Server.{Server}
 
--- Its replica has applied these entries and keeps no epoch before the last two, and it saw these bytes
--- since they were last given away.
+-- Its replica has applied these entries and keeps no epoch before the last two, it saw these bytes
+-- since they were last given away, and it counted the displaced writes.
 pub record IsServer (shape : Shape) (E : List Placed) (bytes : List ℕ) (s : Server) : Type 0 where
   pub state : StandsFor shape E s.state
   pub floor : mark_count E - 1 ≤ s.state.floor
   pub seen : s.seen.items ≡ bytes
+  pub displaced : s.displaced ≡ displaced_in shape E
 
 -- a server for each number from 1 on; seen gives what each saw
 pub record AreServers (shape : Shape) (E : List Placed) (seen : ℕ → List ℕ)

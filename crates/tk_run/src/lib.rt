@@ -11,7 +11,6 @@ mod course;
 mod crew;
 mod desks;
 mod frames;
-mod leaving;
 mod pinned_write;
 mod ranging;
 mod replying;

@@ -6,7 +6,6 @@ ghost use Rattle.tk_report.specs.Exchange.{exchange, bytes_of};
 ghost use Rattle.tk_report.specs.Outcomes.{IsLeftBy};
 ghost use Rattle.tk_io.specs.Tapped.{TapsGain, TapsGainFronts, TapsKeepBut};
 
-use crate::leaving::outcome_of;
 use crate::run_error::RunError;
 use crate::turns::take_turns;
 use std::alloc::Global;
@@ -102,6 +101,7 @@ fn run_turns<D: Draws, T: Taps>(
         draws,
         history: &history,
     };
-    let clients = take_turns(alloc, &plan, due, taps)?;
-    Ok(outcome_of(alloc, script, draws, history, clients)?)
+    let run = take_turns(alloc, &plan, due, taps)?;
+    let displaced = run.servers.displaced();
+    Ok(Outcome::of(script, history, run.group.clients, displaced)?)
 }

@@ -8,13 +8,16 @@ use std::alloc::Global;
 use tk_checkpoint::{checkpoint, restore, written_at_marks};
 use tk_frames::{Entry, Placed, encode_placed};
 use tk_replica::ReplicaState;
+use tk_report::displaced_with;
 use tk_shape::{Bytes, Memory, Shape};
 
-/// A server: its replica, and the frames that came and went since they were last given to its tap.
+/// A server: its replica, the frames that came and went since they were last given to its tap, and
+/// how many writes found no place when they came.
 #[derive(Drop)]
 pub(crate) struct Server {
     pub state: ReplicaState,
     pub seen: Vec<u8>,
+    pub displaced: u32,
 }
 
 impl Server {
@@ -37,6 +40,7 @@ impl Server {
         Ok(Server {
             state: ReplicaState::open(alloc, shape)?,
             seen: Vec::new(alloc),
+            displaced: 0,
         })
     }
 
@@ -51,7 +55,8 @@ impl Server {
     {
         encode_placed(placed, &mut self.seen)?;
         make_room(&mut self.state, &placed.entry);
-        self.state.apply(alloc, placed)?;
+        let put = self.state.apply_and_tell(alloc, placed)?;
+        self.displaced = displaced_with(self.displaced, put);
         Ok(())
     }
 
@@ -95,7 +100,8 @@ impl Server {
         Ok(out)
     }
 
-    /// Its replica is made anew, from a checkpoint of what it has applied.
+    /// Its replica is made anew, from a checkpoint of what it has applied. A checkpoint has no count
+    /// of displaced writes, so that the server's own goes on.
     pub(crate) fn go_on(&mut self, alloc: Global, shape: &Shape, bytes: &[u8]) -> Result<(), Memory>
         ensures { (E : List Placed) (seen : List ℕ) → IsServer shape.now E seen self.old
             → EndsWithMark E → bytes.now ≡ saved shape.now E
@@ -113,6 +119,7 @@ impl Server {
     fn see(&mut self, frames: &[Bytes], replies: &[Bytes]) -> Result<(), Memory>
         requires { length replies.now ≡ length frames.now }
         ensures state { self.new.state ≡ self.old.state }
+        ensures displaced { self.new.displaced ≡ self.old.displaced }
         ensures seen { OnOk result
             (self.new.seen.items ≡ self.old.seen.items ++ in_pairs frames.now replies.now) }
     {

@@ -1,8 +1,9 @@
-ghost use Rattle.std.specs.Prelude.{◌++◌, ◌∷◌, [], ℕ, List, IfOk, OnOk};
+ghost use Rattle.std.specs.Prelude.{◌≡◌, ◌++◌, ◌∷◌, [], ℕ, List, IfOk, OnOk};
 ghost use Rattle.tk_shape.specs.declared.shape.Shape.{Shape};
 ghost use Rattle.tk_frames.specs.declared.entry.Placed.{Placed};
 ghost use Rattle.tk_frames.specs.Spelling.{placed_frame};
 ghost use Rattle.tk_frames.specs.InOrder.{IsNext};
+ghost use Rattle.tk_report.specs.Displaced.{displaced_in};
 ghost use Rattle.tk_run.specs.Servers.{AreServers, HaveTaken, MayTakeAll, nothing_seen};
 
 use crate::server::Server;
@@ -15,6 +16,18 @@ use tk_shape::{Memory, Shape};
 #[derive(Drop)]
 pub(crate) struct Servers {
     pub list: Vec<Server>,
+}
+
+impl Servers {
+    /// How many writes were displaced when they came, as the first server counted them.
+    pub(crate) fn displaced(&self) -> u32
+        requires { (shape : Shape) × (E : List Placed) × (seen : ℕ → List ℕ)
+            × AreServers shape E seen self.now.list.items }
+        ensures { (shape : Shape) (E : List Placed) (seen : ℕ → List ℕ)
+            → AreServers shape E seen self.now.list.items → result ≡ displaced_in shape E }
+    {
+        self.list[0].displaced
+    }
 }
 
 /// The servers of a shape, before any entry.

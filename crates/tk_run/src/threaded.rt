@@ -5,7 +5,6 @@ ghost use Rattle.tk_run.specs.Threads.{CameAbout};
 use crate::acting::Herald;
 use crate::course::{Course, Stage, run_turns};
 use crate::crew::Crew;
-use crate::leaving::outcome_of;
 use crate::run_error::RunError;
 use std::alloc::AllocGlobal;
 use std::marker::Brand;
@@ -14,7 +13,7 @@ use std::thread::Threads;
 use tk_cluster::{Closed, Cluster};
 use tk_io::{Gate, Taps};
 use tk_order::{Blank, Naming};
-use tk_report::{Group, Outcome};
+use tk_report::{Group, Outcome, displaced_in_order};
 use tk_schedule::History;
 use tk_script::Script;
 use tk_words::Draws;
@@ -120,8 +119,10 @@ fn run_over<
         return Err(error);
     }
     let closed = cluster.close(rt, passes, publisher)?;
+    let order = closed.order().as_slice();
+    let displaced = displaced_in_order(rt.alloc(), &scene.script.shape, order)?;
     let history = History::from_turns(turns);
     let Group { said: _, clients } = group;
-    let outcome = outcome_of(rt.alloc(), scene.script, scene.draws, history, clients)?;
+    let outcome = Outcome::of(scene.script, history, clients, displaced)?;
     Ok((outcome, closed))
 }

@@ -2,10 +2,9 @@ ghost use Rattle.std.specs.Prelude.{◌≡◌, ◌≤◌, ◌<◌, ◌+◌, IfOk
 ghost use Rattle.tk_io.specs.Content.{Rose};
 ghost use Rattle.tk_shape.specs.Lengths.{turn_count};
 ghost use Rattle.tk_schedule.specs.declared.history.History.{History};
-ghost use Rattle.tk_words.specs.Words.{WordBook, words_of};
+ghost use Rattle.tk_words.specs.Words.{WordBook};
 ghost use Rattle.tk_report.specs.Exchange.{exchange, bytes_of};
 ghost use Rattle.tk_io.specs.Tapped.{TapsGain, TapsGainFronts, TapsKeepBut};
-ghost use Rattle.tk_run.specs.Clients.{AreClients, client_before};
 ghost use Rattle.tk_run.specs.Servers.{nothing_seen};
 ghost use Rattle.tk_run.specs.Turns.{IsRunBefore, turn_seen};
 
@@ -16,26 +15,23 @@ use crate::servers::open_servers;
 use crate::tapping::give_all;
 use crate::turn_reads::read_turn;
 use std::alloc::Global;
-use tk_client::Client;
 use tk_io::Taps;
 use tk_report::{Group, Plan};
 use tk_script::Script;
 use tk_shape::Memory;
 use tk_words::Draws;
 
-/// The clients at the end of a run, turn after turn. What each server sees goes to its tap at the
-/// end of each turn. Where a turn is due, or the end behind the last, the servers go on from a
-/// checkpoint before it.
+/// A run at its end, turn after turn. What each server sees goes to its tap at the end of each turn.
+/// Where a turn is due, or the end behind the last, the servers go on from a checkpoint before it.
 pub(crate) fn take_turns<D: Draws, T: Taps>(
     alloc: Global,
     plan: &Plan<D>,
     due: Option<u32>,
     taps: &mut T,
-) -> Result<Vec<Client>, RunError>
-    ensures clients { let S = plan.now.script.now in
-        let words = words_of S.shape (D.book plan.now.draws.now) in
-        IfOk result (λ clients. AreClients S.shape.clients
-        (client_before S words plan.now.history.now (turn_count S.shape)) clients.items) }
+) -> Result<Run, RunError>
+    ensures run { let end = turn_count plan.now.script.now.shape in
+        IfOk result (IsRunBefore plan.now.script.now (D.book plan.now.draws.now)
+        plan.now.history.now end nothing_seen) }
     ensures ok { let S = plan.now.script.now in
         OnOk result (TapsGain S.shape.servers
         (λ j. bytes_of (exchange S (D.book plan.now.draws.now) plan.now.history.now j))
@@ -52,7 +48,7 @@ pub(crate) fn take_turns<D: Draws, T: Taps>(
 {
     let mut run = open_run(alloc, plan.script, due)?;
     take_all_turns(alloc, plan, due, &mut run, taps)?;
-    Ok(run.group.clients)
+    Ok(run)
 }
 
 /// A run before its first turn.

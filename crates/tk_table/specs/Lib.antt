@@ -9,3 +9,4 @@ pub mod Replies
 pub mod Places
 pub mod Rows
 pub mod Restoring
+pub mod Puts

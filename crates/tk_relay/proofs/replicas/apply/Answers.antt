@@ -8,18 +8,22 @@ use Rattle.tk_relay.proofs.replicas.apply.Goals as goal
 pub make_room-requires : goal.make_room-requires
 make_room-requires c = c.requires.is.state.some
 
-pub apply-requires : goal.apply-requires
-apply-requires c =
+pub apply_and_tell-requires : goal.apply_and_tell-requires
+apply_and_tell-requires c =
     let may = c.requires in
     entry-next may.shape may.E c.make_room.new.replica c.args.placed.now
     (c.make_room.ensures.stands may.shape may.E may.is.state) may.next
 
-pub returns : goal.returns
-returns c = λ shape E is next.
+pub returns-clause-applied : goal.returns-clause-applied
+returns-clause-applied c = λ shape E is next.
     let p = c.args.placed.now in
     let kept = c.make_room.ensures.stands shape E is.state in
-    both_ok c.apply.result
+    both_ok c.apply_and_tell.result
     (λ stands floor. record { state = stands; floor = floor })
-    (c.apply.ensures.stands shape E kept)
-    (always c.apply.result
-    (c.apply.ensures.floor ∙ c.make_room.ensures.floor ∙ floor-next E p _ _ is.floor is.state.last))
+    (c.apply_and_tell.ensures.stands shape E kept)
+    (always c.apply_and_tell.result
+    (c.apply_and_tell.ensures.floor ∙ c.make_room.ensures.floor ∙ floor-next E p _ _ is.floor is.state.last))
+
+pub returns-clause-put : goal.returns-clause-put
+returns-clause-put c = λ shape E is.
+    c.apply_and_tell.ensures.put shape E (c.make_room.ensures.stands shape E is.state)

@@ -1,5 +1,5 @@
 -- What is said, written and read makes the run as it is before the next turn.
-use Rattle.std.proofs.Common.{rules, ◌≡◌, ◌∙◌, ◌+◌, ◌++◌, ℕ, arith, sym, subst, length, List}
+use Rattle.std.proofs.Common.{rules, ◌≡◌, ◌∙◌, ◌+◌, ◌++◌, ℕ, ap, arith, sym, subst, length, List}
 use Rattle.std.specs.Prelude.{All}
 use Rattle.std.proofs.lemmas.List.{with_items_is}
 use Rattle.tk_schedule.specs.declared.history.History.{History}
@@ -7,6 +7,7 @@ use Rattle.tk_script.specs.declared.script.Script.{Script}
 use Rattle.tk_words.specs.Words.{WordBook, words_of}
 use Rattle.tk_frames.specs.declared.entry.Placed.{Placed}
 use Rattle.tk_report.specs.Clients.{AreClients, client_before, known_before}
+use Rattle.tk_report.specs.Displaced.{displaced_in}
 use Rattle.tk_report.specs.Entries.{entries_at, write_at}
 use Rattle.tk_report.specs.Groups.{IsGroup}
 use Rattle.tk_report.specs.Turns.{placed_before}
@@ -47,6 +48,7 @@ write-requires-clause-taker g c κs within =
     let words = words_of S.shape (g.D.Draws.book c.args.plan.now.draws.now) in
     let E = placed_before S words c.args.plan.now.history.now c.args.turn in
     taken-none S.shape E c.args.run.now.replicas c.requires.run.replicas c.requires.run.seen
+    c.requires.run.displaced
 
 pub read_turn-requires-clause-clients : goal.read_turn-requires-clause-clients
 read_turn-requires-clause-clients g c κs within =
@@ -103,6 +105,9 @@ returns-clause-run g c =
       replicas = subst (λ (E : List Placed). AreReplicas S.shape E list.items)
           (turn-done S words H turn) c.in_ok-write.ensures.taker.are;
       seen = search rules;
+      displaced =
+          c.in_ok-write.ensures.taker.displaced
+          ∙ ap (displaced_in S.shape) (turn-done S words H turn);
     }
 
 pub returns-clause-sights : goal.returns-clause-sights

@@ -2,7 +2,7 @@
 use Rattle.std.proofs.Common.{◌∙◌, sym}
 use Rattle.tk_words.specs.Words.{words_of}
 use Rattle.tk_report.specs.Entries.{entries_before}
-use Rattle.tk_report.proofs.Offers.{said-none, clients-first}
+use Rattle.tk_report.proofs.Offers.{said-none, clients-first, none-displaced}
 use Rattle.tk_relay.proofs.turns.open_run.Goals as goal
 
 pub returns : goal.returns
@@ -16,4 +16,5 @@ returns c b H =
           c.in_ok-open.ensures.clients;
       replicas = c.in_ok-open_replicas.ensures.are;
       seen = c.in_ok-open_replicas.ensures.seen;
+      displaced = c.in_ok-open_replicas.ensures.displaced ∙ none-displaced S.shape;
     }

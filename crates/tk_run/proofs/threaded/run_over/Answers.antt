@@ -1,5 +1,5 @@
 -- One legal history comes about: what the run leaves is of it, and so is what the taps have.
-use Rattle.std.proofs.Common.{ℕ, List, sym, subst}
+use Rattle.std.proofs.Common.{◌≡◌, ◌∙◌, ℕ, List, ap, sym, subst}
 use Rattle.std.specs.Prelude.{Result}
 use Rattle.std.specs.Result.{IsErrAnd}
 use Rattle.tk_shape.specs.declared.shape.Shape.{Shape}
@@ -7,8 +7,9 @@ use Rattle.tk_schedule.specs.declared.history.History.{History}
 use Rattle.tk_schedule.specs.declared.history.TurnOrder.{TurnOrder}
 use Rattle.tk_words.specs.Words.{words_of}
 use Rattle.tk_io.proofs.Offers.{fronts-of_all}
-use Rattle.tk_report.specs.Clients.{AreClientsAtEnd}
-use Rattle.tk_report.specs.Outcomes.{IsLeftBy}
+use Rattle.tk_frames.specs.InOrder.{IsOrder}
+use Rattle.tk_report.specs.Displaced.{displaced_in}
+use Rattle.tk_report.specs.Outcomes.{IsLeftBy, HasEnded}
 use Rattle.tk_report.specs.declared.outcome.Outcome.{Outcome}
 use Rattle.tk_report.specs.Exchange.{exchange, bytes_of}
 use Rattle.tk_cluster.specs.Clusters.{Opened}
@@ -16,7 +17,7 @@ use Rattle.tk_cluster.specs.Closings.{Ended, AllOnce, Closes}
 use Rattle.tk_run.specs.declared.run_error.RunError.{RunError}
 use Rattle.tk_run.specs.Courses.{IsCourse}
 use Rattle.tk_run.specs.Threads.{CameAbout}
-use Rattle.tk_run.proofs.CameLaws.{course_goes_on, course_once, course_clients, course_order, course_epochs}
+use Rattle.tk_run.proofs.CameLaws.{course_goes_on, course_once, course_ended, course_order, course_epochs}
 use Rattle.tk_run.proofs.CourseStarts.{course_first}
 use Rattle.tk_run.proofs.Stopping.{came_stopped, came_nowhere}
 use Rattle.tk_run.proofs.threaded.run_over.Given as given
@@ -75,6 +76,11 @@ returns-in_err-closed-clause-run g c =
     stopped g (goal.at.returns-in_err-closed-clause-run g c).After-close _
     c.from_residual-in_err-closed.result c.from_residual-in_err-closed.ensures.1
 
+pub returns-in_err-displaced-clause-run : goal.returns-in_err-displaced-clause-run
+returns-in_err-displaced-clause-run g c =
+    stopped g (goal.at.returns-in_err-displaced-clause-run g c).After-close _
+    c.from_residual-in_err-displaced.result c.from_residual-in_err-displaced.ensures.1
+
 pub returns-in_err-outcome-clause-run : goal.returns-in_err-outcome-clause-run
 returns-in_err-outcome-clause-run g c =
     stopped g (goal.at.returns-in_err-outcome-clause-run g c).After-close _
@@ -85,40 +91,78 @@ pub from_turns-history-requires : goal.from_turns-history-requires
 from_turns-history-requires g c =
     (c.args.scene.now.script.now.shape, (course_goes_on c.in_default.ensures.course).legal)
 
-pub outcome_of-requires-clause-legal : goal.outcome_of-requires-clause-legal
-outcome_of-requires-clause-legal g c κs within =
-    rw c.from_turns-history.ensures (course_goes_on c.in_default.ensures.course).legal
+-- its order is that of the closed cluster
+pub displaced_in_order-requires : goal.displaced_in_order-requires
+displaced_in_order-requires g c =
+    let now = c.run_turns-ran.new.course in
+    let closed = c.in_ok-closed.closed in
+    let shape = c.args.scene.now.script.now.shape in
+    let closes : Closes shape now.passes.items now.herald.publisher closed =
+    subst (λ (sh : Shape). Closes sh now.passes.items now.herald.publisher closed)
+    (sym c.requires.same) c.in_ok-closed.ensures
+    in
+    subst (IsOrder shape) (sym (c.as_slice-order.ensures ∙ c.order.ensures)) closes.legal.order
 
-pub outcome_of-requires-clause-clients : goal.outcome_of-requires-clause-clients
-outcome_of-requires-clause-clients g c κs within =
+-- the clients at the end are those of the history that came about
+module _ (g : given.Over) (c : goal.After-close g) (closed : Ended) where
+  abbrev Closing : Shape → Type 0
+  Closing shape =
+      let now = c.run_turns-ran.new.course in
+      Closes shape now.passes.items now.herald.publisher closed
+
+  closes : Closing g.B.Naming.shape → Closing c.args.scene.now.script.now.shape
+  closes = subst Closing (sym c.requires.same)
+
+  abbrev Ending : ℕ → History → Type 0
+  Ending count H =
+      let S = c.args.scene.now.script.now in
+      HasEnded S (words_of S.shape (g.D.Draws.book c.args.scene.now.draws.now)) H
+      c.run_turns-ran.new.course.group.clients.items count
+
+  ending : (count : ℕ) → Closing g.B.Naming.shape →
+      count ≡ displaced_in c.args.scene.now.script.now.shape closed.order →
+      Ending count c.run_turns-ran.new.course.turns.items
+  ending count closing = course_ended c.in_default.ensures.course (closes closing)
+
+pub of-requires : goal.of-requires
+of-requires g c =
+    let at = (goal.at.of-requires g c).After-close in
     let S = c.args.scene.now.script.now in
-    let words = words_of S.shape (g.D.Draws.book c.args.scene.now.draws.now) in
-    subst (λ (H : History). AreClientsAtEnd S words H c.run_turns-ran.new.course.group.clients.items)
-    (sym c.from_turns-history.ensures) (course_clients c.in_default.ensures.course)
+    let closed = c.in_ok-closed.closed in
+    let count = c.in_ok-displaced.displaced in
+    let ordered = c.as_slice-order.ensures ∙ c.order.ensures in (
+      words_of S.shape (g.D.Draws.book c.args.scene.now.draws.now),
+      subst (Ending g at closed count) (sym c.from_turns-history.ensures)
+          (ending g at closed count c.in_ok-closed.ensures
+          (c.in_ok-displaced.ensures ∙ ap (displaced_in S.shape) ordered)),
+    )
 
 pub returns-clause-run : goal.returns-clause-run
 returns-clause-run g c =
+    let at = (goal.at.returns-clause-run g c).After-close in
     let S = c.args.scene.now.script.now in
     let words = words_of S.shape (g.D.Draws.book c.args.scene.now.draws.now) in
-    let now = c.run_turns-ran.new.course in
-    let K = now.turns.items in
+    let K = c.run_turns-ran.new.course.turns.items in
     let course = c.in_default.ensures.course in
     let goes = course_goes_on course in
     let taps = c.in_default.ensures.taps in
     let closed = c.in_ok-closed.closed in
-    let closes : Closes S.shape now.passes.items now.herald.publisher closed =
-    subst (λ (shape : Shape). Closes shape now.passes.items now.herald.publisher closed)
-    (sym c.requires.same) c.in_ok-closed.ensures
-    in
+    let closing = closes g at closed c.in_ok-closed.ensures in
+    let count = c.in_ok-displaced.displaced in
+    let ordered = c.as_slice-order.ensures ∙ c.order.ensures in
+    let kept = c.from_turns-history.ensures in
     record {
       history = K;
       legal = goes.legal;
       run = record {
         left =
-            subst (λ (H : History). IsLeftBy S words H c.in_ok-outcome.outcome)
-            c.from_turns-history.ensures c.in_ok-outcome.ensures;
-        order = course_order course closes;
-        epochs = course_epochs course closes;
+            subst (λ (H : History). IsLeftBy S words H c.in_ok-outcome.outcome) kept
+            (c.in_ok-outcome.ensures words
+            (subst (Ending g at closed count) (sym kept)
+            (ending g at closed count c.in_ok-closed.ensures
+            (c.in_ok-displaced.ensures ∙ ap (displaced_in S.shape) ordered))));
+        order = course_order course closing;
+        epochs = course_epochs course closing;
       };
       taps = record { ok = taps.ok K goes; err = tt; others = taps.others };
     }

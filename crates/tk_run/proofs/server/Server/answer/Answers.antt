@@ -30,4 +30,5 @@ returns-clause-server c = λ shape E bytes reads is are.
           pairs-are shape E reads c.args.frames.now c.as_slice.result.now bytes
           c.args.self.now.seen.items c.see.new.self.seen.items are
           (c.as_slice.ensures.value ∙ replied) is.seen c.in_ok-see.ensures.seen;
+      displaced = c.see.ensures.displaced ∙ is.displaced;
     }

@@ -9,4 +9,5 @@ returns c = λ E seen is ends saved.
       state = stands;
       floor = omega (arith, c.in-Ok.ensures.floor, stands.last);
       seen = is.seen;
+      displaced = is.displaced;
     }

@@ -14,6 +14,7 @@ loop-i-preserved c =
     let low : i < length frames = omega (arith, c.loop-i-test.true) in
     record {
       state = so_far.state;
+      displaced = so_far.displaced;
       seen =
           pairs-seen frames replies i c.index-frames-i.result c.index-replies-i.result
           c.args.self.now.seen.items old mid c.extend_from_slice-in-loop-i.new.self.items

@@ -7,6 +7,7 @@ abbrev pub invariant-loop-i : goal.invariant-loop-i
 invariant-loop-i l =
     record {
       state : l.self.state ≡ l.fn.self.state;
+      displaced : l.self.displaced ≡ l.fn.self.displaced;
       seen : l.self.seen.items
           ≡ l.fn.self.seen.items ++ in_pairs (take l.i l.frames) (take l.i l.replies);
     }

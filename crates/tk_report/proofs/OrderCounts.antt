@@ -1,0 +1,143 @@
+-- An order's displaced writes, when one more entry comes.
+use Rattle.std.proofs.Common.{◌≡◌, ◌∙◌, ℕ, ◌+◌, ◌*◌, ◌^◌, ◌<◌, ◌≤◌, refl, ap, ap₂, sym, subst, arith}
+use Rattle.std.proofs.Common.{Bool, true, false, cond, List, [], ◌∷◌, ◌++◌, length, take, drop}
+use Rattle.std.specs.Prelude.{Option, Some, None, option_map, slice_index_or}
+use Rattle.std.proofs.lemmas.List.{take_more, take-append-drop, length-take-le}
+use Rattle.std.proofs.lemmas.Nat.{mul-le}
+use Rattle.tk_shape.specs.declared.shape.Shape.{Shape}
+use Rattle.tk_shape.specs.Lengths.{turn_count}
+use Rattle.tk_frames.specs.declared.write_frame.WriteFrame.{WriteFrame}
+use Rattle.tk_frames.specs.declared.entry.Entry.{Entry}
+use Rattle.tk_frames.specs.declared.entry.Entry.TheVariants.{Write, Mark}
+use Rattle.tk_frames.specs.declared.entry.Placed.{Placed as AtPlace}
+use Rattle.tk_frames.specs.InOrder.{IsNext, IsNextAt, IsOrder, mark_count}
+use Rattle.tk_frames.specs.Order.{record_at, records}
+use Rattle.tk_frames.specs.Ranges.{IsEntry, IsWrite}
+use Rattle.tk_frames.proofs.Offers.{record_of, records-write, records-mark}
+use Rattle.tk_frames.proofs.Offers.{length-writes_and_marks, turn_count_small}
+use Rattle.tk_frames.proofs.Offers.{order-push, order-front, order-entry}
+use Rattle.tk_table.specs.declared.table.Put.{Put}
+use Rattle.tk_table.specs.declared.table.Put.TheVariants.{Placed, Displaced}
+use Rattle.tk_table.specs.Ordered.{AreOrdered}
+use Rattle.tk_table.specs.Puts.{put_after, put_of}
+use Rattle.tk_table.specs.Stands.{IsPair}
+use Rattle.tk_table.specs.Table.{is_displaced}
+use Rattle.tk_table.proofs.Offers.{order-writes}
+use Rattle.tk_report.specs.declared.count.Count.{Count}
+use Rattle.tk_report.specs.Counts.{HasCounted, MayCount, MayCountNext}
+use Rattle.tk_report.specs.Displaced.{displaced_on, displaced_in}
+use Rattle.tk_report.specs.Turns.{next_placed}
+use Rattle.tk_report.proofs.DisplacedLaws.{displaced-more, displaced-few}
+
+-- ---- what became of the entry
+
+-- how many displaced writes it is
+abbrev pub one_where_displaced : Option Put → ℕ
+one_where_displaced None = 0
+one_where_displaced (Some Placed) = 0
+one_where_displaced (Some Displaced) = 1
+
+one-told : (displaced : Bool) →
+    cond displaced 1 0 ≡ one_where_displaced (Some (cond displaced Displaced Placed))
+one-told true = refl
+one-told false = refl
+
+displaced-next : (shape : Shape) (E : List AtPlace) (p : AtPlace) (entry : Entry) →
+    p.entry ≡ entry →
+    displaced_in shape (E ++ p ∷ []) ≡ displaced_in shape E + one_where_displaced
+    (option_map (put_after shape (records E)) (record_at p.position entry))
+unfolding put_after
+displaced-next shape E p (Write w) at =
+    ap (displaced_on shape [] []) (records-write E p w at)
+    ∙ displaced-more shape (records E) (record_of p w)
+    ∙ ap (λ (n : ℕ). displaced_in shape E + n)
+    (one-told (is_displaced shape (records E) (record_of p w)))
+displaced-next shape E p (Mark e) at =
+    let none : displaced_in shape E ≡ displaced_in shape E + 0 = omega arith in
+    ap (displaced_on shape [] []) (records-mark E p e at) ∙ none
+
+-- so many more are displaced
+pub displaced-told : (shape : Shape) (E : List AtPlace) (p : AtPlace) (before : ℕ)
+    (put told : Option Put) → before ≡ displaced_in shape E → put ≡ put_of shape E p →
+    put ≡ told → before + one_where_displaced told ≡ displaced_in shape (E ++ p ∷ [])
+displaced-told shape E p before put told so_far is this =
+    ap₂ (λ (n : ℕ) (x : Option Put). n + one_where_displaced x) so_far (sym this ∙ is)
+    ∙ sym (displaced-next shape E p p.entry refl)
+
+-- ---- there are few entries
+
+-- no place is higher than 32 bits can count
+pub next-few : (shape : Shape) (E : List AtPlace) (p : AtPlace) → IsNext shape E p →
+    length E + 1 < 2 ^ 32
+next-few shape E p next =
+    let writes : shape.clients * turn_count shape ≤ 64 * 16384 =
+    mul-le shape.clients (turn_count shape) 64 16384 shape.in_range.clients_high
+    (turn_count_small shape)
+    in
+    omega (arith, next.at, next.in_range.position_high, writes, shape.in_range.phases_high)
+
+-- so that its displaced writes can be counted
+pub next-room : (shape : Shape) (E : List AtPlace) (p : AtPlace) → IsNext shape E p →
+    displaced_in shape E + 1 < 2 ^ 32
+next-room shape E p next =
+    omega (
+      arith,
+      displaced-few shape [] [] (records E),
+      length-writes_and_marks E,
+      next-few shape E p next,
+    )
+
+-- ---- the next entry of an order is counted
+
+pub may-count : (p : AtPlace) (c : Count) → MayCountNext p c → MayCount c
+may-count p c may =
+    record {
+      shape = may.shape;
+      E = may.E;
+      counted = may.counted;
+      few = next-few may.shape may.E p may.next;
+    }
+
+-- its buckets, where it is a write
+pub next-pair : (p : AtPlace) (c : Count) (w : WriteFrame) → MayCountNext p c →
+    p.entry ≡ Write w → IsPair c.table.shape (w.first, w.second)
+next-pair p c w may at =
+    let is : IsWrite may.shape w = subst (IsEntry may.shape) at may.next.in_range.entry in
+    subst (λ (shape : Shape). IsPair shape (w.first, w.second)) (sym may.counted.same)
+    (is.first, is.second)
+
+abbrev at_place : ℕ → Entry → AtPlace
+at_place position entry = record { position = position; entry = entry }
+
+pub placed-next : (shape : Shape) (E : List AtPlace) (p : AtPlace) (entry : Entry) →
+    IsNext shape E p → p.entry ≡ entry → next_placed E entry ≡ p
+placed-next shape E p entry next at =
+    ap₂ at_place (sym next.at) (sym at)
+
+pub writes-next : (shape : Shape) (E : List AtPlace) (p : AtPlace) → IsOrder shape E →
+    IsNext shape E p → AreOrdered shape (records (E ++ p ∷ []))
+writes-next shape E p order next = order-writes shape (E ++ p ∷ []) (order-push shape E p order next)
+
+-- ---- the entries of an order, one after the other
+
+pub front-none : (E : List AtPlace) → [] ≡ take 0 E
+front-none [] = refl
+front-none (p ∷ E) = refl
+
+module _ (shape : Shape) (E : List AtPlace) (order : IsOrder shape E) (i : ℕ) (p : AtPlace)
+    (low : i < length E) (at : p ≡ slice_index_or E i p) where
+  pub front-next : IsNext shape (take i E) p
+  front-next =
+      let long : length (take i E) ≡ i = length-take-le i E (omega (arith, low)) in
+      subst (λ (q : AtPlace). IsNext shape (take i E) q) (sym at)
+      (subst (λ (n : ℕ). IsNextAt shape (n + 1) (mark_count (take i E) + 1) (slice_index_or E i p))
+      (sym long) (order-entry shape E i p order low))
+
+  pub front-ordered : IsOrder shape (take i E)
+  front-ordered =
+      order-front shape (take i E) (drop i E)
+      (subst (IsOrder shape) (sym (take-append-drop i E)) order)
+
+  pub front-more : take i E ++ p ∷ [] ≡ take (i + 1) E
+  front-more =
+      ap (λ (q : AtPlace). take i E ++ q ∷ []) at ∙ sym (take_more E i p low)
