@@ -24,10 +24,9 @@ impl Model for Filter {
 }
 
 impl Filter {
-    pub(crate) fn from_vec(alloc: Global, marks: Vec<bool>) -> Result<Filter, Memory>
-        ensures { IfOk result (λ f. f ≡ marks.items) }
+    pub(crate) fn of_marks(alloc: Global, marks: Marks) -> Result<Filter, Memory>
+        ensures { IfOk result (λ f. f ≡ marks) }
     {
-        let marks = Marks::from_vec(alloc, marks)?;
         match Arc::new(alloc, marks) {
             Ok(marks) => Ok(Filter { marks }),
             Err(_) => Err(Memory),
@@ -38,9 +37,7 @@ impl Filter {
     pub fn shows(&self, hits: &[u32]) -> bool
         ensures { result ≡ all_marked self.now hits.now }
     {
-        let marks = self.marks.as_slice();
-        hits.iter()
-            .all(|hit| marks.get(*hit as usize).copied().unwrap_or(false))
+        hits.iter().all(|hit| self.marks.has(*hit))
     }
 
     /// The same filter once more. Nothing is copied.

@@ -1,11 +1,12 @@
-ghost use Rattle.std.specs.Prelude.{◌≡◌, ◌+◌, ◌<◌, ◌≤◌, ◌++◌, [], ◌∷◌, length, map, take, drop};
-ghost use Rattle.std.specs.Prelude.{nat_lt, IfOk, All};
+ghost use Rattle.std.specs.Prelude.{◌≡◌, ◌+◌, ◌<◌, ◌≤◌, ◌++◌, [], ◌∷◌, length, take, drop};
+ghost use Rattle.std.specs.Prelude.{IfOk, All};
 ghost use Rattle.tk_bloom.specs.Filters.{marks_of};
 ghost use Rattle.tk_bloom.specs.Windows.{window};
 
 use crate::Memory;
+use crate::marks::Marks;
 use crate::queue::Queue;
-use std::alloc::{AllocError, Global};
+use std::alloc::Global;
 use std::marker::Model;
 
 /// Positions in the order in which they came, and how often each of them occurs.
@@ -96,20 +97,9 @@ impl Tally {
     }
 
     /// For each position whether it occurs.
-    pub(crate) fn occurring(&self, alloc: Global) -> Result<Vec<bool>, Memory>
-        ensures { IfOk result (λ marks. marks.items ≡ marks_of self.now.bits self.now.positions) }
+    pub(crate) fn occurring(&self, alloc: Global) -> Result<Marks, Memory>
+        ensures { IfOk result (λ marks. marks ≡ marks_of self.now.bits self.now.positions) }
     {
-        Ok(above_zero(alloc, &self.counts)?)
+        Marks::of_counts(alloc, &self.counts)
     }
-}
-
-/// For each count whether it isn't 0.
-fn above_zero(alloc: Global, counts: &[u32]) -> Result<Vec<bool>, AllocError>
-    ensures { IfOk result (λ marks. marks.items ≡ map (λ n. nat_lt 0 n) counts.now) }
-{
-    let mut marks = vec![in alloc; false; counts.len()]?;
-    for i in 0..counts.len() {
-        marks[i] = counts[i] > 0;
-    }
-    Ok(marks)
 }

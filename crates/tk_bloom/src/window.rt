@@ -131,6 +131,6 @@ impl Window {
             IfOk result (λ f. All (λ hits. IsTrue (all_marked f hits)) pushes) }
     {
         let marks = self.tally.occurring(alloc)?;
-        Ok(Filter::from_vec(alloc, marks)?)
+        Ok(Filter::of_marks(alloc, marks)?)
     }
 }

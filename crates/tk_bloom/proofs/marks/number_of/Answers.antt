@@ -1,14 +1,12 @@
--- One mark more is one digit more.
-use Rattle.std.proofs.Common.{◌∙◌, sym, subst, ap₂, ◌+◌, ◌*◌, ◌≤◌, get_or, false}
-use Rattle.tk_bloom.proofs.Packing.{number-more, number-below, byte-low}
+-- One count more is one digit more.
+use Rattle.std.proofs.Common.{arith}
+use Rattle.tk_bloom.proofs.Packing.{number-more}
 use Rattle.tk_bloom.proofs.marks.number_of.Goals as goal
 
-pub marks-preserved : goal.marks-preserved
-marks-preserved c =
-    let so_far = c.marks.invariant in (
-      ap₂ (λ m d. 2 * m + d) so_far.0 c.from.ensures
-          ∙ number-more c.args.marks.now c.marks.mark-index false c.marks-test.true,
-      number-below c.marks.number c.from.result c.marks.mark-index so_far.1
-          (subst (λ d. d ≤ 1) (sym c.from.ensures)
-          (byte-low (get_or c.args.marks.now c.marks.mark-index false))),
-    )
+pub left-preserved : goal.left-preserved
+left-preserved c =
+    let so_far = c.left.invariant in
+    let more =
+    number-more c.args.counts.now c.left.left c.left.number c.left-test.true so_far.0 so_far.1 so_far.2
+    in
+    (omega (arith, so_far.0), rw c.from.ensures more.0, rw c.from.ensures more.1)
