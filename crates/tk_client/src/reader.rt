@@ -88,7 +88,7 @@ impl Reader {
             anew,
             self.cursor,
         );
-        self.vain = VainSearch::after(sight, epoch, found);
+        self.vain = VainSearch::after(sight, epoch, self.follows.len(), found);
         found
     }
 

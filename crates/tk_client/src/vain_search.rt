@@ -20,11 +20,13 @@ pub(crate) struct VainSearch {
 }
 
 impl VainSearch {
-    /// What is kept of a search over an epoch: nothing where a number was found, or where the filter
-    /// can't be shared.
+    /// What is kept of a search among so many logs over an epoch: nothing where a number was found,
+    /// where it takes longer to compare two filters than to search again, or where the filter can't
+    /// be shared.
     pub(crate) fn after<D: Draws>(
         sight: &Sight<D>,
         epoch: u32,
+        logs: usize,
         found: Option<Target>,
     ) -> Option<VainSearch>
         ensures vain { IfSome result (λ v. found ≡ None) }
@@ -35,7 +37,8 @@ impl VainSearch {
           filter = sight.now.filter.now;
         }) }
     {
-        if found.is_some() {
+        // 64 positions are compared at a time, and of each log some numbers looked at
+        if found.is_some() || logs < sight.shape.filter_bits as usize / 1024 {
             return None;
         }
         let filter = sight.filter.share().ok()?;
