@@ -1,3 +1,4 @@
+pub mod Brought
 pub mod Replying
 pub mod Together
 pub mod Passing

@@ -97,39 +97,40 @@ module _ (shape : Shape) (s : Seated) (board : Known EpochSet) (marked ordered s
   pub one_left : length (of 0 s.seen) ≡ length board.list → ordered ≡ shown + 1
   one_left due = omega (arith, due, is.made, is.counted)
 
-  -- its set is shown
-  pub shown_on : (t : Seated) (board' : Known EpochSet) (set : EpochSet) → t ≡ s →
-      ordered ≡ shown + 1 → Stands shape s.seen ordered set → board'.list ≡ board.list ++ set ∷ [] →
-      IsPublisher shape t board' marked ordered ordered
-  shown_on t board' set same due stands more =
-      subst (λ x. IsPublisher shape x board' marked ordered ordered) (sym same) (record {
-        number = is.number;
-        counted =
-            omega (arith, ap length more, length-append board.list (set ∷ []), is.counted, due);
-        shows =
-            subst (λ sets. Shows shape sets s.seen) (sym more)
-            (shows-next shape s.seen board.list set is.shows
-            (subst (λ n. Stands shape s.seen n set) (due ∙ sym is.counted) stands));
-        within = is.within;
-        among = is.among;
-        made = is.made;
-        due = inl refl;
-      })
+  -- a set of its number is the next one
+  pub is_next : (set : EpochSet) → ordered ≡ shown + 1 → Stands shape s.seen ordered set →
+      Stands shape s.seen (length board.list) set
+  is_next set due stands =
+      subst (λ n. Stands shape s.seen n set) (due ∙ sym is.counted) stands
 
-  pub published : (t : Seated) (board' : Known EpochSet) (set : EpochSet) → t ≡ s →
-      board'.board ≡ board.board → ordered ≡ shown + 1 → Stands shape s.seen ordered set →
+  -- its set is shown
+  pub shown_on : (board' : Known EpochSet) (set : EpochSet) → ordered ≡ shown + 1 →
+      Stands shape s.seen (length board.list) set → board'.list ≡ board.list ++ set ∷ [] →
+      IsPublisher shape s board' marked ordered ordered
+  shown_on board' set due stands more = record {
+    number = is.number;
+    counted = omega (arith, ap length more, length-append board.list (set ∷ []), is.counted, due);
+    shows =
+        subst (λ sets. Shows shape sets s.seen) (sym more)
+        (shows-next shape s.seen board.list set is.shows stands);
+    within = is.within;
+    among = is.among;
+    made = is.made;
+    due = inl refl;
+  }
+
+  pub published : (board' : Known EpochSet) (set : EpochSet) → board'.board ≡ board.board →
+      ordered ≡ shown + 1 → Stands shape s.seen (length board.list) set →
       board'.list ≡ board.list ++ set ∷ [] →
-      Published shape (telling s.seen board) (telling t.seen board')
-  published t board' set same one due stands more =
-      subst (λ (x : Seated). Published shape (telling s.seen board) (telling x.seen board'))
-      (sym same) (record {
-        board = one;
-        seen = prefix_self s.seen;
-        set = set;
-        shown = more;
-        stands = subst (λ n. Stands shape s.seen n set) (due ∙ sym is.counted) stands;
-        marks = omega (arith, is.made, due, is.counted);
-      })
+      Published shape (telling s.seen board) (telling s.seen board')
+  published board' set one due stands more = record {
+    board = one;
+    seen = prefix_self s.seen;
+    set = set;
+    shown = more;
+    stands = stands;
+    marks = omega (arith, is.made, due, is.counted);
+  }
 
 -- a set is shown after the mark was ordered
 pub published_on : (shape : Shape) (a b p : Telling) → Grows a b → Published shape b p →

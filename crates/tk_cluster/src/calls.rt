@@ -6,7 +6,9 @@ ghost use Rattle.tk_cluster.specs.Passes.{own, WroteBytes, Sees, Pins, Knows, Le
 ghost use Rattle.tk_cluster.specs.Tellings.{told_of, Published, Withheld};
 
 use crate::{Cluster, EpochSet, Pass, Publisher, Told, WriteError};
+use std::alloc::AllocGlobal;
 use std::sync::{Arc, Wait};
+use std::thread::Threads;
 use tk_order::Naming;
 use tk_shape::Memory;
 
@@ -64,5 +66,23 @@ impl<B: Naming> Cluster<B> {
         ensures err { OnErr result (pass.new ≡ pass.old) }
     {
         pass.learn(told)
+    }
+}
+
+impl<B: Naming + Send + Sync> Cluster<B> {
+    /// What `publish` does, where so many threads make the epochs of several servers at once.
+    pub fn publish_with<R: Threads + Wait + Sync + AllocGlobal>(
+        &self,
+        rt: &R,
+        publisher: &mut Publisher<B>,
+        workers: u32,
+    ) -> Result<Told, Memory>
+        requires room { length publisher.old.shown ≤ B.shape.phases }
+        requires workers { 1 ≤ workers }
+        ensures published { OnOk result (Published B.shape publisher.old publisher.new) }
+        ensures told { IfOk result (λ t. t ≡ told_of publisher.new) }
+        ensures err { OnErr result (Withheld publisher.old publisher.new) }
+    {
+        publisher.publish_with(rt, self, workers)
     }
 }

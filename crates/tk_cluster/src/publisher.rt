@@ -1,5 +1,6 @@
 ghost use Rattle.std.specs.Prelude.{◌≡◌, ◌+◌, ◌≤◌, [], ◌∷◌, length, Some, None};
 ghost use Rattle.std.specs.Prelude.{IfOk, OnErr, OnOk};
+ghost use Rattle.std.specs.Arc.{arc_value};
 ghost use mathlib.Core.List.{IsPrefix};
 ghost use Rattle.tk_order.specs.Legality.{IsLegal};
 ghost use Rattle.tk_order.specs.Seats.{seated};
@@ -7,8 +8,10 @@ ghost use Rattle.tk_cluster.specs.Sets.{Shows, Stands};
 ghost use Rattle.tk_cluster.specs.Tellings.{marks, told_of, Grows, Published, Withheld};
 
 use crate::{Cluster, EpochSet, Told};
+use std::alloc::AllocGlobal;
 use std::marker::Model;
 use std::sync::{Arc, Wait};
+use std::thread::Threads;
 use tk_board::Publisher as Board;
 use tk_frames::Entry;
 use tk_order::{Naming, Order, OrderSeat};
@@ -86,7 +89,8 @@ impl<B: Naming> Publisher<B> {
         ensures err { OnErr result (Withheld self.old self.new) }
     {
         self.mark(rt, &cluster.order)?;
-        self.show(rt, cluster)
+        let set = self.due(rt, cluster)?;
+        self.show(rt, cluster, set)
     }
 
     /// The mark of the next set stands in the order.
@@ -107,21 +111,39 @@ impl<B: Naming> Publisher<B> {
         Ok(())
     }
 
+    /// The set of the mark that stands in the order.
+    fn due<R: Wait + AllocGlobal>(
+        &mut self,
+        rt: &R,
+        cluster: &Cluster<B>,
+    ) -> Result<Arc<EpochSet>, Memory>
+        requires { length (marks self.old) ≡ length self.old.shown }
+        ensures same { self.new ≡ self.old }
+        ensures stands { IfOk result
+            (λ s. Stands B.shape self.old.seen (length self.old.shown) (arc_value s)) }
+    {
+        cluster.set(rt, &mut self.seat, self.ordered, self.marked)
+    }
+
     /// Shows the set of the mark that stands in the order.
-    fn show<R: Wait + AllocGlobal>(&mut self, rt: &R, cluster: &Cluster<B>) -> Result<Told, Memory>
+    fn show<R: Wait + AllocGlobal>(
+        &mut self,
+        rt: &R,
+        cluster: &Cluster<B>,
+        set: Arc<EpochSet>,
+    ) -> Result<Told, Memory>
         requires room { length self.old.shown ≤ B.shape.phases }
         requires due { length (marks self.old) ≡ length self.old.shown }
+        requires stands { Stands B.shape self.old.seen (length self.old.shown) (arc_value set) }
         ensures published { OnOk result (Published B.shape self.old self.new) }
         ensures told { IfOk result (λ t. t ≡ told_of self.new) }
         ensures err { OnErr result (self.new ≡ self.old) }
     {
-        let number = self.ordered;
-        let set = cluster.set(rt, &mut self.seat, number, self.marked)?;
         let Ok(told) = self.board.show(rt, set) else {
             return Err(Memory);
         };
         cluster.release(rt, self.shown);
-        self.shown = number;
+        self.shown = self.ordered;
         Ok(told)
     }
 
@@ -164,5 +186,41 @@ impl<B: Naming> Publisher<B> {
             shown: _,
         } = self;
         (seat, board)
+    }
+}
+
+impl<B: Naming + Send + Sync> Publisher<B> {
+    /// What `publish` does, where so many threads make the epochs of several servers at once.
+    pub(crate) fn publish_with<R: Threads + Wait + Sync + AllocGlobal>(
+        &mut self,
+        rt: &R,
+        cluster: &Cluster<B>,
+        workers: u32,
+    ) -> Result<Told, Memory>
+        requires room { length self.old.shown ≤ B.shape.phases }
+        requires workers { 1 ≤ workers }
+        ensures published { OnOk result (Published B.shape self.old self.new) }
+        ensures told { IfOk result (λ t. t ≡ told_of self.new) }
+        ensures err { OnErr result (Withheld self.old self.new) }
+    {
+        self.mark(rt, &cluster.order)?;
+        let set = self.due_with(rt, cluster, workers)?;
+        self.show(rt, cluster, set)
+    }
+
+    /// The set of the mark that stands in the order, made by so many threads.
+    fn due_with<R: Threads + Wait + Sync + AllocGlobal>(
+        &mut self,
+        rt: &R,
+        cluster: &Cluster<B>,
+        workers: u32,
+    ) -> Result<Arc<EpochSet>, Memory>
+        requires due { length (marks self.old) ≡ length self.old.shown }
+        requires workers { 1 ≤ workers }
+        ensures same { self.new ≡ self.old }
+        ensures stands { IfOk result
+            (λ s. Stands B.shape self.old.seen (length self.old.shown) (arc_value s)) }
+    {
+        cluster.set_with(rt, &mut self.seat, self.ordered, self.marked, workers)
     }
 }

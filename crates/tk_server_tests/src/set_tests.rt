@@ -13,8 +13,9 @@ use tk_frames::{FrameError, decode_reply};
 use tk_order::{Blank, Naming};
 use tk_shape::Bytes;
 
-/// A client pins epoch 1, in which there is a write, and three more epochs are shown.
-fn kept<B: Naming, R: Wait + AllocGlobal>(
+/// A client pins epoch 1, which both servers made at once and in which there is a write, and three
+/// more epochs are shown.
+fn kept<B: Naming + Send + Sync, R: Threads + Wait + Sync + AllocGlobal>(
     rt: &R,
     desk: &Desk<B>,
     publisher: &mut Publisher<B>,
@@ -24,7 +25,7 @@ fn kept<B: Naming, R: Wait + AllocGlobal>(
     if desk.write(rt, pass, frame.as_slice())? != Ok(1) {
         return None;
     }
-    let _first = desk.publish(rt, publisher)?;
+    let _first = desk.publish_at_once(rt, publisher)?;
     let set = desk.pin(pass, 4)?;
     for _ in 0..3 {
         let _later = desk.publish(rt, publisher)?;
@@ -138,7 +139,7 @@ fn refused<B: Naming, R: Wait + AllocGlobal + Abort>(
     Ok(())
 }
 
-fn epoch_1_answers<B: Naming, R: Threads + Wait + AllocGlobal + Abort + Sync>(
+fn epoch_1_answers<B: Naming + Send + Sync, R: Threads + Wait + AllocGlobal + Abort + Sync>(
     rt: &R,
     blank: Blank,
 ) -> Result<(), Fail>

@@ -5,6 +5,7 @@ ghost use Rattle.tk_cluster.specs.Passes.{Stays};
 
 use std::alloc::Global;
 use std::sync::{Arc, Wait};
+use std::thread::Threads;
 use tk_cluster::{Cluster, EpochSet, Pass, Publisher, Told, WriteError};
 use tk_frames::{ReadFrame, Seeds, WriteFrame, encode_read, encode_write};
 use tk_order::{Blank, Naming};
@@ -152,5 +153,19 @@ impl<B: Naming> Desk<B> {
             return None;
         }
         self.cluster.pin(pass, most).ok()
+    }
+}
+
+impl<B: Naming + Send + Sync> Desk<B> {
+    /// The next epoch, of both servers at once.
+    pub(crate) fn publish_at_once<R: Threads + Wait + Sync + AllocGlobal>(
+        &self,
+        rt: &R,
+        publisher: &mut Publisher<B>,
+    ) -> Option<Told> {
+        if publisher.shown() >= self.shape.phases {
+            return None;
+        }
+        self.cluster.publish_with(rt, publisher, 2).ok()
     }
 }
