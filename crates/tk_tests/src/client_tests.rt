@@ -1,7 +1,7 @@
-ghost use Rattle.std.specs.Prelude.{◌≡◌, ◌<◌, ◌≤◌, None, IsSome, IfOk, OnOk};
+ghost use Rattle.std.specs.Prelude.{◌≡◌, ◌<◌, ◌≤◌, [], ◌∷◌, None, IsSome, IfOk, OnOk};
 ghost use Rattle.std.specs.Option.{ForSome};
 ghost use Rattle.tk_shape.specs.Lengths.{turn_count};
-ghost use Rattle.tk_client.specs.Writing.{first_waiting, after_write};
+ghost use Rattle.tk_client.specs.Writing.{new_writing, first_waiting, after_write};
 
 use std::alloc::Global;
 use tk_bloom::{Filter, Window};
@@ -249,6 +249,20 @@ fn write(alloc: Global, client: &mut Client, draws: &DrawnDraws, frame: &[u8]) -
     Ok(())
 }
 
+/// Says the text `hi` for client 1, which writes log 0, and writes it.
+fn say_and_write(alloc: Global, client: &mut Client, draws: &DrawnDraws) -> Result<(), Memory>
+    requires one_shape { ⟦<DrawnDraws as Draws>⟧.shape draws.now ≡ client.old.shape }
+    requires turn_in { 1 < turn_count client.old.shape }
+    requires fresh { client.old.writing ≡ new_writing (0 ∷ []) }
+    ensures none_waits { OnOk result (client.new.writing.waiting ≡ []) }
+    ensures shape { OnOk result (client.new.shape ≡ client.old.shape) }
+{
+    if client.say(alloc, 0, b"hi").is_err() {
+        return Err(Memory);
+    }
+    write(alloc, client, draws, OF_HI)
+}
+
 /// The frames of the writes of client 1 in turn 1, of the text `hi` and of what is drawn.
 const OF_HI: &[u8] =
     b"\x01\x01\0\0\0\x01\0\0\0\x01\0\0\0\x07\0\0\0\x07\0\0\0\x07\x07\x05\x6f\x6e\x07\x07\x07\x07\x07\x07\x07\x07\x07\x07\x07\x07\x07\x07\x07\x07\x07\x07\x07\x07";
@@ -263,8 +277,7 @@ fn a_text_is_written_once_and_then_what_is_drawn(rt: HostRuntime) -> Result<(), 
     let draws = book(alloc, &shape)?;
     let mut client = Client::open(alloc, &shape, 1, &[0], &[])?;
     assert!(rt; client.number() == 1 && client.shape().logs == 1);
-    assert!(rt; client.say(alloc, 0, b"hi").is_ok());
-    write(alloc, &mut client, &draws, OF_HI)?;
+    say_and_write(alloc, &mut client, &draws)?;
     write(alloc, &mut client, &draws, DRAWN)
 }
 
