@@ -7,3 +7,4 @@ pub mod Faults
 pub mod Laws
 pub mod Lists
 pub mod Slots
+pub mod Lent

@@ -5,12 +5,13 @@ ghost use Rattle.std.specs.Prelude.{vec_len, vec_capacity, OnOk, OnErr};
 ghost use Rattle.std.specs.List.{flat_map};
 ghost use Rattle.tk_frames.specs.Spelling.{be32, be64, write_fields, write_frame, read_frame};
 ghost use Rattle.tk_frames.specs.Spelling.{reply_frame, placed_frame};
+ghost use Rattle.tk_frames.specs.Lent.{lent_read, lent_reply};
 ghost use Rattle.tk_frames.specs.Ranges.{AreTold};
 ghost use Rattle.tk_frames.specs.declared.write_frame.WriteFrame.{WriteFrame};
 ghost use Rattle.tk_frames.specs.declared.entry.Entry.TheVariants.{Write};
 
 use crate::kind::{self, VERSION};
-use crate::{Entry, Placed, ReadFrame, ReplyFrame, Seeds, WriteFrame};
+use crate::{Entry, LentRead, LentReply, Placed, ReadFrame, ReplyFrame, Seeds, Way, WriteFrame};
 use tk_shape::Memory;
 
 /// Appends bytes for which there is room.
@@ -127,13 +128,38 @@ pub fn encode_read(frame: &ReadFrame, out: &mut Vec<u8>) -> Result<(), Memory>
     let asker = [frame.client, frame.turn, frame.epoch];
     let (first, second) = (frame.first.as_slice(), frame.second.as_slice());
     match &frame.seeds {
-        Seeds::Plain => encode_asked(kind::READ, asker, &[], first, second, out),
+        Seeds::Plain => encode_asked(kind::READ, asker, (&[], &[]), (first, second), out),
         Seeds::Seeded(seeds) => {
-            encode_asked(kind::SEEDED, asker, seeds.as_slice(), &[], &[], out)
+            encode_asked(
+                kind::SEEDED,
+                asker,
+                (seeds.as_slice(), &[]),
+                (&[], &[]),
+                out,
+            )
         }
         Seeds::Shown(seeds) => {
-            encode_asked(kind::SHOWN, asker, seeds.as_slice(), first, second, out)
+            encode_asked(
+                kind::SHOWN,
+                asker,
+                (seeds.as_slice(), &[]),
+                (first, second),
+                out,
+            )
         }
+    }
+}
+
+/// Appends the one spelling of the read whose parts these are.
+pub fn encode_lent_read(frame: &LentRead<'_>, out: &mut Vec<u8>) -> Result<(), Memory>
+    ensures ok { OnOk result (out.new.items ≡ out.old.items ++ read_frame (lent_read frame.now)) }
+    ensures err { OnErr result (out.new.items ≡ out.old.items) }
+{
+    let asker = [frame.client, frame.turn, frame.epoch];
+    match frame.way {
+        Way::Plain => encode_asked(kind::READ, asker, (&[], &[]), frame.vectors, out),
+        Way::Seeded => encode_asked(kind::SEEDED, asker, frame.seeds, (&[], &[]), out),
+        Way::Shown => encode_asked(kind::SHOWN, asker, frame.seeds, frame.vectors, out),
     }
 }
 
@@ -143,8 +169,17 @@ pub fn encode_reply(frame: &ReplyFrame, out: &mut Vec<u8>) -> Result<(), Memory>
     ensures err { OnErr result (out.new.items ≡ out.old.items) }
 {
     let asker = [frame.client, frame.turn, frame.epoch];
-    let (first, second) = (frame.first.as_slice(), frame.second.as_slice());
-    encode_asked(kind::REPLY, asker, &[], first, second, out)
+    let sums = (frame.first.as_slice(), frame.second.as_slice());
+    encode_asked(kind::REPLY, asker, (&[], &[]), sums, out)
+}
+
+/// Appends the one spelling of the reply that has these sums.
+pub fn encode_lent_reply(frame: &LentReply<'_>, out: &mut Vec<u8>) -> Result<(), Memory>
+    ensures ok { OnOk result (out.new.items ≡ out.old.items ++ reply_frame (lent_reply frame.now)) }
+    ensures err { OnErr result (out.new.items ≡ out.old.items) }
+{
+    let asker = [frame.client, frame.turn, frame.epoch];
+    encode_asked(kind::REPLY, asker, (&[], &[]), frame.sums, out)
 }
 
 /// What a frame begins with that names who asks, as a read and a reply do: its kind, the version, and the client, turn
@@ -167,21 +202,21 @@ pub fn head_of(kind: u8, asker: [u32; 3]) -> [u8; 14]
 fn encode_asked(
     kind: u8,
     asker: [u32; 3],
-    seeds: &[u8],
-    first: &[u8],
-    second: &[u8],
+    seeds: (&[u8], &[u8]),
+    vectors: (&[u8], &[u8]),
     out: &mut Vec<u8>,
 ) -> Result<(), Memory>
-    ensures ok { OnOk result (out.new.items
-        ≡ out.old.items ++ (kind ∷ 1 ∷ (flat_map be32 asker ++ (seeds.now ++ (first.now ++ second.now))))) }
+    ensures ok { let rest = (seeds.entry.0.now ++ seeds.entry.1.now) ++ (vectors.entry.0.now ++ vectors.entry.1.now) in
+        OnOk result (out.new.items ≡ out.old.items ++ (kind ∷ 1 ∷ (flat_map be32 asker ++ rest))) }
     ensures err { OnErr result (out.new.items ≡ out.old.items) }
 {
-    let halves = first.len().saturating_add(second.len());
-    let rest = seeds.len().saturating_add(halves);
-    out.reserve(rest.saturating_add(14))?;
+    let seeds_len = seeds.0.len().saturating_add(seeds.1.len());
+    let vectors_len = vectors.0.len().saturating_add(vectors.1.len());
+    out.reserve(seeds_len.saturating_add(vectors_len).saturating_add(14))?;
     put(out, &head_of(kind, asker));
-    put(out, seeds);
-    put(out, first);
-    put(out, second);
+    put(out, seeds.0);
+    put(out, seeds.1);
+    put(out, vectors.0);
+    put(out, vectors.1);
     Ok(())
 }
