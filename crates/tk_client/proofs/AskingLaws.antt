@@ -6,7 +6,7 @@ use Rattle.std.proofs.Common.{append-nil, length-append, Option}
 use Rattle.std.specs.Prelude.{slice_index_or, nat_lt, ◌==◌, ◌&&◌}
 use Rattle.std.specs.List.{range_with_len, flat_map, concat}
 use Rattle.std.proofs.Math.Seq.{take-append_seam}
-use Rattle.std.proofs.lemmas.List.{take_at, drop_at}
+use Rattle.std.proofs.lemmas.List.{map-append, take_at, drop_at, take_all, take-append-le, drop-append-le, length-drop}
 use Rattle.std.proofs.lemmas.List.FromFn.{map-range_with_len_more}
 use Rattle.std.proofs.lemmas.Nat.{le-div, mod-mul-add}
 use Rattle.std.proofs.Math.Nat.{mul-div_cancel}
@@ -20,6 +20,7 @@ use Rattle.tk_bits.proofs.Offers.{vector-at, seed-at}
 use Rattle.tk_words.specs.Words.{WordBook, words_of, BothBuckets, joined}
 use Rattle.tk_words.specs.Words.{fresh_seeds, fresh_vectors, shows_vectors}
 use Rattle.tk_frames.specs.declared.read_frame.ReadFrame.{ReadFrame}
+use Rattle.tk_frames.specs.Spelling.{read_frame}
 use Rattle.tk_frames.specs.declared.seeds.Seeds.{Seeds}
 use Rattle.tk_frames.specs.declared.seeds.Seeds.TheVariants.{Plain, Seeded, Shown}
 use Rattle.tk_client.specs.declared.asking.Asker.{Asker}
@@ -39,13 +40,6 @@ whole_vectors count size some =
 
 -- ---- vectors one after the other
 
--- of several vectors the last lies after the others
-pub last_behind : (count size : ℕ) → 2 ≤ count → (count - 1) * size + size ≡ count * size
-last_behind zero size h = absurd (omega arith)
-last_behind (suc n) size h =
-    let less : suc n - 1 ≡ n = omega arith in
-    ap (λ k. k * size + size) less ∙ omega arith
-
 pub vector_at : (size i taken start : ℕ) (bytes : List ℕ) → 0 < size → taken ≡ size →
     start ≡ i * size →
     (i + 1) * size ≤ length bytes →
@@ -54,6 +48,25 @@ vector_at size i taken start bytes some whole from long =
     let low = le-div (i + 1) (length bytes) size some long in
     ap₂ (λ n k. take n (drop k bytes)) whole from
     ∙ sym (get_or-pieces size (length bytes / size) i bytes [] (omega (arith, low)))
+
+-- a vector of those that lie before the last, and the last
+pub vector_before : (size i taken start : ℕ) (drawn last : List ℕ) → 0 < size → taken ≡ size →
+    start ≡ i * size → (i + 1) * size ≤ length drawn →
+    take taken (drop start drawn) ≡ slice_index_or (all_pieces size (drawn ++ last)) i []
+vector_before size i taken start drawn last some whole from long =
+    let both = length-append drawn last in
+    let front = drop-append-le start drawn last (omega (arith, from, long)) in
+    let behind = length-drop start drawn in
+    sym (ap (take taken) front
+    ∙ take-append-le taken (drop start drawn) last (omega (arith, behind, whole, from, long)))
+    ∙ vector_at size i taken start (drawn ++ last) some whole from (omega (arith, both, long))
+
+pub vector_behind : (size i : ℕ) (drawn last : List ℕ) → 0 < size → length drawn ≡ i * size →
+    length last ≡ size → last ≡ slice_index_or (all_pieces size (drawn ++ last)) i []
+vector_behind size i drawn last some long whole =
+    let both = length-append drawn last in
+    sym (ap (take size) (drop_at drawn last (i * size) long) ∙ take_all size last (omega (arith, whole)))
+    ∙ vector_at size i size (i * size) (drawn ++ last) some refl refl (omega (arith, both, long, whole))
 
 all_pieces-last : (size : ℕ) (blocks : List (List ℕ)) (last : List ℕ) → 0 < size →
     AllSized size blocks → length last ≡ size →
@@ -145,22 +158,39 @@ abbrev pub framed : Asker → List ℕ → List ℕ → Seeds → ReadFrame
 framed a x y s =
     record { client = a.client; turn = a.turn; epoch = a.epoch; first = x; second = y; seeds = s }
 
--- one server further
-pub frames_more : (shape : Shape) (shows : Bool) (a : Asker) (one other : Cut)
-    (frames more : List ReadFrame) (server : ℕ) (x y : List ℕ) (s : Seeds) → 1 ≤ server →
-    x ≡ one.vector server → y ≡ other.vector server →
-    s ≡ seeds_told shape shows server (one.seed server ++ other.seed server) →
-    more ≡ frames ++ framed a x y s ∷ [] →
-    frames ≡ map (frame_from shape shows a one other) (range_with_len 1 (server - 1)) →
-    more ≡ map (frame_from shape shows a one other) (range_with_len 1 (server + 1 - 1))
+-- a frame for server j is made of these two vectors and of what it is told
+pub frame_of_parts : (shape : Shape) (shows : Bool) (a : Asker) (one other : Cut) (j : ℕ)
+    (x y : List ℕ) (s : Seeds) → x ≡ one.vector j → y ≡ other.vector j →
+    s ≡ seeds_told shape shows j (one.seed j ++ other.seed j) →
+    framed a x y s ≡ frame_from shape shows a one other j
 unfolding frame_from
-frames_more shape shows a one other frames more server x y s low x_is y_is s_is pushed so_far =
-    let each = frame_from shape shows a one other in
-    let here : framed a x y s ≡ each server = λ i. framed a (x_is i) (y_is i) (s_is i) in
+frame_of_parts shape shows a one other j x y s x_is y_is s_is =
+    λ i. framed a (x_is i) (y_is i) (s_is i)
+
+-- one server further
+pub frames_more : (each : ℕ → ReadFrame) (frames more : List ReadFrame) (server : ℕ) (f : ReadFrame) →
+    1 ≤ server → f ≡ each server → more ≡ frames ++ f ∷ [] →
+    frames ≡ map each (range_with_len 1 (server - 1)) →
+    more ≡ map each (range_with_len 1 (server + 1 - 1))
+frames_more each frames more server f low is pushed so_far =
     let count : server - 1 + 1 ≡ server + 1 - 1 = omega (arith, low) in
-    pushed ∙ ap₂ (λ (fs : List ReadFrame) (f : ReadFrame). fs ++ f ∷ []) so_far here
+    pushed ∙ ap₂ (λ (fs : List ReadFrame) (x : ReadFrame). fs ++ x ∷ []) so_far is
     ∙ sym (map-range_with_len_more each 1 (server - 1) server (omega (arith, low)))
     ∙ ap (λ n. map each (range_with_len 1 n)) count
+
+-- one server further, spelled
+pub spelled_more : (each : ℕ → ReadFrame) (spelled more : List (List ℕ)) (server : ℕ) (f : ReadFrame)
+    (bytes : List ℕ) → 1 ≤ server → f ≡ each server → bytes ≡ read_frame f →
+    more ≡ spelled ++ bytes ∷ [] →
+    spelled ≡ map read_frame (map each (range_with_len 1 (server - 1))) →
+    more ≡ map read_frame (map each (range_with_len 1 (server + 1 - 1)))
+spelled_more each spelled more server f bytes low is spells pushed so_far =
+    let frames = map each (range_with_len 1 (server - 1)) in
+    pushed
+    ∙ ap₂ (λ (fs : List (List ℕ)) (x : List ℕ). fs ++ x ∷ []) so_far spells
+    ∙ sym (map-append read_frame frames (f ∷ []))
+    ∙ ap (λ (fs : List ReadFrame). map read_frame fs)
+    (frames_more each frames (frames ++ f ∷ []) server f low is refl refl)
 
 -- the seeds that server j is told, where it is told any
 pub told-alike : (shape : Shape) (shows : Bool) (j : ℕ) (s t : List ℕ) →

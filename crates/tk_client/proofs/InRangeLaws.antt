@@ -28,7 +28,6 @@ use Rattle.tk_frames.specs.declared.seeds.Seeds.TheVariants.{Plain, Seeded, Show
 use Rattle.tk_frames.specs.Ranges.{IsRead, AreTwoSeeds, AreSeeds, Expand, AreTold}
 use Rattle.tk_client.specs.Reader.{Target}
 use Rattle.tk_client.specs.Asked.{pair_for, frame_with, frame_for, asked, AreForBoth}
-use Rattle.tk_client.specs.Framing.{AreAllTold}
 use Rattle.tk_client.specs.Laws.{AskedAreInRange, PairsAreInRange, VectorsAreWhole}
 use Rattle.tk_client.specs.Laws.{SeedsAreWhole}
 
@@ -316,23 +315,6 @@ module _ (shape : Shape) (b : WordBook) (g c e : ℕ) (pair : ℕ × ℕ) (serve
             });
         told = frame-told;
       }
-
-frames_told : (shape : Shape) (b : WordBook) (g c e : ℕ) (pair : ℕ × ℕ) → IsBook shape b →
-    g < turn_count shape → c < shape.clients → (j n : ℕ) → 1 ≤ j → j + n ≤ shape.servers + 1 →
-    AreAllTold (map (frame_for shape b g c e pair) (range_with_len j n))
-frames_told shape b g c e pair served turn_in client_in j zero low high = tt
-frames_told shape b g c e pair served turn_in client_in j (suc n) low high = (
-  frame-told shape b g c e pair served turn_in client_in j low (omega (arith, high)),
-  frames_told shape b g c e pair served turn_in client_in (j + 1) n (omega arith)
-      (omega (arith, high)),
-)
-
--- in what is asked, vectors that seeds alone tell are what the seeds expand to
-pub asked-told : (shape : Shape) (b : WordBook) (g c e : ℕ) (t : Option Target) → IsBook shape b →
-    g < turn_count shape → c < shape.clients → AreAllTold (asked shape b g c e t)
-asked-told shape b g c e t served turn_in client_in =
-    frames_told shape b g c e (pair_for (words_of shape b) g c t) served turn_in client_in 1
-    shape.servers (omega arith) (omega arith)
 
 frames_in_range : (shape : Shape) (b : WordBook) (g c e : ℕ) (pair : ℕ × ℕ) → IsBook shape b →
     g < turn_count shape → c < shape.clients → e ≤ shape.phases → (j n : ℕ) → 1 ≤ j →

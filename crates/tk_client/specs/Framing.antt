@@ -1,6 +1,7 @@
 -- Frames made of bytes in which what all servers get lies one after the other.
-use Rattle.std.specs.Prelude.{ℕ, ◌-◌, Bool, List, [], ◌++◌, slice_index_or}
-use Rattle.std.specs.List.{AllByRecursion}
+use Rattle.std.specs.Prelude.{◌≡◌, ℕ, ◌-◌, ◌*◌, Bool, List, [], ◌++◌, length, map, take, drop}
+use Rattle.std.specs.Prelude.{slice_index_or}
+use Rattle.std.specs.List.{AllByRecursion, range_with_len}
 use Rattle.tk_shape.specs.declared.shape.Shape.{Shape}
 use Rattle.tk_shape.specs.Lengths.{seed_len, vector_len}
 use Rattle.tk_kernel.specs.Pieces.{all_pieces}
@@ -8,6 +9,7 @@ use Rattle.tk_words.specs.Pieces.{piece}
 use Rattle.tk_frames.specs.declared.read_frame.ReadFrame.{ReadFrame}
 use Rattle.tk_frames.specs.Ranges.{AreTold}
 use Rattle.tk_client.specs.declared.asking.Asker.{Asker}
+use Rattle.tk_client.specs.declared.asking.Query.{Query}
 use Rattle.tk_client.specs.Asked.{seeds_told}
 
 -- the seed and the vector of a server, by its number
@@ -33,6 +35,37 @@ frame_from shape shows a first second j =
       second = second.vector j;
       seeds = seeds_told shape shows j (first.seed j ++ second.seed j);
     }
+
+-- how long the seeds for one bucket are, and how long the drawn vectors
+abbrev pub seeds_each : Shape → ℕ
+seeds_each shape = (shape.servers - 1) * seed_len shape
+
+abbrev pub drawn_each : Shape → ℕ
+drawn_each shape = (shape.servers - 1) * vector_len shape
+
+-- a query has for either bucket the seeds and vectors that it should have
+pub record IsQuery (shape : Shape) (q : Query) : Type 0 where
+  pub seeds_long : length q.seeds ≡ 2 * seeds_each shape
+  pub drawn_long : length q.drawn ≡ 2 * drawn_each shape
+  pub last_long : length q.last ≡ 2 * vector_len shape
+
+-- what a query has for the first bucket, and what for the second
+abbrev pub first_cut : Shape → Query → Cut
+first_cut shape q =
+    cut shape (take (seeds_each shape) q.seeds)
+    (take (drawn_each shape) q.drawn ++ take (vector_len shape) q.last)
+
+abbrev pub second_cut : Shape → Query → Cut
+second_cut shape q =
+    cut shape (drop (seeds_each shape) q.seeds)
+    (drop (drawn_each shape) q.drawn ++ drop (vector_len shape) q.last)
+
+-- what a query asks of server j, and what of all
+abbrev pub query_frame : Shape → Query → ℕ → ReadFrame
+query_frame shape q = frame_from shape q.shows q.asker (first_cut shape q) (second_cut shape q)
+
+abbrev pub query_frames : Shape → Query → List ReadFrame
+query_frames shape q = map (query_frame shape q) (range_with_len 1 shape.servers)
 
 -- in each of these frames vectors that seeds alone tell are what the seeds expand to
 abbrev pub AreAllTold : List ReadFrame → Type 0

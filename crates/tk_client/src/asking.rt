@@ -1,44 +1,42 @@
-ghost use Rattle.std.specs.Prelude.{◌≡◌, ◌-◌, ◌*◌, ◌<◌, ◌≤◌, length, map, slice_index_or, cond};
-ghost use Rattle.std.specs.Prelude.{ℕ, [], ◌++◌, IfSome, IfOk, OnOk, OnErr};
-ghost use Rattle.std.specs.List.{range_with_len};
+ghost use Rattle.std.specs.Prelude.{◌≡◌, ◌-◌, ◌*◌, ◌<◌, ◌≤◌, length, take, drop, map, slice_index_or, cond};
+ghost use Rattle.std.specs.Prelude.{ℕ, List, [], ◌++◌, IfSome, IfOk, OnOk, OnErr};
 ghost use Rattle.tk_shape.specs.Lengths.{turn_count, seed_len, vector_len};
 ghost use Rattle.tk_kernel.specs.Pieces.{all_pieces};
 ghost use Rattle.tk_bits.specs.Shares.{completed};
 ghost use Rattle.tk_words.specs.Pieces.{piece};
 ghost use Rattle.tk_words.specs.Words.{words_of, fresh_pair};
-ghost use Rattle.tk_frames.specs.declared.read_frame.ReadFrame.{ReadFrame};
 ghost use Rattle.tk_frames.specs.declared.seeds.Seeds.TheVariants.{Seeded, Shown};
-ghost use Rattle.tk_frames.specs.Ranges.{AreTold};
+ghost use Rattle.tk_frames.specs.Lent.{seeds_by_way, lent_read};
 ghost use Rattle.tk_frames.specs.Spelling.{read_frame};
 ghost use Rattle.tk_client.specs.Asked.{pair_for, seeds_told, asked};
-ghost use Rattle.tk_client.specs.Framing.{frame_from, cut, AreAllTold};
+ghost use Rattle.tk_client.specs.Framing.{drawn_each, query_frame, query_frames, IsQuery};
 
 use crate::open_read::OpenRead;
 use crate::pairing::{KeptPair, ReadPair, pair_to_keep};
 use crate::target::Target;
 use std::alloc::Global;
 use tk_bits::share;
-use tk_frames::{ReadFrame, Seeds, encode_read};
+use tk_frames::{LentRead, ReadFrame, Way, encode_lent_read};
 use tk_shape::{Bytes, Memory, Shape};
 use tk_words::Draws;
 
-/// What a client asks of every server in a read, server by server, and what is kept of its buckets.
-/// A dummy read asks for buckets that are drawn, and otherwise as any other.
-pub(crate) fn read_frames<D: Draws>(
+/// The query of a client's read, and what is kept of its buckets. A dummy read asks for buckets that are drawn, and
+/// otherwise as any other.
+pub(crate) fn draw_query<D: Draws>(
     alloc: Global,
     shape: &Shape,
     draws: &D,
     client: u32,
     read: OpenRead,
-) -> Result<(Vec<ReadFrame>, Option<KeptPair>), Memory>
+) -> Result<(Query, Option<KeptPair>), Memory>
     requires one_shape { D.shape draws.now ≡ shape.now }
     requires client_in { client < shape.now.clients }
     requires turn_in { read.turn < turn_count shape.now }
     requires log_in { IfSome read.target (λ t. t.log < shape.now.logs) }
     requires number_in { IfSome read.target (λ t. t.number < turn_count shape.now) }
-    ensures asked { IfOk result (λ r. r.0.items
+    ensures asked { IfOk result (λ r. query_frames shape.now r.0
         ≡ asked shape.now (D.book draws.now) read.turn client read.epoch read.target) }
-    ensures told { IfOk result (λ r. AreAllTold r.0.items) }
+    ensures whole { IfOk result (λ r. IsQuery shape.now r.0) }
 {
     let others = shape.servers as usize - 1;
     let each_seed = others * shape.seed_len() as usize;
@@ -52,26 +50,19 @@ pub(crate) fn read_frames<D: Draws>(
         drawn.as_mut_slice(),
     );
     let ReadPair { pair, kept } = buckets(shape, draws, read.target, fresh);
-    let (first_bucket, second_bucket) = pair;
-    let (first_seeds, second_seeds) = seeds.as_slice().split_at(each_seed);
-    let (first, second) = drawn.as_slice().split_at(each_vector);
-    let first = all_vectors(alloc, shape, first_bucket, first)?;
-    let second = all_vectors(alloc, shape, second_bucket, second)?;
-    let first = Shares {
-        seeds: first_seeds,
-        vectors: first.as_slice(),
+    let last = last_vectors(alloc, shape, pair, drawn.as_slice())?;
+    let query = Query {
+        asker: Asker {
+            client,
+            turn: read.turn,
+            epoch: read.epoch,
+        },
+        shows: draws.shows(),
+        seeds: Bytes::from_vec(seeds),
+        drawn: Bytes::from_vec(drawn),
+        last,
     };
-    let second = Shares {
-        seeds: second_seeds,
-        vectors: second.as_slice(),
-    };
-    let asker = Asker {
-        client,
-        turn: read.turn,
-        epoch: read.epoch,
-    };
-    let frames = frames_of(alloc, shape, draws.shows(), asker, &first, &second)?;
-    Ok((frames, kept))
+    Ok((query, kept))
 }
 
 /// Who asks, and over which epoch.
@@ -82,12 +73,108 @@ struct Asker {
     epoch: u32,
 }
 
-/// The shares of a bucket: the seeds of all servers but the last, one after the other, and likewise
-/// the vectors of all.
+/// What a client asks of all servers in a read, of which each is lent its part.
+#[derive(Drop)]
+pub(crate) struct Query {
+    asker: Asker,
+    shows: bool,
+    /// The seeds of all servers but the last, one after the other, for the first bucket and then for the second.
+    seeds: Bytes,
+    /// Likewise their vectors, which are drawn.
+    drawn: Bytes,
+    /// The vectors of the last server.
+    last: Bytes,
+}
+
+/// The shares of a bucket: the seeds and the vectors of all servers but the last, one after the
+/// other, and the vector of the last, which completes them.
 #[derive(Clone, Copy)]
 struct Shares<'a> {
     seeds: &'a [u8],
-    vectors: &'a [u8],
+    drawn: &'a [u8],
+    last: &'a [u8],
+}
+
+impl Query {
+    /// What every server is asked, server by server.
+    pub(crate) fn frames(&self, alloc: Global, shape: &Shape) -> Result<Vec<ReadFrame>, Memory>
+        requires whole { IsQuery shape.now self.now }
+        ensures { IfOk result (λ frames. frames.items ≡ query_frames shape.now self.now) }
+    {
+        let mut frames = Vec::with_capacity(alloc, shape.servers as usize)?;
+        for server in 1..shape.servers + 1 {
+            frames.push(self.lent(shape, server).to_frame(alloc)?)?;
+        }
+        Ok(frames)
+    }
+
+    /// Appends the spelling of what every server is asked. Without memory nothing is appended.
+    pub(crate) fn append_spelled(
+        &self,
+        alloc: Global,
+        shape: &Shape,
+        out: &mut Vec<Bytes>,
+    ) -> Result<(), Memory>
+        requires whole { IsQuery shape.now self.now }
+        ensures appended { OnOk result
+            (out.new.items ≡ out.old.items ++ map read_frame (query_frames shape.now self.now)) }
+        ensures kept { OnErr result (out.new.items ≡ out.old.items) }
+    {
+        let mut spelled = self.spelled(alloc, shape)?;
+        out.append(&mut spelled)?;
+        Ok(())
+    }
+
+    fn spelled(&self, alloc: Global, shape: &Shape) -> Result<Vec<Bytes>, Memory>
+        requires whole { IsQuery shape.now self.now }
+        ensures { IfOk result (λ spelled.
+            spelled.items ≡ map read_frame (query_frames shape.now self.now)) }
+    {
+        let mut spelled = Vec::with_capacity(alloc, shape.servers as usize)?;
+        for server in 1..shape.servers + 1 {
+            spelled.push(spelled_read(alloc, &self.lent(shape, server))?)?;
+        }
+        Ok(spelled)
+    }
+
+    /// What a server is asked.
+    fn lent(&self, shape: &Shape, server: u32) -> LentRead<'_>
+        requires whole { IsQuery shape.now self.now }
+        requires server_low { 1 ≤ server }
+        requires server_high { server ≤ shape.now.servers }
+        ensures { lent_read result ≡ query_frame shape.now self.now server }
+    {
+        let others = shape.servers as usize - 1;
+        let size = shape.vector_len() as usize;
+        let seeds = self
+            .seeds
+            .as_slice()
+            .split_at(others * shape.seed_len() as usize);
+        let drawn = self.drawn.as_slice().split_at(others * size);
+        let last = self.last.as_slice().split_at(size);
+        let first = Shares {
+            seeds: seeds.0,
+            drawn: drawn.0,
+            last: last.0,
+        };
+        let second = Shares {
+            seeds: seeds.1,
+            drawn: drawn.1,
+            last: last.1,
+        };
+        let (way, seeds) = told(shape, self.shows, server, first.seeds, second.seeds);
+        LentRead {
+            client: self.asker.client,
+            turn: self.asker.turn,
+            epoch: self.asker.epoch,
+            way,
+            seeds,
+            vectors: (
+                vector_of(shape, server, &first),
+                vector_of(shape, server, &second),
+            ),
+        }
+    }
 }
 
 /// The buckets of a read: the pair of what it is for, or else those that are drawn, of which nothing
@@ -117,137 +204,97 @@ fn buckets<D: Draws>(
     }
 }
 
-/// The vectors of all servers for a bucket, one after the other: those that are drawn, and the one
-/// that completes them.
-fn all_vectors(alloc: Global, shape: &Shape, bucket: u32, drawn: &[u8]) -> Result<Vec<u8>, Memory>
-    requires bucket_in { bucket < shape.now.buckets }
-    requires whole { length drawn.now ≡ (shape.now.servers - 1) * vector_len shape.now }
-    ensures vectors { let size = vector_len shape.now in IfOk result (λ all.
-        all_pieces size all.items ≡ completed size bucket (all_pieces size drawn.now)) }
-    ensures long { IfOk result (λ all.
-        length all.items ≡ shape.now.servers * vector_len shape.now) }
-{
-    let size = shape.servers as usize * shape.vector_len() as usize;
-    let mut all = vec![in alloc; 0u8; size]?;
-    let (others, last) = all.as_mut_slice().split_at_mut(drawn.len());
-    others.copy_from_slice(drawn);
-    share(bucket, drawn, last);
-    Ok(all)
-}
-
-/// A frame for each server, with its share of either bucket.
-fn frames_of(
+/// The vectors of the last server, which complete those that are drawn for the buckets of a pair.
+fn last_vectors(
     alloc: Global,
     shape: &Shape,
-    shows: bool,
-    asker: Asker,
-    first: &Shares<'_>,
-    second: &Shares<'_>,
-) -> Result<Vec<ReadFrame>, Memory>
-    requires first_long { length first.now.vectors.now ≡ shape.now.servers * vector_len shape.now }
-    requires second_long { length second.now.vectors.now ≡ shape.now.servers * vector_len shape.now }
-    requires first_seeds { length first.now.seeds.now ≡ (shape.now.servers - 1) * seed_len shape.now }
-    requires second_seeds { length second.now.seeds.now ≡ (shape.now.servers - 1) * seed_len shape.now }
-    ensures { IfOk result (λ frames. frames.items
-        ≡ map (frame_from shape.now shows asker (cut shape.now first.now.seeds.now first.now.vectors.now)
-        (cut shape.now second.now.seeds.now second.now.vectors.now)) (range_with_len 1 shape.now.servers)) }
+    pair: (u32, u32),
+    drawn: &[u8],
+) -> Result<Bytes, Memory>
+    requires first_in { pair.0 < shape.now.buckets }
+    requires second_in { pair.1 < shape.now.buckets }
+    requires whole { length drawn.now ≡ 2 * drawn_each shape.now }
+    ensures first { let size = vector_len shape.now in let own = take (drawn_each shape.now) drawn.now in
+        IfOk result (λ last. all_pieces size (own ++ take size last)
+        ≡ completed size pair.0 (all_pieces size own)) }
+    ensures second { let size = vector_len shape.now in let own = drop (drawn_each shape.now) drawn.now in
+        IfOk result (λ last. all_pieces size (own ++ drop size last)
+        ≡ completed size pair.1 (all_pieces size own)) }
+    ensures long { IfOk result (λ last. length last ≡ 2 * vector_len shape.now) }
 {
-    let mut frames = Vec::new(alloc);
-    for server in 1..shape.servers + 1 {
-        frames.push(ReadFrame {
-            client: asker.client,
-            turn: asker.turn,
-            epoch: asker.epoch,
-            first: vector_of(alloc, shape, server, first.vectors)?,
-            second: vector_of(alloc, shape, server, second.vectors)?,
-            seeds: seeds_of(alloc, shape, shows, server, first.seeds, second.seeds)?,
-        })?;
-    }
-    Ok(frames)
+    let size = shape.vector_len() as usize;
+    let (first_drawn, second_drawn) = drawn.split_at((shape.servers as usize - 1) * size);
+    let mut last = vec![in alloc; 0u8; 2 * size]?;
+    let (first, second) = last.as_mut_slice().split_at_mut(size);
+    complete(shape, pair.0, first_drawn, first);
+    complete(shape, pair.1, second_drawn, second);
+    Ok(Bytes::from_vec(last))
 }
 
-/// How a server is told its vectors, where these are the seeds of all servers but the last.
-fn seeds_of(
-    alloc: Global,
+/// Writes the vector that completes those that are drawn for a bucket.
+fn complete(shape: &Shape, bucket: u32, drawn: &[u8], last: &mut [u8])
+    requires bucket_in { bucket < shape.now.buckets }
+    requires whole { length drawn.now ≡ drawn_each shape.now }
+    requires room { length last.old ≡ vector_len shape.now }
+    ensures vectors { let size = vector_len shape.now in
+        all_pieces size (drawn.now ++ last.new) ≡ completed size bucket (all_pieces size drawn.now) }
+{
+    share(bucket, drawn, last);
+}
+
+/// How a server is told its vectors, and the seeds that it gets, where these are those of all servers but the last.
+fn told<'a>(
     shape: &Shape,
     shows: bool,
     server: u32,
-    first: &[u8],
-    second: &[u8],
-) -> Result<Seeds, Memory>
+    first: &'a [u8],
+    second: &'a [u8],
+) -> (Way, (&'a [u8], &'a [u8]))
     requires server_low { 1 ≤ server }
     requires server_high { server ≤ shape.now.servers }
     requires first_long { length first.now ≡ (shape.now.servers - 1) * seed_len shape.now }
     requires second_long { length second.now ≡ (shape.now.servers - 1) * seed_len shape.now }
-    ensures { IfOk result (λ seeds. seeds ≡ seeds_told shape.now shows server
+    ensures { seeds_by_way result.0 (result.1.0.now ++ result.1.1.now)
+        ≡ seeds_told shape.now shows server
         (piece (seed_len shape.now) (server - 1) first.now
-        ++ piece (seed_len shape.now) (server - 1) second.now)) }
+        ++ piece (seed_len shape.now) (server - 1) second.now) }
 {
     if server == shape.servers || shape.format != 2 {
-        return Ok(Seeds::Plain);
+        return (Way::Plain, (&[], &[]));
     }
     let start = (server as usize - 1) * 32;
-    let mut seeds = Vec::new(alloc);
-    seeds.extend_from_slice(&first[start..start + 32])?;
-    seeds.extend_from_slice(&second[start..start + 32])?;
-    Ok(told(shows, Bytes::from_vec(seeds)))
+    let seeds = (&first[start..start + 32], &second[start..start + 32]);
+    (way_of(shows), seeds)
 }
 
-/// Seeds with their vectors shown beside them or not.
-fn told(shows: bool, seeds: Bytes) -> Seeds
-    ensures { result ≡ cond shows (Shown seeds) (Seeded seeds) }
+/// The way of seeds with their vectors shown behind them or not.
+fn way_of(shows: bool) -> Way
+    ensures { (s : List ℕ) → seeds_by_way result s ≡ cond shows (Shown s) (Seeded s) }
 {
-    if shows {
-        Seeds::Shown(seeds)
-    } else {
-        Seeds::Seeded(seeds)
-    }
+    if shows { Way::Shown } else { Way::Seeded }
 }
 
-/// The vector of a server among those of all.
-fn vector_of(alloc: Global, shape: &Shape, server: u32, all: &[u8]) -> Result<Bytes, Memory>
+/// The vector of a server.
+fn vector_of<'a>(shape: &Shape, server: u32, shares: &Shares<'a>) -> &'a [u8]
     requires server_low { 1 ≤ server }
     requires server_high { server ≤ shape.now.servers }
-    requires long { length all.now ≡ shape.now.servers * vector_len shape.now }
-    ensures { IfOk result (λ vector.
-        vector ≡ slice_index_or (all_pieces (vector_len shape.now) all.now) (server - 1) []) }
+    requires drawn_long { length shares.now.drawn.now ≡ drawn_each shape.now }
+    requires last_long { length shares.now.last.now ≡ vector_len shape.now }
+    ensures { let all = shares.now.drawn.now ++ shares.now.last.now in
+        result.now ≡ slice_index_or (all_pieces (vector_len shape.now) all) (server - 1) [] }
 {
+    if server == shape.servers {
+        return shares.last;
+    }
     let size = shape.vector_len() as usize;
     let start = (server as usize - 1) * size;
-    Bytes::from_slice(alloc, &all[start..start + size])
+    &shares.drawn[start..start + size]
 }
 
-/// Appends the spellings of frames. Without memory nothing is appended.
-pub(crate) fn append_frames(
-    alloc: Global,
-    frames: &[ReadFrame],
-    out: &mut Vec<Bytes>,
-) -> Result<(), Memory>
-    requires told { AreAllTold frames.now }
-    ensures appended { OnOk result (out.new.items ≡ out.old.items ++ map read_frame frames.now) }
-    ensures kept { OnErr result (out.new.items ≡ out.old.items) }
-{
-    let mut spelled = spelled_frames(alloc, frames)?;
-    out.append(&mut spelled)?;
-    Ok(())
-}
-
-fn spelled_frames(alloc: Global, frames: &[ReadFrame]) -> Result<Vec<Bytes>, Memory>
-    requires told { AreAllTold frames.now }
-    ensures { IfOk result (λ spelled. spelled.items ≡ map read_frame frames.now) }
-{
-    let mut spelled = Vec::new(alloc);
-    for frame in frames {
-        spelled.push(spelled_frame(alloc, frame)?)?;
-    }
-    Ok(spelled)
-}
-
-fn spelled_frame(alloc: Global, frame: &ReadFrame) -> Result<Bytes, Memory>
-    requires told { AreTold frame.now.seeds frame.now.first frame.now.second }
-    ensures { IfOk result (λ spelled. spelled ≡ read_frame frame.now) }
+fn spelled_read(alloc: Global, frame: &LentRead<'_>) -> Result<Bytes, Memory>
+    ensures { IfOk result (λ bytes. bytes ≡ read_frame (lent_read frame.now)) }
 {
     let mut out = Vec::new(alloc);
-    encode_read(frame, &mut out)?;
+    encode_lent_read(frame, &mut out)?;
     Ok(Bytes::from_vec(out))
 }

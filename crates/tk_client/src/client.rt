@@ -16,7 +16,7 @@ ghost use Rattle.tk_client.specs.Replies as replied;
 ghost use Rattle.tk_client.specs.Client.{new_client, target_over, opened, after_replies};
 ghost use Rattle.tk_client.specs.Client.{refusal_in};
 
-use crate::asking::{append_frames, read_frames};
+use crate::asking::draw_query;
 use crate::got::Got;
 use crate::open_read::OpenRead;
 use crate::outbox::Outbox;
@@ -209,8 +209,8 @@ impl Client {
             epoch,
             target,
         };
-        let (frames, pair) = read_frames(alloc, &self.shape, draws, self.number, read)?;
-        append_frames(alloc, frames.as_slice(), out)?;
+        let (query, pair) = draw_query(alloc, &self.shape, draws, self.number, read)?;
+        query.append_spelled(alloc, &self.shape, out)?;
         self.read = Some(read);
         self.pair = pair;
         Ok(())

@@ -5,7 +5,7 @@ ghost use Rattle.tk_client.specs.Asked.{asked};
 ghost use Rattle.tk_client.specs.Reader.{got_in};
 ghost use Rattle.tk_client.specs.Looking.{new_follower, looked_for, after_look};
 
-use crate::asking;
+use crate::asking::draw_query;
 use crate::got::Got;
 use crate::looking::text_in_buckets;
 use crate::open_read::OpenRead;
@@ -81,8 +81,8 @@ impl Follower {
             epoch,
             target: wanted,
         };
-        let (frames, _kept) = asking::read_frames(alloc, &self.shape, draws, client, read)?;
-        Ok(frames)
+        let (query, _kept) = draw_query(alloc, &self.shape, draws, client, read)?;
+        query.frames(alloc, &self.shape)
     }
 
     /// Reads over an epoch, of which these are the buckets and the filter that shows what is worth
