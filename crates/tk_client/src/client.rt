@@ -29,6 +29,7 @@ use crate::take_error::TakeError;
 use std::alloc::Global;
 use std::marker::Model;
 use tk_bloom::Filter;
+use tk_frames::WriteFrame;
 use tk_shape::{Bytes, Memory, Shape};
 use tk_words::Draws;
 
@@ -167,6 +168,29 @@ impl Client {
     {
         let number = self.number;
         self.outbox.write_frame(alloc, draws, number, turn, out)
+    }
+
+    /// What the client writes in a turn, as `write_frame` spells it, for those who need no bytes.
+    pub fn write<D: Draws>(
+        &mut self,
+        alloc: Global,
+        draws: &D,
+        turn: u32,
+    ) -> Result<WriteFrame, Memory>
+        requires one_shape { D.shape draws.now ≡ self.old.shape }
+        requires turn_in { turn < turn_count self.old.shape }
+        requires number_in { ForSome (first_waiting self.old.writing)
+            (λ y. y.number < turn_count self.old.shape) }
+        ensures write { let words = words_of self.old.shape (D.book draws.now) in
+            IfOk result (λ w.
+            w ≡ write_of words turn self.old.number (first_waiting self.old.writing)) }
+        ensures in_range { IfOk result (IsWrite self.old.shape) }
+        ensures written { OnOk result
+            (self.new ≡ record self.old { writing = after_write self.old.writing }) }
+        ensures kept { OnErr result (self.new ≡ self.old) }
+    {
+        let number = self.number;
+        self.outbox.write(alloc, draws, number, turn)
     }
 
     /// Appends the frames of the client's read in a turn over an epoch, one for each server in

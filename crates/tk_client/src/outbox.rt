@@ -149,6 +149,31 @@ impl Outbox {
         Ok(())
     }
 
+    /// The same write, with no frame spelled.
+    pub(crate) fn write<D: Draws>(
+        &mut self,
+        alloc: Global,
+        draws: &D,
+        client: u32,
+        turn: u32,
+    ) -> Result<WriteFrame, Memory>
+        requires one_shape { D.shape draws.now ≡ self.old.shape }
+        requires client_in { client < self.old.shape.clients }
+        requires turn_in { turn < turn_count self.old.shape }
+        requires number_in { ForSome (first_waiting self.old.writing)
+            (λ y. y.number < turn_count self.old.shape) }
+        ensures shape { self.new.shape ≡ self.old.shape }
+        ensures in_range { IfOk result (IsWrite self.old.shape) }
+        ensures write { let words = words_of self.old.shape (D.book draws.now) in
+            IfOk result (λ w. w ≡ write_of words turn client (first_waiting self.old.writing)) }
+        ensures after { OnOk result (self.new.writing ≡ after_write self.old.writing) }
+        ensures kept { OnErr result (self.new ≡ self.old) }
+    {
+        let frame = self.frame(alloc, draws, client, turn)?;
+        self.waiting.pop_front();
+        Ok(frame)
+    }
+
     /// The write of a turn.
     fn frame<D: Draws>(
         &self,

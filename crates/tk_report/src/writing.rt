@@ -1,15 +1,12 @@
 ghost use Rattle.std.specs.Prelude.{◌≡◌, ◌<◌, ◌+◌, [], ℕ, length, IsTrue, IfOk, OnOk};
 ghost use Rattle.std.specs.Prelude.{slice_index_or, slice_set};
-ghost use Rattle.std.specs.Option.{ForSome};
 ghost use Rattle.tk_shape.specs.Lengths.{turn_count};
 ghost use Rattle.tk_schedule.specs.declared.item.Item.TheVariants.{Client as Writes, Publish};
 ghost use Rattle.tk_schedule.specs.Schedule.{is_within, phase_of};
 ghost use Rattle.tk_words.specs.Words.{words_of};
-ghost use Rattle.tk_frames.specs.Ranges.{IsWrite, IsEntry};
+ghost use Rattle.tk_frames.specs.Ranges.{IsEntry};
 ghost use Rattle.tk_client.specs.Client.{ClientState};
 ghost use Rattle.tk_client.specs.Reader.{Reader};
-ghost use Rattle.tk_client.specs.Writing.{first_waiting, after_write};
-ghost use Rattle.tk_client.specs.Writes.{write_of};
 ghost use Rattle.tk_report.specs.Clients.{AreClients, AreTold, IsTold, client_told};
 ghost use Rattle.tk_report.specs.Clients.{client_knowing};
 ghost use Rattle.tk_report.specs.Entries.{write_at, entries_at};
@@ -19,9 +16,9 @@ use crate::plan::Plan;
 use crate::taking::{Takes, place_next};
 use std::alloc::Global;
 use tk_client::Client;
-use tk_frames::{Entry, WriteFrame, decode_write};
+use tk_frames::Entry;
 use tk_schedule::{Item, place};
-use tk_shape::{Memory, Shape};
+use tk_shape::Memory;
 use tk_words::Draws;
 
 /// Places each entry of a turn in the order of the history: what each client writes, and the mark
@@ -82,7 +79,7 @@ fn entry_of<D: Draws>(
     match item {
         Item::Client(client) => {
             let writer = &mut clients[*client as usize];
-            let frame = frame_of(alloc, &plan.script.shape, plan.draws, turn, writer)?;
+            let frame = writer.write(alloc, plan.draws, turn)?;
             Ok(Entry::Write(frame))
         }
         Item::Publish => {
@@ -90,33 +87,4 @@ fn entry_of<D: Draws>(
             Ok(Entry::Mark(phase))
         }
     }
-}
-
-/// What a client writes in a turn, as its frame tells.
-fn frame_of<D: Draws>(
-    alloc: Global,
-    shape: &Shape,
-    draws: &D,
-    turn: u32,
-    client: &mut Client,
-) -> Result<WriteFrame, Memory>
-    requires same { client.old.shape ≡ shape.now }
-    requires one_shape { D.shape draws.now ≡ shape.now }
-    requires turn_in { turn < turn_count shape.now }
-    requires number_in { ForSome (first_waiting client.old.writing)
-        (λ y. y.number < turn_count shape.now) }
-    ensures in_range { IfOk result (IsWrite shape.now) }
-    ensures write { let words = words_of shape.now (D.book draws.now) in
-        let waiting = first_waiting client.old.writing in
-        IfOk result (λ w. w ≡ write_of words turn client.old.number waiting) }
-    ensures client { OnOk result (client.new
-        ≡ record client.old { writing = after_write client.old.writing }) }
-{
-    let mut bytes = Vec::new(alloc);
-    client.write_frame(alloc, draws, turn, &mut bytes)?;
-    // what a client sends is a write frame, so that only memory may be wanting
-    let Ok(frame) = decode_write(alloc, shape, bytes.as_slice()) else {
-        return Err(Memory);
-    };
-    Ok(frame)
 }
