@@ -12,6 +12,7 @@ ghost use Rattle.tk_frames.specs.Faults.{first_fault, write_checks, read_checks,
 ghost use Rattle.tk_frames.specs.Faults.{placed_checks, GivesUnlessMemory, IsRefusal};
 
 use crate::check::{check_mark, check_read, check_record, check_reply, check_write};
+use crate::spare::Spare;
 use crate::value::{mark_of, read_of, record_of, reply_of, write_of};
 use crate::{FrameError, Placed, ReadFrame, ReplyFrame, WriteFrame, kind};
 use std::alloc::Global;
@@ -61,8 +62,23 @@ pub fn decode_read(alloc: Global, shape: &Shape, bytes: &[u8]) -> Result<ReadFra
     ensures kept { OnOk result (first_fault (read_checks shape.now bytes.now) ≡ None) }
     ensures refused { IfErr result (λ e. IsRefusal (first_fault (read_checks shape.now bytes.now)) e) }
 {
+    decode_read_with(alloc, &mut Spare::new(alloc), shape, bytes)
+}
+
+/// The same read, with its parts in spare buffers as long as there are any.
+pub fn decode_read_with(
+    alloc: Global,
+    spare: &mut Spare,
+    shape: &Shape,
+    bytes: &[u8],
+) -> Result<ReadFrame, FrameError>
+    ensures found { IfOk result (λ r. IsRead shape.now r × (bytes.now ≡ read_frame r)) }
+    ensures only { (r : ReadFrame) → IsRead shape.now r → bytes.now ≡ read_frame r → GivesUnlessMemory result r }
+    ensures kept { OnOk result (first_fault (read_checks shape.now bytes.now) ≡ None) }
+    ensures refused { IfErr result (λ e. IsRefusal (first_fault (read_checks shape.now bytes.now)) e) }
+{
     check_read(shape, bytes)?;
-    Ok(read_of(alloc, shape, bytes)?)
+    Ok(read_of(alloc, spare, shape, bytes)?)
 }
 
 /// The reply that the bytes spell, if they spell one in range for the shape.

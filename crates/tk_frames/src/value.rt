@@ -8,6 +8,7 @@ ghost use Rattle.tk_frames.specs.Fields.{placed_mark_in, placed_record_in};
 ghost use Rattle.tk_frames.specs.Faults.{read_len_of};
 
 use crate::numbers::{u32_at, u64_at};
+use crate::spare::{Spare, copied, sized};
 use crate::{Entry, Placed, ReadFrame, ReplyFrame, Seeds, WriteFrame, kind};
 use std::alloc::Global;
 use tk_handle::fill;
@@ -42,18 +43,28 @@ pub fn write_of(alloc: Global, shape: &Shape, fields: &[u8]) -> Result<WriteFram
     })
 }
 
-pub fn read_of(alloc: Global, shape: &Shape, bytes: &[u8]) -> Result<ReadFrame, Memory>
+pub fn read_of(
+    alloc: Global,
+    spare: &mut Spare,
+    shape: &Shape,
+    bytes: &[u8],
+) -> Result<ReadFrame, Memory>
     requires { length bytes.now ≡ read_len_of shape.now (slice_index bytes.now 0) }
     ensures { IfOk result (λ r. r ≡ read_in shape.now bytes.now) }
 {
     match bytes[0] {
-        kind::SEEDED => seeded_read_of(alloc, shape, bytes),
-        kind::SHOWN => shown_read_of(alloc, shape, bytes),
-        _ => plain_read_of(alloc, shape, bytes),
+        kind::SEEDED => seeded_read_of(alloc, spare, shape, bytes),
+        kind::SHOWN => shown_read_of(alloc, spare, shape, bytes),
+        _ => plain_read_of(alloc, spare, shape, bytes),
     }
 }
 
-fn plain_read_of(alloc: Global, shape: &Shape, bytes: &[u8]) -> Result<ReadFrame, Memory>
+fn plain_read_of(
+    alloc: Global,
+    spare: &mut Spare,
+    shape: &Shape,
+    bytes: &[u8],
+) -> Result<ReadFrame, Memory>
     requires { length bytes.now ≡ read_len shape.now }
     ensures { IfOk result (λ r. r ≡ read_with shape.now Plain bytes.now) }
 {
@@ -63,13 +74,18 @@ fn plain_read_of(alloc: Global, shape: &Shape, bytes: &[u8]) -> Result<ReadFrame
         client: u32_at(bytes, 2),
         turn: u32_at(bytes, 6),
         epoch: u32_at(bytes, 10),
-        first: Bytes::from_slice(alloc, first)?,
-        second: Bytes::from_slice(alloc, second)?,
+        first: copied(alloc, &mut spare.vectors, first)?,
+        second: copied(alloc, &mut spare.vectors, second)?,
         seeds: Seeds::Plain,
     })
 }
 
-fn seeded_read_of(alloc: Global, shape: &Shape, bytes: &[u8]) -> Result<ReadFrame, Memory>
+fn seeded_read_of(
+    alloc: Global,
+    spare: &mut Spare,
+    shape: &Shape,
+    bytes: &[u8],
+) -> Result<ReadFrame, Memory>
     requires { length bytes.now ≡ seed_read_len shape.now false }
     ensures { IfOk result (λ r. r ≡ read_with shape.now (Seeded (drop 14 bytes.now)) bytes.now) }
 {
@@ -79,13 +95,18 @@ fn seeded_read_of(alloc: Global, shape: &Shape, bytes: &[u8]) -> Result<ReadFram
         client: u32_at(bytes, 2),
         turn: u32_at(bytes, 6),
         epoch: u32_at(bytes, 10),
-        first: expansion(alloc, shape, first)?,
-        second: expansion(alloc, shape, second)?,
-        seeds: Seeds::Seeded(Bytes::from_slice(alloc, seeds)?),
+        first: expansion(alloc, &mut spare.vectors, shape, first)?,
+        second: expansion(alloc, &mut spare.vectors, shape, second)?,
+        seeds: Seeds::Seeded(copied(alloc, &mut spare.seeds, seeds)?),
     })
 }
 
-fn shown_read_of(alloc: Global, shape: &Shape, bytes: &[u8]) -> Result<ReadFrame, Memory>
+fn shown_read_of(
+    alloc: Global,
+    spare: &mut Spare,
+    shape: &Shape,
+    bytes: &[u8],
+) -> Result<ReadFrame, Memory>
     requires { length bytes.now ≡ seed_read_len shape.now true }
     ensures { IfOk result (λ r. r ≡ read_with shape.now (Shown (take 64 (drop 14 bytes.now))) bytes.now) }
 {
@@ -96,20 +117,25 @@ fn shown_read_of(alloc: Global, shape: &Shape, bytes: &[u8]) -> Result<ReadFrame
         client: u32_at(bytes, 2),
         turn: u32_at(bytes, 6),
         epoch: u32_at(bytes, 10),
-        first: Bytes::from_slice(alloc, first)?,
-        second: Bytes::from_slice(alloc, second)?,
-        seeds: Seeds::Shown(Bytes::from_slice(alloc, seeds)?),
+        first: copied(alloc, &mut spare.vectors, first)?,
+        second: copied(alloc, &mut spare.vectors, second)?,
+        seeds: Seeds::Shown(copied(alloc, &mut spare.seeds, seeds)?),
     })
 }
 
 /// The vector that a seed expands to.
-fn expansion(alloc: Global, shape: &Shape, seed: &[u8]) -> Result<Bytes, Memory>
+fn expansion(
+    alloc: Global,
+    spare: &mut Vec<Vec<u8>>,
+    shape: &Shape,
+    seed: &[u8],
+) -> Result<Bytes, Memory>
     requires { length seed.now ≡ 32 }
     ensures { IfOk result (λ v. v ≡ expanded (vector_len shape.now) seed.now) }
 {
     let mut key = [0; 32];
     key.copy_from_slice(seed);
-    let mut vector = vec![in alloc; 0u8; shape.vector_len() as usize]?;
+    let mut vector = sized(alloc, spare, shape.vector_len() as usize)?;
     fill(&key, 0, 0, vector.as_mut_slice());
     Ok(Bytes::from_vec(vector))
 }

@@ -3,7 +3,7 @@ use Rattle.tk_frames.specs.Ranges.{IsRead}
 use Rattle.tk_frames.specs.Spelling.{read_frame}
 use Rattle.tk_frames.specs.Fields.{read_in}
 use Rattle.tk_frames.proofs.ReadLaws.{read_found, read-again, read_never_refused, read_stands}
-use Rattle.tk_frames.proofs.decode.decode_read.Goals as goal
+use Rattle.tk_frames.proofs.decode.decode_read_with.Goals as goal
 
 pub returns-in_err-check_read-clause-only : goal.returns-in_err-check_read-clause-only
 returns-in_err-check_read-clause-only c = λ r fits e.
