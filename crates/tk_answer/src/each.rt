@@ -23,6 +23,25 @@ pub fn answer_each<B: Blocks>(
     answer_rows(alloc, blocks, rows.as_slice())
 }
 
+/// The answers that `answer_each` gives, in spare buffers for sums where there are any. Those of the vectors are spare
+/// afterwards.
+pub fn answer_each_with<B: Blocks>(
+    alloc: Global,
+    spare_sums: &mut Vec<Vec<u8>>,
+    spare_vectors: &mut Vec<Vec<u8>>,
+    blocks: &B,
+    vectors: Vec<Bytes>,
+) -> Result<Vec<Bytes>, Memory>
+    requires { All (λ v. 8 * length v ≡ length (B.blocks blocks.now)) vectors.items }
+    ensures { IfOk result (λ sums. sums.items
+        ≡ map (chosen_sum (B.width blocks.now) (B.blocks blocks.now)) vectors.items) }
+{
+    let mut rows = rows_of(alloc, vectors)?;
+    let sums = sums_of(alloc, spare_sums, blocks, rows.as_slice())?;
+    spare_vectors.append(&mut rows)?;
+    Ok(sums)
+}
+
 /// The answers to the vectors whose bytes these rows have, as `answer_each` gives them, in one pass over the blocks.
 pub fn answer_rows<B: Blocks>(
     alloc: Global,
@@ -34,10 +53,25 @@ pub fn answer_rows<B: Blocks>(
         ≡ map (chosen_sum (B.width blocks.now) (B.blocks blocks.now))
         (map (λ row. row.items) rows.now)) }
 {
+    sums_of(alloc, &mut Vec::new(alloc), blocks, rows)
+}
+
+/// The answers to the vectors whose bytes these rows have, in spare buffers where there are any.
+fn sums_of<B: Blocks>(
+    alloc: Global,
+    spare: &mut Vec<Vec<u8>>,
+    blocks: &B,
+    rows: &[Vec<u8>],
+) -> Result<Vec<Bytes>, Memory>
+    requires rows { All (λ row. 8 * vec_len row ≡ length (B.blocks blocks.now)) rows.now }
+    ensures { IfOk result (λ sums. sums.items
+        ≡ map (chosen_sum (B.width blocks.now) (B.blocks blocks.now))
+        (map (λ row. row.items) rows.now)) }
+{
     if rows.is_empty() {
         return Ok(Vec::new(alloc));
     }
-    let sums = summed(alloc, blocks, rows)?;
+    let sums = summed(alloc, spare, blocks, rows)?;
     bytes_of(alloc, sums)
 }
 

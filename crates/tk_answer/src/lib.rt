@@ -8,7 +8,7 @@ mod sum;
 mod tiles;
 
 pub use blocks::Blocks;
-pub use each::{answer_each, answer_rows, rows_of};
+pub use each::{answer_each, answer_each_with, answer_rows, rows_of};
 pub use laws::parts_are_runs;
 pub use sum::answer;
 pub use tk_shape::Memory;

@@ -13,9 +13,10 @@ use tk_shape::Memory;
 /// The bytes of a tile.
 const TILE: usize = 65536;
 
-/// For each vector the sum of the blocks that it chooses.
+/// For each vector the sum of the blocks that it chooses, in a spare buffer if there is one.
 pub(crate) fn summed<B: Blocks>(
     alloc: Global,
+    spare: &mut Vec<Vec<u8>>,
     blocks: &B,
     vectors: &[Vec<u8>],
 ) -> Result<Vec<Vec<u8>>, Memory>
@@ -25,7 +26,7 @@ pub(crate) fn summed<B: Blocks>(
         ≡ map (chosen_sum (B.width blocks.now) (B.blocks blocks.now))
         (map (λ v. v.items) vectors.now)) }
 {
-    let mut sums = zeros(alloc, vectors.len(), blocks.width() as usize)?;
+    let mut sums = zeros(alloc, spare, vectors.len(), blocks.width() as usize)?;
     let count = blocks.count();
     let mut gathered = Vec::new(alloc);
     let mut done = 0;
@@ -36,15 +37,32 @@ pub(crate) fn summed<B: Blocks>(
 }
 
 // As many sums of no blocks.
-fn zeros(alloc: Global, count: usize, width: usize) -> Result<Vec<Vec<u8>>, Memory>
+fn zeros(
+    alloc: Global,
+    spare: &mut Vec<Vec<u8>>,
+    count: usize,
+    width: usize,
+) -> Result<Vec<Vec<u8>>, Memory>
     ensures count { IfOk result (λ sums. length sums.items ≡ count) }
     ensures each { IfOk result (λ sums. All (λ sum. sum.items ≡ replicate width 0) sums.items) }
 {
-    let mut sums = Vec::new(alloc);
+    let mut sums = Vec::with_capacity(alloc, count)?;
     for _ in 0..count {
-        sums.push(vec![in alloc; 0u8; width]?)?;
+        sums.push(zeros_in(alloc, spare, width)?)?;
     }
     Ok(sums)
+}
+
+// A sum of no blocks, in a spare buffer if there is one.
+fn zeros_in(alloc: Global, spare: &mut Vec<Vec<u8>>, width: usize) -> Result<Vec<u8>, Memory>
+    ensures { IfOk result (λ sum. sum.items ≡ replicate width 0) }
+{
+    let Some(mut sum) = spare.pop() else {
+        return Ok(vec![in alloc; 0u8; width]?);
+    };
+    sum.resize(width, 0)?;
+    sum.as_mut_slice().fill(0);
+    Ok(sum)
 }
 
 // Adds the blocks of one tile, from a number on, and gives the number after them. They are added where they lie if all

@@ -1,4 +1,4 @@
-use Rattle.std.proofs.Common.{◌≡◌, ◌∙◌, ◌-◌, ◌*◌, ◌/◌, ◌≤◌, length, take, drop, ap, arith}
+use Rattle.std.proofs.Common.{◌≡◌, ◌∙◌, ◌*◌, ◌/◌, ◌≤◌, length, take, drop, ap, arith}
 use Rattle.std.specs.List.{concat}
 use Rattle.tk_answer.proofs.Runs.{cut_of_run, front_joined, gathered_more}
 use Rattle.tk_answer.proofs.tiles.gather.Goals as goal

@@ -1,7 +1,7 @@
 use Rattle.std.proofs.Common.{◌∙◌, ◌<◌, length, sym, arith}
 use Rattle.std.proofs.lemmas.Bool.{eqb-false}
 use Rattle.tk_answer.proofs.ManySums.{eights_of_rows}
-use Rattle.tk_answer.proofs.each.answer_rows.Goals as goal
+use Rattle.tk_answer.proofs.each.sums_of.Goals as goal
 
 pub summed-requires-clause-eights : goal.summed-requires-clause-eights
 summed-requires-clause-eights g c =
