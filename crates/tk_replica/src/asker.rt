@@ -4,7 +4,7 @@ ghost use Rattle.tk_frames.specs.Spelling.{reply_frame};
 ghost use Rattle.tk_replica.specs.Replies.{asker_of, asker_reply, frames_with};
 
 use std::alloc::Global;
-use tk_frames::{ReadFrame, ReplyFrame, encode_reply};
+use tk_frames::{LentReply, ReadFrame, encode_lent_reply};
 use tk_shape::{Bytes, Memory};
 
 /// Who asks by a read, and over which epoch.
@@ -28,18 +28,18 @@ impl Asker {
     }
 
     /// The reply frame with these sums.
-    pub fn reply(&self, alloc: Global, first: Bytes, second: Bytes) -> Result<Bytes, Memory>
-        ensures { IfOk result (λ bytes. bytes ≡ reply_frame (asker_reply self.now first second)) }
+    pub fn reply(&self, alloc: Global, first: &[u8], second: &[u8]) -> Result<Bytes, Memory>
+        ensures { IfOk result
+            (λ bytes. bytes ≡ reply_frame (asker_reply self.now first.now second.now)) }
     {
-        let reply = ReplyFrame {
+        let reply = LentReply {
             client: self.client,
             turn: self.turn,
             epoch: self.epoch,
-            first,
-            second,
+            sums: (first, second),
         };
         let mut out = Vec::new(alloc);
-        encode_reply(&reply, &mut out)?;
+        encode_lent_reply(&reply, &mut out)?;
         Ok(Bytes::from_vec(out))
     }
 }
@@ -49,7 +49,20 @@ pub fn replies(alloc: Global, askers: &[Asker], sums: Vec<Bytes>) -> Result<Vec<
     requires two_for_each { length sums.items ≡ 2 * length askers.now }
     ensures { IfOk result (λ replies. replies.items ≡ frames_with askers.now sums.items) }
 {
-    let mut replies = Vec::new(alloc);
+    replies_with(alloc, &mut Vec::new(alloc), askers, sums)
+}
+
+/// The same reply frames. The buffers of the sums are spare afterwards.
+pub(crate) fn replies_with(
+    alloc: Global,
+    spare: &mut Vec<Vec<u8>>,
+    askers: &[Asker],
+    sums: Vec<Bytes>,
+) -> Result<Vec<Bytes>, Memory>
+    requires two_for_each { length sums.items ≡ 2 * length askers.now }
+    ensures { IfOk result (λ replies. replies.items ≡ frames_with askers.now sums.items) }
+{
+    let mut replies = Vec::with_capacity(alloc, askers.len())?;
     let mut rest = sums.into_iter();
     let mut left = askers;
     'askers: while let Some((asker, behind)) = left.split_first() {
@@ -60,7 +73,9 @@ pub fn replies(alloc: Global, askers: &[Asker], sums: Vec<Bytes>) -> Result<Vec<
         let Some(second) = rest.next() else {
             return Err(Memory);
         };
-        replies.push(asker.reply(alloc, first, second)?)?;
+        replies.push(asker.reply(alloc, first.as_slice(), second.as_slice())?)?;
+        spare.push(first.into_vec())?;
+        spare.push(second.into_vec())?;
         left = behind;
     }
     Ok(replies)

@@ -5,10 +5,11 @@ ghost use Rattle.tk_frames.specs.Ranges.{IsRead, IsReply};
 ghost use Rattle.tk_replica.specs.Replies.{sum_over, reply_over, frame_over};
 ghost use Rattle.tk_replica.specs.Replies.{asker_of, both_vectors};
 
-use crate::{Asker, Epoch, replies};
+use crate::asker::replies_with;
+use crate::{Asker, Epoch};
 use std::alloc::Global;
-use tk_answer::{Blocks, answer, answer_each};
-use tk_frames::ReadFrame;
+use tk_answer::{Blocks, answer, answer_each_with};
+use tk_frames::{ReadFrame, Spare};
 use tk_shape::{Bytes, Memory};
 
 impl Epoch {
@@ -20,14 +21,15 @@ impl Epoch {
     {
         let first = self.sum(alloc, read.first.as_slice())?;
         let second = self.sum(alloc, read.second.as_slice())?;
-        Asker::of(read).reply(alloc, first, second)
+        Asker::of(read).reply(alloc, first.as_slice(), second.as_slice())
     }
 
     /// Puts the reply frames to several reads after the others, in their order. All vectors are
-    /// answered in one pass over the blocks.
+    /// answered in one pass over the blocks. Buffers on the way are spare ones, and are spare again.
     pub(crate) fn reply_all(
         &self,
         alloc: Global,
+        spare: &mut Spare,
         reads: Vec<ReadFrame>,
         out: &mut Vec<Bytes>,
     ) -> Result<(), Memory>
@@ -35,9 +37,9 @@ impl Epoch {
         ensures { OnOk result (out.new.items
             ≡ out.old.items ++ map (frame_over self.now) reads.items) }
     {
-        let (askers, vectors) = taken_apart(alloc, reads)?;
-        let sums = self.sum_each(alloc, vectors)?;
-        let mut frames = replies(alloc, askers.as_slice(), sums)?;
+        let (askers, vectors) = taken_apart(alloc, spare, reads)?;
+        let sums = self.sum_each(alloc, spare, vectors)?;
+        let mut frames = replies_with(alloc, &mut spare.sums, askers.as_slice(), sums)?;
         out.append(&mut frames)?;
         Ok(())
     }
@@ -55,24 +57,40 @@ impl Epoch {
 
     /// For each of these vectors the sum of the blocks that it chooses, all in one pass over the
     /// blocks.
-    fn sum_each(&self, alloc: Global, vectors: Vec<Bytes>) -> Result<Vec<Bytes>, Memory>
+    fn sum_each(
+        &self,
+        alloc: Global,
+        spare: &mut Spare,
+        vectors: Vec<Bytes>,
+    ) -> Result<Vec<Bytes>, Memory>
         requires { All (λ v. 8 * length v ≡ length self.now.blocks.blocks) vectors.items }
         ensures { IfOk result (λ sums. sums.items ≡ map (sum_over self.now) vectors.items) }
     {
-        answer_each(alloc, &self.blocks, vectors)
+        answer_each_with(
+            alloc,
+            &mut spare.sums,
+            &mut spare.vectors,
+            &self.blocks,
+            vectors,
+        )
     }
 }
 
-/// Who asks by these reads, and their vectors, two for each.
-fn taken_apart(alloc: Global, reads: Vec<ReadFrame>) -> Result<(Vec<Asker>, Vec<Bytes>), Memory>
+/// Who asks by these reads, and their vectors, two for each. The buffers of their seeds are spare afterwards.
+fn taken_apart(
+    alloc: Global,
+    spare: &mut Spare,
+    reads: Vec<ReadFrame>,
+) -> Result<(Vec<Asker>, Vec<Bytes>), Memory>
     ensures askers { IfOk result (λ parts. parts.0.items ≡ map asker_of reads.items) }
     ensures vectors { IfOk result (λ parts. parts.1.items ≡ both_vectors reads.items) }
 {
-    let mut askers = Vec::new(alloc);
-    let mut vectors = Vec::new(alloc);
+    let mut askers = Vec::with_capacity(alloc, reads.len())?;
+    let mut vectors = Vec::with_capacity(alloc, reads.len().saturating_mul(2))?;
     for read in reads {
         askers.push(Asker::of(&read))?;
-        push_vectors(read, &mut vectors)?;
+        push_both(read.first, read.second, &mut vectors)?;
+        read.seeds.give_back(&mut spare.seeds)?;
     }
     Ok((askers, vectors))
 }
@@ -82,7 +100,13 @@ pub fn push_vectors(read: ReadFrame, vectors: &mut Vec<Bytes>) -> Result<(), Mem
     ensures { OnOk result (vectors.new.items
         ≡ vectors.old.items ++ read.first ∷ read.second ∷ []) }
 {
-    vectors.push(read.first)?;
-    vectors.push(read.second)?;
+    push_both(read.first, read.second, vectors)
+}
+
+fn push_both(first: Bytes, second: Bytes, vectors: &mut Vec<Bytes>) -> Result<(), Memory>
+    ensures { OnOk result (vectors.new.items ≡ vectors.old.items ++ first ∷ second ∷ []) }
+{
+    vectors.push(first)?;
+    vectors.push(second)?;
     Ok(())
 }

@@ -26,7 +26,7 @@ loop-read-preserved c =
           c.of.ensures
           ∙ sym (map-append asker_of at.yielded (read ∷ []));
       vectors =
-          c.in_ok-push_vectors.ensures
+          c.in_ok-push_both.ensures
           ∙ ap (λ (vs : List (List ℕ)). vs ++ read.first ∷ read.second ∷ []) at.invariant.vectors
           ∙ sym (both-push at.yielded read);
       counted = omega arith;

@@ -15,8 +15,8 @@ sum_each-requires c =
     subst Fits (sym c.in_ok-askers.ensures.vectors)
     (vectors-fit epoch c.args.reads.items c.requires)
 
-pub replies-requires : goal.replies-requires
-replies-requires c =
+pub replies_with-requires : goal.replies_with-requires
+replies_with-requires c =
     record {
       two_for_each =
           ap length (c.in_ok-sums.ensures ∙ ap (map (sum_over c.args.self.now)) c.in_ok-askers.ensures.vectors)

@@ -6,7 +6,7 @@ use Rattle.tk_frames.specs.declared.entry.Placed.{Placed}
 use Rattle.tk_replica.specs.Replica.{StandsFor}
 use Rattle.tk_replica.specs.Replies.{reply_bytes, IsServed}
 use Rattle.tk_replica.proofs.Several.{frame_for}
-use Rattle.tk_replica.proofs.state.ReplicaState.serve_all.Given as goal
+use Rattle.tk_replica.proofs.state.ReplicaState.serve_all_with.Given as goal
 
 abbrev pub invariant-rows : goal.invariant-rows
 invariant-rows l =

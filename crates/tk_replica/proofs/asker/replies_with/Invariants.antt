@@ -2,7 +2,7 @@
 use Rattle.std.proofs.Common.{◌≡◌, ◌++◌, length}
 use Rattle.std.specs.Vec.Iter.{into_iter_items}
 use Rattle.tk_replica.specs.Replies.{frames_with}
-use Rattle.tk_replica.proofs.asker.replies.Given as goal
+use Rattle.tk_replica.proofs.asker.replies_with.Given as goal
 
 abbrev pub invariant-askers : goal.invariant-askers
 invariant-askers l =

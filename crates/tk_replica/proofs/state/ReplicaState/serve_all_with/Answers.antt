@@ -5,7 +5,7 @@ use Rattle.tk_frames.specs.declared.read_frame.ReadFrame.{ReadFrame}
 use Rattle.tk_replica.specs.Replies.{reply_bytes, IsServed}
 use Rattle.tk_replica.proofs.Several.{frame_for, asked-served, asked-replies, served-in_range}
 use Rattle.tk_replica.proofs.Several.{row-served, all-front, all-behind}
-use Rattle.tk_replica.proofs.state.ReplicaState.serve_all.Goals as goal
+use Rattle.tk_replica.proofs.state.ReplicaState.serve_all_with.Goals as goal
 
 pub rows-init : goal.rows-init
 rows-init c =
