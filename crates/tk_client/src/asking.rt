@@ -16,14 +16,15 @@ use crate::pairing::{KeptPair, ReadPair, pair_to_keep};
 use crate::target::Target;
 use std::alloc::Global;
 use tk_bits::share;
-use tk_frames::{LentRead, ReadFrame, Way, encode_lent_read};
+use tk_frames::{LentRead, ReadFrame, Way, encode_lent_read, sized};
 use tk_shape::{Bytes, Memory, Shape};
 use tk_words::Draws;
 
 /// The query of a client's read, and what is kept of its buckets. A dummy read asks for buckets that are drawn, and
-/// otherwise as any other.
+/// otherwise as any other. The query's bytes lie in spare buffers where there are any.
 pub(crate) fn draw_query<D: Draws>(
     alloc: Global,
+    spare: &mut Vec<Vec<u8>>,
     shape: &Shape,
     draws: &D,
     client: u32,
@@ -41,8 +42,8 @@ pub(crate) fn draw_query<D: Draws>(
     let others = shape.servers as usize - 1;
     let each_seed = others * shape.seed_len() as usize;
     let each_vector = others * shape.vector_len() as usize;
-    let mut seeds = vec![in alloc; 0u8; 2 * each_seed]?;
-    let mut drawn = vec![in alloc; 0u8; 2 * each_vector]?;
+    let mut seeds = sized(alloc, spare, 2 * each_seed)?;
+    let mut drawn = sized(alloc, spare, 2 * each_vector)?;
     let fresh = draws.fresh_read(
         client,
         read.turn,
@@ -50,7 +51,7 @@ pub(crate) fn draw_query<D: Draws>(
         drawn.as_mut_slice(),
     );
     let ReadPair { pair, kept } = buckets(shape, draws, read.target, fresh);
-    let last = last_vectors(alloc, shape, pair, drawn.as_slice())?;
+    let last = last_vectors(alloc, spare, shape, pair, drawn.as_slice())?;
     let query = Query {
         asker: Asker {
             client,
@@ -108,19 +109,28 @@ impl Query {
         Ok(frames)
     }
 
-    /// Appends the spelling of what every server is asked. Without memory nothing is appended.
+    /// Appends the spelling of what every server is asked. Without memory nothing is appended. The
+    /// query's buffers are spare afterwards.
     pub(crate) fn append_spelled(
-        &self,
+        self,
         alloc: Global,
+        spare: &mut Vec<Vec<u8>>,
         shape: &Shape,
         out: &mut Vec<Bytes>,
     ) -> Result<(), Memory>
-        requires whole { IsQuery shape.now self.now }
+        requires whole { IsQuery shape.now self }
         ensures appended { OnOk result
-            (out.new.items ≡ out.old.items ++ map read_frame (query_frames shape.now self.now)) }
+            (out.new.items ≡ out.old.items ++ map read_frame (query_frames shape.now self)) }
         ensures kept { OnErr result (out.new.items ≡ out.old.items) }
     {
         let mut spelled = self.spelled(alloc, shape)?;
+        spare.push(self.last.into_vec())?;
+        spare.push(self.drawn.into_vec())?;
+        spare.push(self.seeds.into_vec())?;
+        if out.is_empty() {
+            *out = spelled;
+            return Ok(());
+        }
         out.append(&mut spelled)?;
         Ok(())
     }
@@ -207,6 +217,7 @@ fn buckets<D: Draws>(
 /// The vectors of the last server, which complete those that are drawn for the buckets of a pair.
 fn last_vectors(
     alloc: Global,
+    spare: &mut Vec<Vec<u8>>,
     shape: &Shape,
     pair: (u32, u32),
     drawn: &[u8],
@@ -224,7 +235,7 @@ fn last_vectors(
 {
     let size = shape.vector_len() as usize;
     let (first_drawn, second_drawn) = drawn.split_at((shape.servers as usize - 1) * size);
-    let mut last = vec![in alloc; 0u8; 2 * size]?;
+    let mut last = sized(alloc, spare, 2 * size)?;
     let (first, second) = last.as_mut_slice().split_at_mut(size);
     complete(shape, pair.0, first_drawn, first);
     complete(shape, pair.1, second_drawn, second);

@@ -44,6 +44,8 @@ pub struct Client {
     read: Option<OpenRead>,
     /// The buckets that the open read asks for, if they are kept.
     pair: Option<KeptPair>,
+    /// Buffers that were asked from, for reads to come.
+    spare: Vec<Vec<u8>>,
 }
 
 impl Model for Client {
@@ -87,6 +89,7 @@ impl Client {
             reader: Reader::new(alloc, follows)?,
             read: None,
             pair: None,
+            spare: Vec::new(alloc),
         })
     }
 
@@ -233,8 +236,9 @@ impl Client {
             epoch,
             target,
         };
-        let (query, pair) = draw_query(alloc, &self.shape, draws, self.number, read)?;
-        query.append_spelled(alloc, &self.shape, out)?;
+        let spare = &mut self.spare;
+        let (query, pair) = draw_query(alloc, spare, &self.shape, draws, self.number, read)?;
+        query.append_spelled(alloc, spare, &self.shape, out)?;
         self.read = Some(read);
         self.pair = pair;
         Ok(())

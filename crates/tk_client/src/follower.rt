@@ -81,7 +81,8 @@ impl Follower {
             epoch,
             target: wanted,
         };
-        let (query, _kept) = draw_query(alloc, &self.shape, draws, client, read)?;
+        let spare = &mut Vec::new(alloc);
+        let (query, _kept) = draw_query(alloc, spare, &self.shape, draws, client, read)?;
         query.frames(alloc, &self.shape)
     }
 

@@ -62,7 +62,7 @@ drawn_long : (g : given.Over) (c : goal.After-from_vec-2 g) →
 drawn_long g c =
     let each = ap (λ n. (c.args.shape.now.servers - 1) * n) c.vector_len.ensures in
     let same = ap length (lent_alike g c) in
-    omega (arith, same, each, c.as_slice.ensures.len, c.in_ok-drawn.ensures.len)
+    omega (arith, same, each, c.as_slice.ensures.len, c.in_ok-drawn.ensures)
 
 pub returns-clause-asked : goal.returns-clause-asked
 returns-clause-asked g c =
