@@ -6,7 +6,7 @@ ghost use Rattle.tk_replica.specs.Replica.{StandsFor};
 
 use std::alloc::Global;
 use tk_checkpoint::{checkpoint, restore, written_at_marks};
-use tk_frames::{Entry, Placed, encode_placed};
+use tk_frames::{Entry, Placed, Spare, encode_placed};
 use tk_replica::ReplicaState;
 use tk_report::displaced_with;
 use tk_shape::{Bytes, Memory, Shape};
@@ -18,6 +18,8 @@ pub(crate) struct Server {
     pub state: ReplicaState,
     pub seen: Vec<u8>,
     pub displaced: u32,
+    /// Buffers that answers were made in, for those to come.
+    pub spare: Spare,
 }
 
 impl Server {
@@ -41,6 +43,7 @@ impl Server {
             state: ReplicaState::open(alloc, shape)?,
             seen: Vec::new(alloc),
             displaced: 0,
+            spare: Spare::new(alloc),
         })
     }
 
@@ -76,7 +79,7 @@ impl Server {
             (IsServer shape E (bytes ++ answered shape E reads) self.new) }
     {
         // what clients send are reads of epochs that are kept, so that only memory may be wanting
-        let Ok(replies) = self.state.serve_all(alloc, frames) else {
+        let Ok(replies) = self.state.serve_all_with(alloc, &mut self.spare, frames) else {
             return Err(Memory);
         };
         self.see(frames, replies.as_slice())?;
