@@ -8,8 +8,8 @@ use std::process::Abort;
 use std::sync::Wait;
 use std::test::Fail;
 use tk_frames::{
-    Entry, FrameError, ReadFrame, Seeds, WriteFrame, decode_reply, decode_write, encode_read,
-    encode_write,
+    Entry, FrameError, ReadFrame, Seeds, Spare, WriteFrame, decode_reply, decode_write,
+    encode_read, encode_write,
 };
 use tk_order::{Blank, Naming, Order, OrderSeat};
 use tk_replica::{PinError, Replica, ReplicaState, ServeError};
@@ -287,6 +287,17 @@ fn serves_together<R: Abort>(rt: &R, alloc: Global, state: &ReplicaState) -> Res
         let alone = state.serve(alloc, frame.as_slice()).ok().ok_or("alone")?;
         assert!(rt; reply.as_slice() == alone.as_slice());
     }
+    // so often in the buffers of the time before
+    let mut spare = Spare::new(alloc);
+    for _ in 0..3 {
+        let served = state.serve_all_with(alloc, &mut spare, frames.as_slice());
+        let again = served.ok().ok_or("again")?;
+        assert!(rt; again.len() == 3);
+        for (one, other) in replies.iter().zip(again.iter()) {
+            assert!(rt; one.as_slice() == other.as_slice());
+        }
+    }
+    assert!(rt; (spare.vectors.len(), spare.sums.len()) == (6, 4));
     // the first bad frame decides
     let frames = reads(alloc, &[2, 1, 4]).ok_or("reads")?;
     let bad = state.serve_all(alloc, frames.as_slice()).err();

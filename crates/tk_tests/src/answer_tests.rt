@@ -4,7 +4,7 @@ ghost use Rattle.tk_kernel.specs.Pieces.{all_pieces};
 
 use std::alloc::Global;
 use std::test::Fail;
-use tk_answer::{Blocks, answer, answer_each};
+use tk_answer::{Blocks, answer, answer_each, answer_each_with};
 use tk_shape::{Bytes, Memory};
 
 /// 72 blocks of 127 bytes, of which those of a page are said to lie together: a pass over many
@@ -99,5 +99,37 @@ fn each_vector_answered(rt: HostRuntime) -> Result<(), Fail> {
             assert_eq!(rt; sum.as_slice(), [want; 127].as_slice());
         }
     }
+    Ok(())
+}
+
+#[test]
+fn each_vector_answered_in_spare_buffers(rt: HostRuntime) -> Result<(), Fail> {
+    let alloc = rt.alloc();
+    let blocks = Paged {
+        bytes: counting(),
+        page: 72,
+    };
+    // buffers of other lengths, that hold what isn't zero
+    let mut sums_before = vec![in alloc; vec![in alloc; 0xff; 200]?, vec![in alloc; 0xff; 3]?]?;
+    let mut vectors_before = Vec::new(alloc);
+    for count in [0, 3, 27] {
+        let vectors = in_turn(alloc, count)?;
+        let sums = answer_each_with(
+            alloc,
+            &mut sums_before,
+            &mut vectors_before,
+            &blocks,
+            vectors,
+        )?;
+        assert_eq!(rt; sums.len(), count);
+        for (i, sum) in sums.iter().enumerate() {
+            let (_vector, want) = CHOICES[i % 5];
+            assert_eq!(rt; sum.as_slice(), [want; 127].as_slice());
+        }
+        for sum in sums {
+            sums_before.push(sum.into_vec())?;
+        }
+    }
+    assert_eq!(rt; vectors_before.len(), 30);
     Ok(())
 }

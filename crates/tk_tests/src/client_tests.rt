@@ -6,7 +6,7 @@ ghost use Rattle.tk_client.specs.Writing.{new_writing, first_waiting, after_writ
 use std::alloc::Global;
 use tk_bloom::{Filter, Window};
 use tk_client::{Client, Got, SayError, TakeError};
-use tk_frames::FrameError;
+use tk_frames::{FrameError, encode_write};
 use tk_seal::allowed;
 use tk_shape::{Bytes, Memory, Shape};
 use tk_words::{DrawnDraws, Draws, Tape};
@@ -263,6 +263,29 @@ fn say_and_write(alloc: Global, client: &mut Client, draws: &DrawnDraws) -> Resu
     write(alloc, client, draws, OF_HI)
 }
 
+/// Writes for client 1 in turn 1 without a frame, and compares what its frame would be.
+fn write_unspelled(
+    alloc: Global,
+    client: &mut Client,
+    draws: &DrawnDraws,
+    frame: &[u8],
+) -> Result<(), Memory>
+    requires one_shape { ⟦<DrawnDraws as Draws>⟧.shape draws.now ≡ client.old.shape }
+    requires turn_in { 1 < turn_count client.old.shape }
+    requires number_in { ForSome (first_waiting client.old.writing)
+        (λ y. y.number < turn_count client.old.shape) }
+    ensures { OnOk result
+        (client.new ≡ record client.old { writing = after_write client.old.writing }) }
+{
+    let write = client.write(alloc, draws, 1)?;
+    let mut out = Vec::new(alloc);
+    encode_write(&write, &mut out)?;
+    if out.as_slice() != frame {
+        return Err(Memory);
+    }
+    Ok(())
+}
+
 /// The frames of the writes of client 1 in turn 1, of the text `hi` and of what is drawn.
 const OF_HI: &[u8] =
     b"\x01\x01\0\0\0\x01\0\0\0\x01\0\0\0\x07\0\0\0\x07\0\0\0\x07\x07\x05\x6f\x6e\x07\x07\x07\x07\x07\x07\x07\x07\x07\x07\x07\x07\x07\x07\x07\x07\x07\x07\x07\x07";
@@ -279,6 +302,18 @@ fn a_text_is_written_once_and_then_what_is_drawn(rt: HostRuntime) -> Result<(), 
     assert!(rt; client.number() == 1 && client.shape().logs == 1);
     say_and_write(alloc, &mut client, &draws)?;
     write(alloc, &mut client, &draws, DRAWN)
+}
+
+#[test]
+fn a_text_is_written_without_a_frame(rt: HostRuntime) -> Result<(), Memory> {
+    let alloc = rt.alloc();
+    let shape = small()?;
+    let draws = book(alloc, &shape)?;
+    let mut silent = Client::open(alloc, &shape, 1, &[0], &[])?;
+    write_unspelled(alloc, &mut silent, &draws, DRAWN)?;
+    let mut client = Client::open(alloc, &shape, 1, &[0], &[])?;
+    assert!(rt; client.say(alloc, 0, b"hi").is_ok());
+    write_unspelled(alloc, &mut client, &draws, OF_HI)
 }
 
 #[test]

@@ -25,6 +25,8 @@ mod kernel_tests;
 #[cfg(test)]
 mod law_tests;
 #[cfg(test)]
+mod lent_tests;
+#[cfg(test)]
 mod look_tests;
 #[cfg(test)]
 mod place_tests;
