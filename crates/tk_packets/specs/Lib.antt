@@ -1,0 +1,4 @@
+pub mod Packets
+pub mod Marks
+pub mod Frames
+pub mod Laws
