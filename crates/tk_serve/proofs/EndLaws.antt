@@ -1,0 +1,68 @@
+-- How a run ends, from how its next packet does.
+use Rattle.std.proofs.Common.{◌≡◌, ℕ, ◌⊎◌, sym, ◌∙◌, subst, inl, inr}
+use Rattle.std.proofs.Common.{List, [], ◌∷◌, ◌++◌, OnOk, OnErr, IfOk, Bool, false, IsTrue, ◌↔◌}
+use Rattle.std.specs.Prelude.{Result, Ok, Err}
+use Rattle.tk_shape.specs.declared.shape.Shape.{Shape}
+use Rattle.tk_packets.specs.Packets.{PacketView}
+use Rattle.tk_serve.specs.declared.server.Server.{Server}
+use Rattle.tk_serve.specs.Seats.{empty_seats}
+use Rattle.tk_serve.specs.Steps.{seats_after}
+use Rattle.tk_serve.specs.Courses.{Told, IsGoing, IsCourse, IsStill, RanFront}
+use Rattle.tk_serve.specs.Nexts.{TakesNextFront}
+use Rattle.tk_serve.specs.Stands.{Serves}
+use Rattle.tk_serve.proofs.CourseLaws.{IsRunning, course-whole, course-front}
+
+-- a fact of what a call answers follows from another
+pub on_ok-map : {X Y : Type 0} {P Q : Type 0} (r : Result X Y) → (P → Q) → OnOk r P → OnOk r Q
+on_ok-map (Ok x) f h = f h
+on_ok-map (Err e) f h = tt
+
+pub on_err-map : {X Y : Type 0} {P Q : Type 0} (r : Result X Y) → (P → Q) → OnErr r P → OnErr r Q
+on_err-map (Ok x) f h = tt
+on_err-map (Err e) f h = f h
+
+-- nothing was put by what came last
+still : (shape : Shape) (frames : List PacketView) (left middle held now new : Told) → new ≡ now →
+    IsCourse shape frames left middle held now → IsCourse shape frames left middle held new
+still shape frames left middle held now new same course =
+    subst (IsCourse shape frames left middle held) (sym same) course
+
+module _ (shape : Shape) (count : ℕ) (s : Server) (left middle held now : Told)
+    (runs : IsRunning shape count s left middle held now) where
+  pub ran-front : (rest new : Told) → IsGoing shape runs.frames →
+      IsStill now new ⊎ TakesNextFront shape (seats_after shape (empty_seats shape) runs.frames) middle rest now new →
+      RanFront shape left held new
+  ran-front rest new going (inl same) =
+      record {
+        frames = runs.frames;
+        middle = middle;
+        course =
+            course-whole shape runs.frames left middle held new
+            (still shape runs.frames left middle held now new same runs.course);
+      }
+  ran-front rest new going (inr next) =
+      record {
+        frames = runs.frames ++ next.came ∷ [];
+        middle = rest;
+        course = course-front shape runs.frames left middle rest held now new runs.course going next;
+      }
+
+-- what holds of a call's value holds of more
+pub if_ok-map : {X Y : Type 0} {P Q : X → Type 0} (r : Result X Y) → ((x : X) → P x → Q x) → IfOk r P → IfOk r Q
+if_ok-map (Ok x) f h = f x h
+if_ok-map (Err e) f h = tt
+
+-- ---- a server in the course of a run, by what its calls answer
+
+pub serves-now : (shape : Shape) (count : ℕ) (s : Server) (left middle held now : Told) →
+    IsRunning shape count s left middle held now → Serves s
+serves-now shape count s left middle held now runs =
+    record {
+      shape_of = shape;
+      seats_of = seats_after shape (empty_seats shape) runs.frames;
+      stands = runs.stands;
+    }
+
+-- what is tested holds just where the test passes
+pub tested-not : {P : Type 0} (b : Bool) → (IsTrue b ↔ P) → b ≡ false → P → ⊥
+tested-not b means fails holds = absurd (cc (sym (means.1 holds) ∙ fails))

@@ -1,0 +1,66 @@
+-- One more packet is taken where the run isn't over.
+use Rattle.std.proofs.Common.{◌⊎◌, ◌∙◌, refl, sym, subst, arith}
+use Rattle.tk_serve.specs.Seats.{empty_seats}
+use Rattle.tk_serve.specs.Steps.{seats_after}
+use Rattle.tk_serve.specs.Stands.{Stands}
+use Rattle.tk_serve.specs.Courses.{IsGoing, IsStill}
+use Rattle.tk_serve.specs.Nexts.{TakesNext, TakesNextFront}
+use Rattle.tk_serve.proofs.CourseLaws.{running-first, running-next}
+use Rattle.tk_serve.proofs.EndLaws.{tested-not, ran-front}
+use Rattle.tk_serve.proofs.serving.serve_clients.Goals as goal
+
+pub packets-init : goal.packets-init
+packets-init g c = record {
+  same = refl;
+  runs =
+      running-first c.args.server.now.shape c.args.server.now (g.S.Source.left c.args.source.now)
+      (g.K.Sink.held c.args.sink.now) c.requires;
+  reads = omega arith;
+  puts = omega arith;
+}
+
+pub returns-in-Err-clause-front : goal.returns-in-Err-clause-front
+returns-in-Err-clause-front g c =
+    let inv = c.packets.invariant in
+    let shape = c.args.server.now.shape in
+    let s = c.packets.server in
+    let seats = seats_after shape (empty_seats shape) inv.runs.frames in
+    let going : IsGoing shape inv.runs.frames =
+    tested-not c.is_over.result (c.is_over.ensures shape seats inv.runs.stands) c.if-is_over.false
+    in
+    let own = subst (λ sh. Stands sh seats s) (sym inv.same) inv.runs.stands in
+    let middle = g.S.Source.left c.packets.source in
+    let rest = g.S.Source.left c.serve_next.new.source in
+    let now = g.K.Sink.held c.packets.sink in
+    let new = g.K.Sink.held c.serve_next.new.sink in
+    let front = subst (λ sh. IsStill now new ⊎ TakesNextFront sh seats middle rest now new) inv.same
+    (c.in-Err.ensures.front seats own)
+    in
+    ran-front shape c.packets.counter s (g.S.Source.left c.args.source.now) middle (g.K.Sink.held c.args.sink.now) now
+    inv.runs rest new going front
+
+pub packets-preserved : goal.packets-preserved
+packets-preserved g c =
+    let inv = c.packets.invariant in
+    let shape = c.args.server.now.shape in
+    let s = c.packets.server in
+    let seats = seats_after shape (empty_seats shape) inv.runs.frames in
+    let going : IsGoing shape inv.runs.frames =
+    tested-not c.is_over.result (c.is_over.ensures shape seats inv.runs.stands) c.if-is_over.false
+    in
+    let own = subst (λ sh. Stands sh seats s) (sym inv.same) inv.runs.stands in
+    let middle = g.S.Source.left c.packets.source in
+    let rest = g.S.Source.left c.serve_next.new.source in
+    let now = g.K.Sink.held c.packets.sink in
+    let new = g.K.Sink.held c.serve_next.new.sink in
+    let next = subst (λ sh. TakesNext sh seats c.serve_next.new.server middle rest now new) inv.same
+    (c.serve_next.ensures.next seats own (cc))
+    in
+    record {
+      same = c.serve_next.ensures.shape ∙ inv.same;
+      runs =
+          running-next shape c.packets.counter s c.serve_next.new.server (g.S.Source.left c.args.source.now) middle rest
+          (g.K.Sink.held c.args.sink.now) now new inv.runs going next;
+      reads = omega (arith, inv.reads, c.serve_next.ensures.source_counts);
+      puts = omega (arith, inv.puts, c.serve_next.ensures.sink_counts);
+    }

@@ -1,0 +1,48 @@
+-- A packet of a client is taken, and what goes out for it, or a front of it, is put.
+use Rattle.std.proofs.Common.{◌-◌, ◌∙◌, ◌++◌, ap, sym, rules, inr}
+use Rattle.tk_serve.specs.Steps.{step}
+use Rattle.tk_serve.proofs.NextLaws.{IsTakenOf, takes-next, takes-front, no_err-holds}
+use Rattle.tk_serve.proofs.serving.serve_next.Goals as goal
+
+pub returns-in-Ok-clause-next : goal.returns-in-Ok-clause-next
+returns-in-Ok-clause-next g c = λ seats stands _.
+    let shape = c.args.server.now.shape in
+    let p = c.in-Ok-Some.packet in
+    let client = c.peer-peer.result - 1 in
+    let frame = c.bytes.result.now in
+    let none = sym c.is_err.ensures.value ∙ c.if-is_err.false in
+    let came : IsTakenOf shape p client frame (g.S.Source.left c.args.source.now)
+    (g.S.Source.left c.next_packet.new.source) = record {
+      low = search rules;
+      high = search rules;
+      taken = search rules;
+      client_is = ap (λ n. n - 1) c.peer-peer.ensures;
+      frame_is = c.bytes.ensures;
+    }
+    in
+    let told = no_err-holds c.take.result none (c.take.ensures.told shape seats stands) in
+    takes-next shape seats p client frame _ _ _ _ came c.as_slice.result.now
+    (c.as_slice.ensures.value ∙ told ∙ ap (λ ps. ps ++ (step shape seats client frame).packets) c.new-out.ensures.items)
+    c.take.new.self (no_err-holds c.take.result none (c.take.ensures.stands shape seats stands))
+    c.in-Ok.ensures.ok
+
+pub returns-clause-front : goal.returns-clause-front
+returns-clause-front g c = λ seats stands.
+    let shape = c.args.server.now.shape in
+    let p = c.in-Ok-Some.packet in
+    let client = c.peer-peer.result - 1 in
+    let frame = c.bytes.result.now in
+    let none = sym c.is_err.ensures.value ∙ c.if-is_err.false in
+    let came : IsTakenOf shape p client frame (g.S.Source.left c.args.source.now)
+    (g.S.Source.left c.next_packet.new.source) = record {
+      low = search rules;
+      high = search rules;
+      taken = search rules;
+      client_is = ap (λ n. n - 1) c.peer-peer.ensures;
+      frame_is = c.bytes.ensures;
+    }
+    in
+    let told = no_err-holds c.take.result none (c.take.ensures.told shape seats stands) in
+    inr (takes-front shape seats p client frame _ _ _ _ came c.as_slice.result.now
+    (c.as_slice.ensures.value ∙ told ∙ ap (λ ps. ps ++ (step shape seats client frame).packets) c.new-out.ensures.items)
+    c.in-Err-put_packets.ensures.err)

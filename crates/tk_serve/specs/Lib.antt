@@ -1,0 +1,12 @@
+pub mod Seats
+pub mod Refusals
+pub mod Checked
+pub mod Told
+pub mod Steps
+pub mod Answering
+pub mod Setup
+pub mod Desks
+pub mod Stands
+pub mod Courses
+pub mod Faults
+pub mod Nexts
