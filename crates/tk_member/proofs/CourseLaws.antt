@@ -1,0 +1,297 @@
+-- Packets are taken one after the other, and what is sent for them comes one behind the other.
+use Rattle.std.proofs.Common.{◌≡◌, refl, ap, sym, ◌∙◌, subst, arith, ℕ, suc, ◌+◌, ◌^◌, ◌≤◌}
+use Rattle.std.proofs.Common.{true, false, cond, List, [], ◌∷◌, ◌++◌}
+use Rattle.std.proofs.Common.{length, take, append_assoc, append-nil, length-append, inl, inr}
+use Rattle.std.specs.Prelude.{Option, Some, None, option_map, Result, Ok, Err}
+use Rattle.std.specs.Simd.Lanes.{fold_l}
+use Rattle.std.proofs.lemmas.Grind.{flat_map-append}
+use Rattle.tk_io.specs.Content.{before_taking, emptied, gained}
+use Rattle.tk_words.specs.Words.{WordBook}
+use Rattle.tk_packets.specs.Packets.{PacketView, packet_bytes, packets_bytes}
+use Rattle.tk_member.specs.declared.fault.Fault.{Fault}
+use Rattle.tk_member.specs.declared.fault.Fault.TheVariants.{Memory, Read, Write, Cut, Long, Setup}
+use Rattle.tk_member.specs.declared.fault.Fault.TheVariants.{Peer, Differ, Refused, Older}
+use Rattle.tk_member.specs.Members.{MemberState, is_over}
+use Rattle.tk_member.specs.Acting.{Turned, unmoved, behind}
+use Rattle.tk_member.specs.Steps.{step}
+use Rattle.tk_member.specs.Courses.{Told, behind_if, after_packet, after_packets, Takes, IsCourse}
+use Rattle.tk_member.specs.Courses.{EndsBetween, EndsAt, EndsWriting, EndsFor, TookOne}
+use Rattle.tk_member.specs.Courses.{HasTaken, EndsDone, TookNone}
+use Rattle.tk_member.proofs.ActingLaws.{behind-behind, behind-none}
+
+-- ---- what is left and held
+
+pub taking-none : (left : Told) → left ≡ before_taking [] left
+taking-none None = refl
+taking-none (Some rest) = refl
+
+pub taking-both : (a b : List ℕ) (left : Told) →
+    before_taking a (before_taking b left) ≡ before_taking (a ++ b) left
+taking-both a b None = refl
+taking-both a b (Some rest) = ap Some (sym (append_assoc a b rest))
+
+pub gaining-none : (held : Told) → held ≡ gained held []
+gaining-none None = refl
+gaining-none (Some held) = ap Some (sym (append-nil held))
+
+pub gaining-both : (held : Told) (a b : List ℕ) → gained (gained held a) b ≡ gained held (a ++ b)
+gaining-both None a b = refl
+gaining-both (Some held) a b = ap Some (append_assoc held a b)
+
+front-behind : (a b : List ℕ) (k : ℕ) → a ++ take k b ≡ take (length a + k) (a ++ b)
+front-behind [] b k = let here : k ≡ 0 + k = omega arith in ap (λ n. take n b) here
+front-behind (x ∷ a) b k =
+    let here : suc (length a + k) ≡ suc (length a) + k = omega arith in
+    ap (λ bs. x ∷ bs) (front-behind a b k) ∙ ap (λ n. take n (x ∷ (a ++ b))) here
+
+-- ---- packets
+
+fold-append : (b : WordBook) (o : Option Turned) (ps qs : List PacketView) →
+    fold_l (after_packet b) o (ps ++ qs)
+    ≡ fold_l (after_packet b) (fold_l (after_packet b) o ps) qs
+fold-append b o [] qs = refl
+fold-append b o (p ∷ ps) qs = fold-append b (after_packet b o p) ps qs
+
+step-behind : (front : List PacketView) (u : Turned) (r : Result Turned Fault) →
+    behind_if (behind front u) r ≡ option_map (behind front) (behind_if u r)
+step-behind front u (Ok t) = ap Some (sym (behind-behind front u.packets t))
+step-behind front u (Err e) = refl
+
+one-behind : (b : WordBook) (front : List PacketView) (o : Option Turned) (p : PacketView) →
+    after_packet b (option_map (behind front) o) p ≡ option_map (behind front) (after_packet b o p)
+one-behind b front None p = refl
+one-behind b front (Some u) p =
+    elim (is_over u.member) as (λ over.
+    cond over None (behind_if (behind front u) (step b u.member p))
+    ≡ option_map (behind front) (cond over None (behind_if u (step b u.member p)))) [
+      | true ↦ refl
+      | false ↦ step-behind front u (step b u.member p)
+    ]
+
+fold-behind : (b : WordBook) (front : List PacketView) (o : Option Turned) (ps : List PacketView) →
+    fold_l (after_packet b) (option_map (behind front) o) ps
+    ≡ option_map (behind front) (fold_l (after_packet b) o ps)
+fold-behind b front o [] = refl
+fold-behind b front o (p ∷ ps) =
+    ap (λ x. fold_l (after_packet b) x ps) (one-behind b front o p)
+    ∙ fold-behind b front (after_packet b o p) ps
+
+-- packets behind packets
+both-stand : (b : WordBook) (m : MemberState) (t u : Turned) (ps qs : List PacketView) →
+    after_packets b m ps ≡ Some t → after_packets b t.member qs ≡ Some u →
+    after_packets b m (ps ++ qs) ≡ Some (behind t.packets u)
+unfolding after_packets
+both-stand b m t u ps qs first second =
+    fold-append b (Some (unmoved m)) ps qs
+    ∙ ap (λ o. fold_l (after_packet b) o qs)
+    (first ∙ ap Some (sym (behind-none t.packets t.member)))
+    ∙ fold-behind b t.packets (Some (unmoved t.member)) qs
+    ∙ ap (option_map (behind t.packets)) second
+
+pub takes-both : (b : WordBook) (m : MemberState) (t u : Turned) (left middle rest : Told) →
+    Takes b m t left middle → Takes b t.member u middle rest →
+    Takes b m (behind t.packets u) left rest
+takes-both b m t u left middle rest first second =
+    record {
+      packets = first.packets ++ second.packets;
+      stands = both-stand b m t u first.packets second.packets first.stands second.stands;
+      taken =
+          first.taken
+          ∙ ap (before_taking (packets_bytes first.packets)) second.taken
+          ∙ taking-both (packets_bytes first.packets) (packets_bytes second.packets) rest
+          ∙ ap (λ bytes. before_taking bytes rest)
+          (sym (flat_map-append packet_bytes first.packets second.packets));
+    }
+
+pub course-both : (b : WordBook) (m : MemberState) (t u : Turned) (left middle rest held h new : Told) →
+    IsCourse b m t left middle held h → IsCourse b t.member u middle rest h new →
+    IsCourse b m (behind t.packets u) left rest held new
+course-both b m t u left middle rest held h new first second =
+    record {
+      takes = takes-both b m t u left middle rest first.takes second.takes;
+      puts =
+          second.puts
+          ∙ ap (λ o. gained o (packets_bytes u.packets)) first.puts
+          ∙ gaining-both held (packets_bytes t.packets) (packets_bytes u.packets)
+          ∙ ap (gained held) (sym (flat_map-append packet_bytes t.packets u.packets));
+    }
+
+-- no packet
+pub takes-none : (b : WordBook) (m : MemberState) (left : Told) → Takes b m (unmoved m) left left
+unfolding after_packets
+takes-none b m left = record { packets = []; stands = refl; taken = taking-none left }
+
+pub course-none : (b : WordBook) (m : MemberState) (left held : Told) →
+    IsCourse b m (unmoved m) left left held held
+course-none b m left held = record { takes = takes-none b m left; puts = gaining-none held }
+
+-- one packet
+pub takes-one : (b : WordBook) (m n : MemberState) (p : PacketView) (sent : List PacketView)
+    (left rest : Told) → is_over m ≡ false → step b m p ≡ Ok (record { member = n; packets = sent }) →
+    left ≡ before_taking (packet_bytes p) rest →
+    Takes b m (record { member = n; packets = sent }) left rest
+unfolding after_packets
+takes-one b m n p sent left rest goes steps comes =
+    record {
+      packets = p ∷ [];
+      stands =
+          ap (λ over. cond over None (behind_if (unmoved m) (step b m p))) goes
+          ∙ ap (behind_if (unmoved m)) steps;
+      taken = comes ∙ ap (λ bytes. before_taking bytes rest) (sym (append-nil (packet_bytes p)));
+    }
+
+pub course-one : (b : WordBook) (m n : MemberState) (left rest held new : Told) →
+    is_over m ≡ false → (one : TookOne b m n left rest held new) →
+    IsCourse b m (record { member = n; packets = one.sent }) left rest held new
+course-one b m n left rest held new goes one =
+    record {
+      takes = takes-one b m n one.packet one.sent left rest goes one.steps one.comes;
+      puts = one.puts;
+    }
+
+-- ---- ends
+
+between-behind : (Fails : Told → Told → Type 0) (b : WordBook) (m : MemberState) (t : Turned)
+    (left middle rest held h new : Told) → IsCourse b m t left middle held h →
+    EndsBetween Fails b t.member middle rest h new → EndsBetween Fails b m left rest held new
+between-behind Fails b m t left middle rest held h new course ends =
+    record {
+      last = behind t.packets ends.last;
+      middle = ends.middle;
+      course =
+          course-both b m t ends.last left middle ends.middle held h new course ends.course;
+      fails = ends.fails;
+    }
+
+at-behind : (fault : Fault) (b : WordBook) (m : MemberState) (t : Turned)
+    (left middle rest held h new : Told) → IsCourse b m t left middle held h →
+    EndsAt fault b t.member middle rest h new → EndsAt fault b m left rest held new
+at-behind fault b m t left middle rest held h new course ends =
+    record {
+      last = behind t.packets ends.last;
+      middle = ends.middle;
+      course =
+          course-both b m t ends.last left middle ends.middle held h new course ends.course;
+      goes_on = ends.goes_on;
+      packet = ends.packet;
+      comes = ends.comes;
+      ends = ends.ends;
+    }
+
+writing-behind : (b : WordBook) (m : MemberState) (t : Turned)
+    (left middle rest held h new : Told) → IsCourse b m t left middle held h →
+    EndsWriting b t.member middle rest h new → EndsWriting b m left rest held new
+writing-behind b m t left middle rest held h new course ends =
+    let one = packets_bytes t.packets in
+    let other = packets_bytes ends.last.packets in
+    record {
+      last = behind t.packets ends.last;
+      middle = ends.middle;
+      takes = takes-both b m t ends.last left middle ends.middle course.takes ends.takes;
+      count = length one + ends.count;
+      puts =
+          ends.puts
+          ∙ ap (λ o. gained o (take ends.count other)) course.puts
+          ∙ gaining-both held one (take ends.count other)
+          ∙ ap (gained held)
+          (front-behind one other ends.count
+          ∙ ap (take (length one + ends.count))
+          (sym (flat_map-append packet_bytes t.packets ends.last.packets)));
+    }
+
+-- a member that ends later ends
+pub ends-behind : (fault : Fault) (b : WordBook) (m : MemberState) (t : Turned)
+    (left middle rest held h new : Told) → IsCourse b m t left middle held h →
+    EndsFor fault b t.member middle rest h new → EndsFor fault b m left rest held new
+ends-behind Memory b m t left middle rest held h new course ends =
+    writing-behind b m t left middle rest held h new course ends
+ends-behind Read b m t left middle rest held h new course ends =
+    between-behind _ b m t left middle rest held h new course ends
+ends-behind Write b m t left middle rest held h new course ends =
+    writing-behind b m t left middle rest held h new course ends
+ends-behind Cut b m t left middle rest held h new course ends =
+    between-behind _ b m t left middle rest held h new course ends
+ends-behind Long b m t left middle rest held h new course ends =
+    between-behind _ b m t left middle rest held h new course ends
+ends-behind Setup b m t left middle rest held h new course ends = absurd ends
+ends-behind Peer b m t left middle rest held h new course ends =
+    at-behind Peer b m t left middle rest held h new course ends
+ends-behind Differ b m t left middle rest held h new course ends =
+    at-behind Differ b m t left middle rest held h new course ends
+ends-behind Refused b m t left middle rest held h new course ends =
+    at-behind Refused b m t left middle rest held h new course ends
+ends-behind Older b m t left middle rest held h new course ends =
+    at-behind Older b m t left middle rest held h new course ends
+
+-- ---- so many packets
+
+pub taken-none : (b : WordBook) (m : MemberState) (left held : Told) →
+    HasTaken 0 b m m left left held held
+unfolding takes-none course-none
+taken-none b m left held =
+    record { last = unmoved m; course = course-none b m left held; counted = refl; is = refl }
+
+-- one more
+pub taken-next : (count : ℕ) (b : WordBook) (m k n : MemberState)
+    (left middle rest held h new : Told) → HasTaken count b m k left middle held h →
+    is_over k ≡ false → TookOne b k n middle rest h new →
+    HasTaken (count + 1) b m n left rest held new
+unfolding takes-both course-both takes-one course-one
+taken-next count b m k n left middle rest held h new taken goes one =
+    let t = taken.last in
+    let next : TookOne b t.member n middle rest h new =
+    subst (λ (x : MemberState). TookOne b x n middle rest h new) taken.is one
+    in
+    let on : is_over t.member ≡ false = ap is_over (sym taken.is) ∙ goes in
+    let u : Turned = record { member = n; packets = next.sent } in
+    record {
+      last = behind t.packets u;
+      course =
+          course-both b m t u left middle rest held h new taken.course
+          (course-one b t.member n middle rest h new on next);
+      counted =
+          length-append taken.course.takes.packets (next.packet ∷ [])
+          ∙ ap (λ (i : ℕ). i + 1) taken.counted;
+      is = refl;
+    }
+
+-- its run is over
+pub ends-over : (count : ℕ) (b : WordBook) (m k : MemberState) (left rest held new : Told) →
+    HasTaken count b m k left rest held new → is_over k ≡ true → EndsDone b m left rest held new
+ends-over count b m k left rest held new taken over =
+    record {
+      last = taken.last;
+      course = taken.course;
+      done = inl (ap is_over (sym taken.is) ∙ over);
+    }
+
+-- as many were taken as can be counted
+pub ends-full : (count : ℕ) (b : WordBook) (m k : MemberState) (left rest held new : Told) →
+    HasTaken count b m k left rest held new → 2 ^ 64 ≤ count + 1 → EndsDone b m left rest held new
+ends-full count b m k left rest held new taken full =
+    record {
+      last = taken.last;
+      course = taken.course;
+      done = inr (inr (subst (λ (n : ℕ). 2 ^ 64 ≤ n + 1) (sym taken.counted) full));
+    }
+
+-- nothing is left
+pub ends-empty : (count : ℕ) (b : WordBook) (m k n : MemberState)
+    (left middle rest held h new : Told) → HasTaken count b m k left middle held h →
+    TookNone k n middle rest h new → EndsDone b m left rest held new
+ends-empty count b m k n left middle rest held h new taken none =
+    let same : middle ≡ rest = none.none ∙ sym (taking-none rest) in
+    let there = subst (λ (x : Told). IsCourse b m taken.last left x held h) same taken.course in
+    record {
+      last = taken.last;
+      course = subst (λ (x : Told). IsCourse b m taken.last left rest held x) (sym none.kept) there;
+      done = inr (inl (none.end ∙ ap emptied same));
+    }
+
+-- a fault comes later
+pub ends-later : (fault : Fault) (count : ℕ) (b : WordBook) (m k : MemberState)
+    (left middle rest held h new : Told) → HasTaken count b m k left middle held h →
+    EndsFor fault b k middle rest h new → EndsFor fault b m left rest held new
+ends-later fault count b m k left middle rest held h new taken ends =
+    ends-behind fault b m taken.last left middle rest held h new taken.course
+    (subst (λ (x : MemberState). EndsFor fault b x middle rest h new) taken.is ends)

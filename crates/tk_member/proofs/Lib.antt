@@ -1,0 +1,12 @@
+pub mod Sequences
+pub mod Marked
+pub mod Tellings
+pub mod PacingLaws
+pub mod ActingLaws
+pub mod StepLaws
+pub mod CourseLaws
+pub mod WholeBytes
+pub mod KeepingLaws
+pub mod EndLaws
+pub mod SetUpLaws
+pub mod UnsetLaws

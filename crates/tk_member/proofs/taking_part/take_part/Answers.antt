@@ -1,0 +1,46 @@
+-- The first packet sets no member up, or one that takes part.
+use Rattle.std.proofs.Common.{◌≡◌, ◌∙◌, ◌≤◌, ap, refl, subst, rules, inl, inr, length, Err}
+use Rattle.std.specs.Prelude.{Option, IfSome}
+use Rattle.tk_io.specs.Content.{before_taking}
+use Rattle.tk_words.specs.Words.{keyed}
+use Rattle.tk_packets.specs.Packets.{PacketView, packet_bytes, spelling}
+use Rattle.tk_member.specs.Courses.{most_first}
+use Rattle.tk_member.proofs.UnsetLaws.{unset-refused}
+use Rattle.tk_member.proofs.taking_part.take_part.Goals as goal
+
+pub returns-in_err-member-clause-part : goal.returns-in_err-member-clause-part
+returns-in_err-member-clause-part g c =
+    let left = g.S.Source.left c.args.source.now in
+    let rest = g.S.Source.left c.next_packet.new.source in
+    let first = c.in-Some.first in
+    let e = c.in_err-member.field-0.0 in
+    let comes : left ≡ before_taking (packet_bytes first) rest =
+    c.in_ok-first.ensures.found
+    ∙ ap (λ (o : Option PacketView). before_taking (spelling o) rest) c.in-Some.is
+    in
+    let few : length first.bytes ≤ most_first =
+    subst (λ (o : Option PacketView). IfSome o (λ p. length p.bytes ≤ most_first)) c.in-Some.is
+    c.in_ok-first.ensures.within
+    in
+    let out : c.from_residual-in_err-member.result ≡ Err e = search rules in
+    rw out
+    (inl (
+      unset-refused (Unit {0}) e first left rest comes few c.in_err-member.ensures.refused
+          c.in_err-member.ensures.only,
+      refl,
+    ))
+
+pub returns-clause-part : goal.returns-clause-part
+returns-clause-part g c =
+    let rest = g.S.Source.left c.next_packet.new.source in
+    inr (record {
+      first = c.in-Some.first;
+      words = keyed c.in_ok-member.draws.handles.items c.in_ok-member.draws.seeds.items;
+      member = c.in_ok-member.member;
+      sets = c.in_ok-member.ensures.found;
+      middle = rest;
+      comes =
+          c.in_ok-first.ensures.found
+          ∙ ap (λ (o : Option PacketView). before_taking (spelling o) rest) c.in-Some.is;
+      ends = c.go_on.ensures.ends;
+    })

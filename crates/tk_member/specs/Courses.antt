@@ -1,0 +1,182 @@
+-- What a member took and sent, until it ended.
+use Rattle.std.specs.Prelude.{◌≡◌, ℕ, ◌+◌, ◌^◌, ◌≤◌, ◌⊎◌, Bool, true, false, cond, List, []}
+use Rattle.std.specs.Prelude.{length, take, Option, Some, None, Result, Ok, Err}
+use Rattle.std.specs.Simd.Lanes.{fold_l}
+use Rattle.tk_io.specs.Content.{before_taking, emptied, gained}
+use Rattle.tk_words.specs.Words.{WordBook}
+use Rattle.tk_packets.specs.Packets.{PacketView, packet_bytes, packets_bytes, EndsWithin, ComesLong}
+use Rattle.tk_packets.specs.Packets.{TakesAtMost}
+use Rattle.tk_member.specs.declared.fault.Fault.{Fault}
+use Rattle.tk_member.specs.declared.fault.Fault.TheVariants.{Memory, Read, Write, Cut, Long, Setup}
+use Rattle.tk_member.specs.declared.fault.Fault.TheVariants.{Peer, Differ, Refused, Older}
+use Rattle.tk_member.specs.Members.{MemberState, is_over}
+use Rattle.tk_member.specs.Acting.{Turned, unmoved, behind}
+use Rattle.tk_member.specs.Steps.{step}
+use Rattle.tk_member.specs.SetUp.{IsSetUp}
+
+-- what a source has left, and a sink holds, where they tell it
+abbrev pub Told : Type 0
+Told = Option (List ℕ)
+
+-- the bytes of a packet at most: those of the first one have room for a number and the largest input
+abbrev pub most_first : ℕ
+most_first = 4 + 8388608
+
+abbrev pub most_later : ℕ
+most_later = 65536
+
+-- ---- packets one after the other
+
+abbrev pub behind_if : Turned → Result Turned Fault → Option Turned
+behind_if t (Ok u) = Some (behind t.packets u)
+behind_if t (Err fault) = None
+
+-- after one packet more; none where the run is over, or where the packet ends it
+abbrev pub after_packet : WordBook → Option Turned → PacketView → Option Turned
+after_packet b None p = None
+after_packet b (Some t) p = cond (is_over t.member) None (behind_if t (step b t.member p))
+
+-- how a member stands after packets, and all that it sends for them; none where it takes no more
+unfoldable pub after_packets : WordBook → MemberState → List PacketView → Option Turned
+after_packets b m packets = fold_l (after_packet b) (Some (unmoved m)) packets
+
+-- packets were taken, after which the member stands so
+pub record Takes (b : WordBook) (m : MemberState) (t : Turned) (left middle : Told) : Type 0 where
+  pub packets : List PacketView
+  pub stands : after_packets b m packets ≡ Some t
+  pub taken : left ≡ before_taking (packets_bytes packets) middle
+
+-- and all that it sends was put
+pub record IsCourse (b : WordBook) (m : MemberState) (t : Turned) (left middle held new : Told)
+    : Type 0 where
+  pub takes : Takes b m t left middle
+  pub puts : new ≡ gained held (packets_bytes t.packets)
+
+-- ---- how it ends, once it is set up
+
+-- The run is over, or nothing is left; or as many packets were taken as 64 bits can count.
+abbrev pub IsDone : MemberState → List PacketView → Told → Type 0
+IsDone m packets rest =
+    (is_over m ≡ true) ⊎ (rest ≡ emptied rest) ⊎ (2 ^ 64 ≤ length packets + 1)
+
+pub record EndsDone (b : WordBook) (m : MemberState) (left rest held new : Told) : Type 0 where
+  pub last : Turned
+  pub course : IsCourse b m last left rest held new
+  pub done : IsDone last.member course.takes.packets rest
+
+-- no packet could be taken, of which this holds
+pub record EndsBetween (Fails : Told → Told → Type 0) (b : WordBook) (m : MemberState)
+    (left rest held new : Told) : Type 0 where
+  pub last : Turned
+  pub middle : Told
+  pub course : IsCourse b m last left middle held new
+  pub fails : Fails middle rest
+
+-- a packet came that ends it for this fault
+pub record EndsAt (fault : Fault) (b : WordBook) (m : MemberState) (left rest held new : Told)
+    : Type 0 where
+  pub last : Turned
+  pub middle : Told
+  pub course : IsCourse b m last left middle held new
+  pub goes_on : is_over last.member ≡ false
+  pub packet : PacketView
+  pub comes : middle ≡ before_taking (packet_bytes packet) rest
+  pub ends : step b last.member packet ≡ Err fault
+
+-- a front of what it sends was put
+pub record EndsWriting (b : WordBook) (m : MemberState) (left rest held new : Told) : Type 0 where
+  pub last : Turned
+  pub middle : Told
+  pub takes : Takes b m last left middle
+  pub count : ℕ
+  pub puts : new ≡ gained held (take count (packets_bytes last.packets))
+
+-- how a member that is set up ends for a fault
+abbrev pub EndsFor : Fault → WordBook → MemberState → Told → Told → Told → Told → Type 0
+EndsFor Memory b m left rest held new = EndsWriting b m left rest held new
+EndsFor Read b m left rest held new =
+    EndsBetween (TakesAtMost (8 + most_later)) b m left rest held new
+EndsFor Write b m left rest held new = EndsWriting b m left rest held new
+EndsFor Cut b m left rest held new = EndsBetween (EndsWithin most_later) b m left rest held new
+EndsFor Long b m left rest held new = EndsBetween (ComesLong most_later) b m left rest held new
+EndsFor Setup b m left rest held new = ⊥
+EndsFor Peer b m left rest held new = EndsAt Peer b m left rest held new
+EndsFor Differ b m left rest held new = EndsAt Differ b m left rest held new
+EndsFor Refused b m left rest held new = EndsAt Refused b m left rest held new
+EndsFor Older b m left rest held new = EndsAt Older b m left rest held new
+
+-- and how one ends
+abbrev pub Ends : {T : Type 0} → Result T Fault → WordBook → MemberState → Told → Told → Told →
+    Told → Type 0
+Ends (Ok t) b m left rest held new = EndsDone b m left rest held new
+Ends (Err fault) b m left rest held new = EndsFor fault b m left rest held new
+
+-- so many packets were taken, after which the member is this one
+pub record HasTaken (count : ℕ) (b : WordBook) (m n : MemberState) (left rest held new : Told) : Type 0
+  where
+    pub last : Turned
+    pub course : IsCourse b m last left rest held new
+    pub counted : length course.takes.packets ≡ count
+    pub is : n ≡ last.member
+
+-- ---- one packet
+
+-- it was taken, and what the member sends then was put
+pub record TookOne (b : WordBook) (m n : MemberState) (left rest held new : Told) : Type 0 where
+  pub packet : PacketView
+  pub comes : left ≡ before_taking (packet_bytes packet) rest
+  pub sent : List PacketView
+  pub steps : step b m packet ≡ Ok (record { member = n; packets = sent })
+  pub puts : new ≡ gained held (packets_bytes sent)
+
+-- nothing was left
+pub record TookNone (m n : MemberState) (left rest held new : Told) : Type 0 where
+  pub none : left ≡ before_taking [] rest
+  pub end : rest ≡ emptied left
+  pub stays : n ≡ m
+  pub kept : new ≡ held
+
+-- whether a packet was taken, or how it ends
+abbrev pub TakesNext : Result Bool Fault → WordBook → MemberState → MemberState → Told → Told →
+    Told → Told → Type 0
+TakesNext (Ok true) b m n left rest held new = TookOne b m n left rest held new
+TakesNext (Ok false) b m n left rest held new = TookNone m n left rest held new
+TakesNext (Err fault) b m n left rest held new = EndsFor fault b m left rest held new
+
+-- ---- from the first packet on
+
+-- a packet came that sets no member up
+pub record IsNoSetup (left rest : Told) : Type 0 where
+  pub first : PacketView
+  pub comes : left ≡ before_taking (packet_bytes first) rest
+  pub other : (b : WordBook) (m : MemberState) → IsSetUp first b m → ⊥
+
+-- no member was set up
+abbrev pub EndsUnset : {T : Type 0} → Result T Fault → Told → Told → Type 0
+EndsUnset (Ok t) left rest = (left ≡ emptied left) × (rest ≡ left)
+EndsUnset (Err Memory) left rest = TakesAtMost (8 + most_first) left rest
+EndsUnset (Err Read) left rest = TakesAtMost (8 + most_first) left rest
+EndsUnset (Err Write) left rest = ⊥
+EndsUnset (Err Cut) left rest = EndsWithin most_first left rest
+EndsUnset (Err Long) left rest = ComesLong most_first left rest
+EndsUnset (Err Setup) left rest = IsNoSetup left rest
+EndsUnset (Err Peer) left rest = ⊥
+EndsUnset (Err Differ) left rest = ⊥
+EndsUnset (Err Refused) left rest = ⊥
+EndsUnset (Err Older) left rest = ⊥
+
+-- the first packet set a member up, which then ended so
+pub record TookPart {T : Type 0} (result : Result T Fault) (left rest held new : Told) : Type 0
+  where
+    pub first : PacketView
+    pub words : WordBook
+    pub member : MemberState
+    pub sets : IsSetUp first words member
+    pub middle : Told
+    pub comes : left ≡ before_taking (packet_bytes first) middle
+    pub ends : Ends result words member middle rest held new
+
+-- nothing was sent, or a member took part
+abbrev pub TakesPart : {T : Type 0} → Result T Fault → Told → Told → Told → Told → Type 0
+TakesPart result left rest held new =
+    (EndsUnset result left rest × (new ≡ held)) ⊎ TookPart result left rest held new

@@ -1,0 +1,11 @@
+pub mod Words
+pub mod Epochs
+pub mod Keeping
+pub mod Members
+pub mod Pacing
+pub mod Acting
+pub mod News
+pub mod Steps
+pub mod Faults
+pub mod SetUp
+pub mod Courses
