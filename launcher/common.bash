@@ -1,17 +1,23 @@
 # shellcheck shell=bash
-# What ./talek and ./prove share: where the built programs are, and whether they were built from these very sources.
-# Whoever reads this file has set top, the repository's folder, and self, the name that messages begin with.
+# What ./talek, ./serve, ./member and ./prove share: where the built programs are, and whether they were built from
+# these very sources. Whoever reads this file has set top, the repository's folder, and self, the name that messages
+# begin with; and program, which of the three it is about, where it isn't talek.
 
 set -euo pipefail
 # Neither another compiler nor C code may make a program that counts as proved.
 unset RT_BACKEND RT_ALLOW_C
 : "${top:?}" "${self:?}"
-out=$top/crates/talek/out
-# A proved program and an unproved one each have a folder of their own, with the program, which is called talek, and
+# A proved program and an unproved one each have a folder of their own, with the program, and
 #   made-of: whether it is proved, the kit's identity, and the checksums of the sources and of the program,
 #   seen: the sizes and times of all these files, as they were when they last had those checksums,
 #   lock: held by whoever builds there.
-declare -A folder=([proved]=$out [unproved]=$out/unproved)
+declare -A folder
+
+# Sets which program the rest is about.
+use_program() {
+    program=$1
+    folder=([proved]=$top/crates/$program/out [unproved]=$top/crates/$program/out/unproved)
+}
 
 fail() {
     echo "$self: $1" >&2
@@ -61,16 +67,16 @@ is_fresh() {
 # them all only where sizes or times changed.
 is_built() {
     local kind=$1 place=${folder[$1]} made_by now
-    local program=$place/talek
-    [ -x "$program" ] && [ -f "$place/made-of" ] || return 1
+    local built=$place/$program
+    [ -x "$built" ] && [ -f "$place/made-of" ] || return 1
     read -r made_by <"$place/made-of" || return 1
     [ "$made_by" = "$kind ${kit_id:-${made_by#* }}" ] || return 1
-    now=$(sizes_and_times "$program")
+    now=$(sizes_and_times "$built")
     if [ -f "$place/seen" ] && [ "$now" = "$(<"$place/seen")" ]; then
         return 0
     fi
-    [ "$(<"$place/made-of")" = "$(what_made "$made_by" "$(sum_of_sources)" "$program")" ] || return 1
-    if ! is_fresh "$program" && [ "$now" = "$(sizes_and_times "$program")" ]; then
+    [ "$(<"$place/made-of")" = "$(what_made "$made_by" "$(sum_of_sources)" "$built")" ] || return 1
+    if ! is_fresh "$built" && [ "$now" = "$(sizes_and_times "$built")" ]; then
         # (in a folder that may not be written to, each start reads all)
         { echo "$now" >"$place/seen"; } 2>/dev/null || true
     fi
@@ -98,18 +104,19 @@ build_in_turn() {
     exec 9>>"$place/lock"
     flock 9
     if ! is_built "$kind"; then
-        rm -f "$place"/{talek,made-of,seen}
+        rm -f "$place/$program" "$place"/{made-of,seen}
         times=$(sizes_and_times)
         sources=$(sum_of_sources)
         "$@"
         # (an edit that was taken back meanwhile has left its time)
         if [ "$times" != "$(sizes_and_times)" ]; then
-            rm -f "$place/talek"
+            rm -f "$place/$program"
             fail "the sources changed while the program was built from them: start it once more"
         fi
-        what_made "$kind $kit_id" "$sources" "$place/talek" >"$place/made-of"
+        what_made "$kind $kit_id" "$sources" "$place/$program" >"$place/made-of"
     fi
     exec 9>&-
 }
 
+use_program "${program:-talek}"
 find_kit
