@@ -28,12 +28,9 @@ pub(crate) struct Cue<'a, B: Naming, G: Gate> {
     pub closing: bool,
     /// The publisher's number at the gate, which is after those of the clients.
     pub herald: u32,
-    /// How many threads make the epochs of several servers at once.
-    pub workers: u32,
     pub ghost turn_in: { turn < turn_count B.shape },
     pub ghost most_is: { most ≡ phases_over B.shape (turn + 1) },
     pub ghost closes: { closing ≡ is_closing B.shape turn },
-    pub ghost some: { 1 ≤ workers },
 }
 
 /// What lies on a client's desk in a turn: its number, the frame of its write, and what it has from
@@ -96,10 +93,7 @@ impl<'a, B: Naming + Send + Sync, G: Gate> Actor<Cue<'a, B, G>> for Herald<B> {
             cue.gate.at(rt, cue.herald, 2 * cue.turn + 1);
             return true;
         }
-        let told = cue
-            .cluster
-            .publish_with(rt, &mut self.publisher, cue.workers);
-        let Ok(told) = told else {
+        let Ok(told) = cue.cluster.publish(rt, &mut self.publisher) else {
             return false;
         };
         cue.gate.at(rt, cue.herald, 2 * cue.turn + 1);

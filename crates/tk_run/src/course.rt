@@ -229,7 +229,6 @@ fn act_in<'a, B: Naming + Send + Sync, D: Draws, G: Gate, R: Threads + Wait + Sy
         most: (turn + 1) / shape.ticks,
         closing: closes(shape, turn),
         herald: shape.clients,
-        workers: stage.crew.workers,
     };
     act(
         rt,
