@@ -18,7 +18,7 @@ abbrev pub SpellsKeyed : List ℕ → Input → Type 0
 SpellsKeyed text input = Spells Relay text input
 
 -- Bytes spell the number of a client, and behind it a keyed script that says nothing. The keys that
--- the client has not are zeros, or any others: it uses none of them.
+-- the client has not are zeros, or any others: it is meant to use none of them.
 pub record SetsUp (bytes : List ℕ) (number : ℕ) (input : Input) : Type 0 where
   pub text : List ℕ
   pub whole : bytes ≡ be32 number ++ text
