@@ -35,9 +35,11 @@ fn lent_reads_are_spelled_as_their_frames(rt: HostRuntime) -> Result<(), Memory>
         let mut lent = Vec::new(alloc);
         encode_lent_read(&read, &mut lent)?;
         assert!(rt; lent.len() == len && lent[0] == kind);
-        let mut whole = Vec::new(alloc);
-        encode_read(&read.to_frame(alloc)?, &mut whole)?;
-        assert!(rt; lent.as_slice() == whole.as_slice());
+        let frame = read.to_frame(alloc)?;
+        assert!(rt; (frame.client, frame.turn, frame.epoch) == (1, 0, 2));
+        assert!(rt;
+            frame.first.as_slice() == read.vectors.0 && frame.second.as_slice() == read.vectors.1
+        );
     }
     Ok(())
 }
@@ -91,7 +93,8 @@ fn reads_are_decoded_into_spare_buffers(rt: HostRuntime) -> Result<(), Memory> {
         };
         encode_lent_read(&read, &mut bytes)?;
         assert!(rt; alike(alloc, &mut spare, &shape, &bytes) == Some(true));
-        assert!(rt; alike(alloc, &mut spare, &shape, &bytes[..15]).is_none());
+        bytes.truncate(15);
+        assert!(rt; alike(alloc, &mut spare, &shape, &bytes).is_none());
     }
     assert!(rt; (spare.vectors.len(), spare.seeds.len()) == (2, 1));
     Ok(())
