@@ -15,7 +15,7 @@ use Rattle.tk_member.specs.declared.fault.Fault.TheVariants.{Differ}
 use Rattle.tk_frames.specs.Fields.{number_at}
 use Rattle.tk_packets.specs.Frames.{marks_len}
 use Rattle.tk_member.specs.Epochs.{Marks, is_epoch_frame}
-use Rattle.tk_member.proofs.WholeBytes.{marks-whole}
+use Rattle.tk_packets.proofs.Offers.{marks-whole}
 use Rattle.std.proofs.lemmas.List.{take_rest}
 use Rattle.tk_member.specs.Keeping.{AreTold, kept_with}
 

@@ -5,7 +5,6 @@ pub mod PacingLaws
 pub mod ActingLaws
 pub mod StepLaws
 pub mod CourseLaws
-pub mod WholeBytes
 pub mod KeepingLaws
 pub mod EndLaws
 pub mod SetUpLaws

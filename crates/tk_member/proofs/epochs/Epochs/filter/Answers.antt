@@ -6,7 +6,7 @@ use Rattle.tk_shape.specs.declared.shape.Shape.{Shape}
 use Rattle.tk_packets.specs.Frames.{marks_len}
 use Rattle.tk_member.specs.Epochs.{Marks, known, marks_at, filter_of}
 use Rattle.tk_member.specs.Keeping.{EpochsState, told_so_far, AreTold}
-use Rattle.tk_member.proofs.WholeBytes.{marks-whole}
+use Rattle.tk_packets.proofs.Offers.{marks-whole}
 use Rattle.tk_member.proofs.Tellings.{marks-known}
 use Rattle.tk_member.proofs.epochs.Epochs.filter.Goals as goal
 
