@@ -37,7 +37,8 @@ returns-clause-found g c =
     let bytes = c.fill-2.new.buf in
     let counted : length bytes ≡ c.two_numbers-peer.result.1 = search rules in
     let kept : c.from_vec.result ≡ bytes = c.from_vec.ensures ∙ take_at bytes _ _ (search rules) in
-    taken-packet _ _ _ c.fill.new.buf bytes c.in-Ok.n c.in-Ok-fill.n c.two_numbers-peer.result.0 c.two_numbers-peer.result.1
+    taken-packet _ _ _ c.fill.new.buf bytes c.in-Ok.n c.in-Ok-fill.n c.two_numbers-peer.result.0
+    c.two_numbers-peer.result.1
     (record {
       long = search rules;
       all = search rules;
