@@ -9,11 +9,11 @@ use Rattle.tk_io.specs.Content.{before_taking, gained}
 use Rattle.tk_io.proofs.Offers.{gained-twice, gained-nothing, front-of_all, front-of_second}
 use Rattle.tk_shape.specs.declared.shape.Shape.{Shape}
 use Rattle.tk_frames.proofs.Offers.{each-push}
-use Rattle.tk_packets.specs.Packets.{PacketView, packet_bytes, packets_bytes}
+use Rattle.tk_packets.specs.Packets.{PacketView, packet_bytes, packets_bytes, TakesAtMost}
 use Rattle.tk_serve.specs.declared.server.Server.{Server}
 use Rattle.tk_serve.specs.Seats.{Seat, empty_seats}
 use Rattle.tk_serve.specs.Steps.{IsOfClient, IsOver, step_on, seats_after, answers}
-use Rattle.tk_serve.specs.Courses.{Told, Takes, IsGoing, Goes, answered, IsCourse, IsCourseFront}
+use Rattle.tk_serve.specs.Courses.{Told, IsShort, Takes, IsGoing, Goes, answered, IsCourse, IsCourseFront}
 use Rattle.tk_serve.specs.Stands.{Stands}
 use Rattle.tk_serve.specs.Nexts.{TakesNext, TakesNextFront}
 
@@ -54,11 +54,12 @@ taken-then a b None = refl
 taken-then a b (Some rest) = ap Some (append_assoc a b rest)
 
 takes-more : (shape : Shape) (ps : List PacketView) (p : PacketView) (left middle rest : Told) →
-    Takes shape ps left middle → IsOfClient shape p → middle ≡ before_taking (packet_bytes p) rest →
-    Takes shape (ps ++ p ∷ []) left rest
-takes-more shape ps p left middle rest takes of taken =
+    Takes shape ps left middle → IsOfClient shape p → IsShort shape p →
+    middle ≡ before_taking (packet_bytes p) rest → Takes shape (ps ++ p ∷ []) left rest
+takes-more shape ps p left middle rest takes of short taken =
     record {
       of_clients = each-push (IsOfClient shape) ps p takes.of_clients of;
+      short = each-push (IsShort shape) ps p takes.short short;
       taken =
           takes.taken ∙ ap (before_taking (packets_bytes ps)) taken
           ∙ sym (taken-then (packets_bytes ps) (packet_bytes p) rest)
@@ -90,11 +91,14 @@ nothing-taken (Some rest) = refl
 pub nothing-kept : (left rest : Told) → left ≡ before_taking [] rest → left ≡ rest
 nothing-kept left rest none = none ∙ sym (nothing-taken rest)
 
+pub takes-nothing : (most : ℕ) (left : Told) → TakesAtMost most left left
+takes-nothing most left = record { taken = []; front = nothing-taken left; few = omega arith }
+
 pub course-none : (shape : Shape) (left held : Told) → IsCourse shape [] left left held held
 unfolding answered
 course-none shape left held =
     record {
-      takes = record { of_clients = tt; taken = nothing-taken left };
+      takes = record { of_clients = tt; short = tt; taken = nothing-taken left };
       goes = λ k before over. absurd (omega (arith, before));
       puts = sym (gained-nothing held);
     }
@@ -111,7 +115,7 @@ pub course-next : (shape : Shape) (ps : List PacketView) (s : Server) (left midd
     IsCourse shape (ps ++ next.came ∷ []) left rest held new
 course-next shape ps s left middle rest held now new course going next =
     record {
-      takes = takes-more shape ps next.came left middle rest course.takes next.of_client next.taken;
+      takes = takes-more shape ps next.came left middle rest course.takes next.of_client next.short next.taken;
       goes = goes-more shape ps next.came course.goes going;
       puts =
           next.puts ∙ ap (λ h. gained h (packets_bytes (outgoing shape ps next.came))) course.puts
@@ -128,7 +132,7 @@ course-front shape ps left middle rest held now new course going next =
     course.puts (next.count, next.puts)
     in
     record {
-      takes = takes-more shape ps next.came left middle rest course.takes next.of_client next.taken;
+      takes = takes-more shape ps next.came left middle rest course.takes next.of_client next.short next.taken;
       goes = goes-more shape ps next.came course.goes going;
       count = front.0;
       puts = front.1 ∙ ap (λ bytes. gained held (take front.0 bytes)) (sym (answered-more shape ps next.came));

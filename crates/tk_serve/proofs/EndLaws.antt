@@ -1,5 +1,5 @@
 -- How a run ends, from how its next packet does.
-use Rattle.std.proofs.Common.{◌≡◌, ℕ, ◌⊎◌, sym, ◌∙◌, subst, inl, inr}
+use Rattle.std.proofs.Common.{◌≡◌, ℕ, ◌+◌, ◌⊎◌, sym, ◌∙◌, subst, inl, inr}
 use Rattle.std.proofs.Common.{List, [], ◌∷◌, ◌++◌, OnOk, OnErr, IfOk, Bool, false, IsTrue, ◌↔◌}
 use Rattle.std.specs.Prelude.{Result, Ok, Err}
 use Rattle.tk_shape.specs.declared.shape.Shape.{Shape}
@@ -7,10 +7,11 @@ use Rattle.tk_packets.specs.Packets.{PacketView}
 use Rattle.tk_serve.specs.declared.server.Server.{Server}
 use Rattle.tk_serve.specs.Seats.{empty_seats}
 use Rattle.tk_serve.specs.Steps.{seats_after}
-use Rattle.tk_serve.specs.Courses.{Told, IsGoing, IsCourse, IsStill, RanFront}
+use Rattle.tk_serve.specs.Setup.{longest_frame}
+use Rattle.tk_serve.specs.Courses.{Told, IsGoing, IsCourse, StopsWithin, RanFront}
 use Rattle.tk_serve.specs.Nexts.{TakesNextFront}
 use Rattle.tk_serve.specs.Stands.{Serves}
-use Rattle.tk_serve.proofs.CourseLaws.{IsRunning, course-whole, course-front}
+use Rattle.tk_serve.proofs.CourseLaws.{IsRunning, takes-nothing, course-whole, course-front}
 
 -- a fact of what a call answers follows from another
 pub on_ok-map : {X Y : Type 0} {P Q : Type 0} (r : Result X Y) → (P → Q) → OnOk r P → OnOk r Q
@@ -21,6 +22,10 @@ pub on_err-map : {X Y : Type 0} {P Q : Type 0} (r : Result X Y) → (P → Q) �
 on_err-map (Ok x) f h = tt
 on_err-map (Err e) f h = f h
 
+pub on_err-holds : {X Y : Type 0} {P : Type 0} (r : Result X Y) → P → OnErr r P
+on_err-holds (Ok x) h = tt
+on_err-holds (Err e) h = h
+
 -- nothing was put by what came last
 still : (shape : Shape) (frames : List PacketView) (left middle held now new : Told) → new ≡ now →
     IsCourse shape frames left middle held now → IsCourse shape frames left middle held new
@@ -30,21 +35,24 @@ still shape frames left middle held now new same course =
 module _ (shape : Shape) (count : ℕ) (s : Server) (left middle held now : Told)
     (runs : IsRunning shape count s left middle held now) where
   pub ran-front : (rest new : Told) → IsGoing shape runs.frames →
-      IsStill now new ⊎ TakesNextFront shape (seats_after shape (empty_seats shape) runs.frames) middle rest now new →
-      RanFront shape left held new
-  ran-front rest new going (inl same) =
+      StopsWithin (8 + longest_frame shape) middle rest now new
+      ⊎ TakesNextFront shape (seats_after shape (empty_seats shape) runs.frames) middle rest now new →
+      RanFront shape left rest held new
+  ran-front rest new going (inl stops) =
       record {
         frames = runs.frames;
         middle = middle;
         course =
             course-whole shape runs.frames left middle held new
-            (still shape runs.frames left middle held now new same runs.course);
+            (still shape runs.frames left middle held now new stops.unchanged runs.course);
+        takes = stops.takes;
       }
   ran-front rest new going (inr next) =
       record {
         frames = runs.frames ++ next.came ∷ [];
         middle = rest;
         course = course-front shape runs.frames left middle rest held now new runs.course going next;
+        takes = takes-nothing (8 + longest_frame shape) rest;
       }
 
 -- what holds of a call's value holds of more

@@ -1,5 +1,5 @@
 -- A run from its first packet on.
-use Rattle.std.proofs.Common.{◌≡◌, ℕ, ◌≤◌, inl, inr, [], refl, ap, sym, ◌∙◌, subst, arith}
+use Rattle.std.proofs.Common.{◌≡◌, ℕ, ◌≤◌, length, inl, inr, [], refl, ap, sym, ◌∙◌, subst, arith}
 use Rattle.tk_io.specs.Content.{Rose, before_taking, emptied}
 use Rattle.tk_shape.specs.declared.shape.Shape.{Shape}
 use Rattle.tk_packets.specs.Packets.{PacketView, packet_bytes}
@@ -17,9 +17,9 @@ nothing-came left rest held none end =
     record { empty = same ∙ end; kept = sym same; unchanged = refl }
 
 pub no-setup : (first : PacketView) (left rest held : Told) → left ≡ before_taking (packet_bytes first) rest →
-    ((shape : Shape) → first ≡ setup shape → ⊥) → IsNoSetup left rest held held
-no-setup first left rest held comes other =
-    record { first = first; comes = comes; other = other; unchanged = refl }
+    length first.bytes ≤ 52 → ((shape : Shape) → first ≡ setup shape → ⊥) → IsNoSetup left rest held held
+no-setup first left rest held comes short other =
+    record { first = first; comes = comes; short = short; other = other; unchanged = refl }
 
 -- The first packet set a server up.
 module _ (shape : Shape) (first : PacketView) (s : Server) (left middle : Told) (is : first ≡ setup shape)

@@ -1,15 +1,15 @@
 -- What becomes of the next packet, from the calls that take it and put what goes out.
-use Rattle.std.proofs.Common.{◌≡◌, ℕ, ◌-◌, ◌≤◌, List, [], take, refl, ap, ap₂, ◌∙◌, subst, false}
+use Rattle.std.proofs.Common.{◌≡◌, ℕ, ◌+◌, ◌-◌, ◌≤◌, List, [], length, take, refl, ap, ap₂, ◌∙◌, subst, arith, false}
 use Rattle.std.specs.Prelude.{Result, Ok, Err, OnOk}
 use Rattle.std.specs.Result.{is_err}
 use Rattle.tk_io.specs.Content.{before_taking, emptied, gained}
 use Rattle.tk_shape.specs.declared.shape.Shape.{Shape}
-use Rattle.tk_packets.specs.Packets.{PacketView, packet_bytes, packets_bytes}
+use Rattle.tk_packets.specs.Packets.{PacketView, packet_bytes, packets_bytes, TakesAtMost}
 use Rattle.tk_serve.specs.declared.server.Server.{Server}
 use Rattle.tk_serve.specs.Seats.{Seat}
 use Rattle.tk_serve.specs.Steps.{Step, step, step_on}
 use Rattle.tk_serve.specs.Stands.{Stands}
-use Rattle.tk_serve.specs.Courses.{Told}
+use Rattle.tk_serve.specs.Courses.{Told, IsShort, StopsWithin}
 use Rattle.tk_serve.specs.Nexts.{TakesNext, TakesNextFront, NoneNext}
 use Rattle.tk_serve.proofs.CourseLaws.{nothing-kept}
 
@@ -19,10 +19,24 @@ none-next left rest held none end =
     let same = nothing-kept left rest none in
     record { all = same; empty = end ∙ ap emptied same; unchanged = refl }
 
+length-packet : (p : PacketView) → length (packet_bytes p) ≡ 8 + length p.bytes
+unfolding packet_bytes
+length-packet p = omega arith
+
+-- a packet came of so many bytes at most, and nothing is put
+pub stops-behind : (most : ℕ) (p : PacketView) (left rest held : Told) → left ≡ before_taking (packet_bytes p) rest →
+    length p.bytes ≤ most → StopsWithin (8 + most) left rest held held
+stops-behind most p left rest held comes short =
+    let takes : TakesAtMost (8 + most) left rest =
+    record { taken = packet_bytes p; front = comes; few = omega (arith, length-packet p, short) }
+    in
+    record { takes = takes; unchanged = refl }
+
 -- a packet of a client came, and its bytes were taken as a frame of the client
 pub record IsTakenOf (shape : Shape) (p : PacketView) (client : ℕ) (frame : List ℕ) (left rest : Told) : Type 0 where
   pub low : 1 ≤ p.peer
   pub high : p.peer ≤ shape.clients
+  pub short : IsShort shape p
   pub taken : left ≡ before_taking (packet_bytes p) rest
   pub client_is : client ≡ p.peer - 1
   pub frame_is : frame ≡ p.bytes
@@ -42,6 +56,7 @@ module _ (shape : Shape) (seats : List Seat) (p : PacketView) (client : ℕ) (fr
       record {
         came = p;
         of_client = record { low = came.low; high = came.high };
+        short = came.short;
         taken = came.taken;
         puts = puts ∙ ap (λ ps. gained held (packets_bytes ps)) told-is;
         stands = subst (λ (st : Step). Stands shape st.seats s) step-is stands;
@@ -53,6 +68,7 @@ module _ (shape : Shape) (seats : List Seat) (p : PacketView) (client : ℕ) (fr
       record {
         came = p;
         of_client = record { low = came.low; high = came.high };
+        short = came.short;
         taken = came.taken;
         count = front.0;
         puts = front.1 ∙ ap (λ ps. gained held (take front.0 (packets_bytes ps))) told-is;

@@ -3,7 +3,7 @@ use Rattle.std.specs.Prelude.{◌≡◌, ℕ, ◌+◌, ◌^◌, ◌≤◌, ◌<�
 use Rattle.std.specs.List.{AllByRecursion}
 use Rattle.tk_io.specs.Content.{before_taking, emptied, gained}
 use Rattle.tk_shape.specs.declared.shape.Shape.{Shape}
-use Rattle.tk_packets.specs.Packets.{PacketView, packet_bytes, packets_bytes, EndsWithin, ComesLong}
+use Rattle.tk_packets.specs.Packets.{PacketView, packet_bytes, packets_bytes, EndsWithin, ComesLong, TakesAtMost}
 use Rattle.tk_serve.specs.Seats.{empty_seats}
 use Rattle.tk_serve.specs.Steps.{IsOfClient, answers, seats_after, IsOver}
 use Rattle.tk_serve.specs.Setup.{setup, longest_frame}
@@ -12,9 +12,14 @@ use Rattle.tk_serve.specs.Setup.{setup, longest_frame}
 abbrev pub Told : Type 0
 Told = Option (List ℕ)
 
+-- a packet is no longer than a client's longest frame
+abbrev pub IsShort : Shape → PacketView → Type 0
+IsShort shape p = length p.bytes ≤ longest_frame shape
+
 -- these packets of clients were taken
 pub record Takes (shape : Shape) (frames : List PacketView) (left middle : Told) : Type 0 where
   pub of_clients : AllByRecursion (IsOfClient shape) frames
+  pub short : AllByRecursion (IsShort shape) frames
   pub taken : left ≡ before_taking (packets_bytes frames) middle
 
 -- what goes out for packets of clients, from the first on
@@ -77,20 +82,23 @@ pub record RanPeer (shape : Shape) (left rest held new : Told) : Type 0 where
   pub going : IsGoing shape frames
   pub stranger : PacketView
   pub comes : middle ≡ before_taking (packet_bytes stranger) rest
+  pub short : IsShort shape stranger
   pub nobody : (stranger.peer ≡ 0) ⊎ (shape.clients < stranger.peer)
 
--- all that went out was put while the source could be read
-pub record RanRead (shape : Shape) (left held new : Told) : Type 0 where
+-- all that went out was put while the source could be read; of what was left then no more than a packet was taken
+pub record RanRead (shape : Shape) (left rest held new : Told) : Type 0 where
   pub frames : List PacketView
   pub middle : Told
   pub course : IsCourse shape frames left middle held new
   pub going : IsGoing shape frames
+  pub takes : TakesAtMost (8 + longest_frame shape) middle rest
 
--- a front of what goes out was put
-pub record RanFront (shape : Shape) (left held new : Told) : Type 0 where
+-- a front of what goes out was put, and no more than a packet was taken besides
+pub record RanFront (shape : Shape) (left rest held new : Told) : Type 0 where
   pub frames : List PacketView
   pub middle : Told
   pub course : IsCourseFront shape frames left middle held new
+  pub takes : TakesAtMost (8 + longest_frame shape) middle rest
 
 -- ---- from the first packet on
 
@@ -115,12 +123,18 @@ pub record NothingCame (left middle held new : Told) : Type 0 where
 pub record IsNoSetup (left rest held new : Told) : Type 0 where
   pub first : PacketView
   pub comes : left ≡ before_taking (packet_bytes first) rest
+  pub short : length first.bytes ≤ 52
   pub other : (shape : Shape) → first ≡ setup shape → ⊥
   pub unchanged : new ≡ held
 
 -- nothing was put
 abbrev pub IsStill : Told → Told → Type 0
 IsStill held new = new ≡ held
+
+-- and no more than so many bytes were taken
+pub record StopsWithin (most : ℕ) (left rest held new : Told) : Type 0 where
+  pub takes : TakesAtMost most left rest
+  pub unchanged : IsStill held new
 
 -- the first packet was cut, or longer than one that sets a server up
 pub record CutFirst (left rest held new : Told) : Type 0 where

@@ -6,7 +6,7 @@ use Rattle.tk_packets.specs.Packets.{PacketView, packet_bytes, packets_bytes, En
 use Rattle.tk_serve.specs.Seats.{Seat}
 use Rattle.tk_serve.specs.Steps.{IsOfClient, step_on}
 use Rattle.tk_serve.specs.Setup.{longest_frame}
-use Rattle.tk_serve.specs.Courses.{Told, IsStill}
+use Rattle.tk_serve.specs.Courses.{Told, IsStill, IsShort}
 use Rattle.tk_serve.specs.declared.server.Server.{Server}
 use Rattle.tk_serve.specs.Stands.{Stands}
 
@@ -14,6 +14,7 @@ use Rattle.tk_serve.specs.Stands.{Stands}
 pub record TakesNext (shape : Shape) (seats : List Seat) (s : Server) (left rest held new : Told) : Type 0 where
   pub came : PacketView
   pub of_client : IsOfClient shape came
+  pub short : IsShort shape came
   pub taken : left ≡ before_taking (packet_bytes came) rest
   pub puts : new ≡ gained held (packets_bytes (step_on shape seats came).packets)
   pub stands : Stands shape (step_on shape seats came).seats s
@@ -22,6 +23,7 @@ pub record TakesNext (shape : Shape) (seats : List Seat) (s : Server) (left rest
 pub record TakesNextFront (shape : Shape) (seats : List Seat) (left rest held new : Told) : Type 0 where
   pub came : PacketView
   pub of_client : IsOfClient shape came
+  pub short : IsShort shape came
   pub taken : left ≡ before_taking (packet_bytes came) rest
   pub count : ℕ
   pub puts : new ≡ gained held (take count (packets_bytes (step_on shape seats came).packets))
@@ -43,5 +45,6 @@ pub record LongNext (shape : Shape) (left rest held new : Told) : Type 0 where
 pub record StrangerNext (shape : Shape) (left rest held new : Told) : Type 0 where
   pub stranger : PacketView
   pub comes : left ≡ before_taking (packet_bytes stranger) rest
+  pub short : IsShort shape stranger
   pub nobody : (stranger.peer ≡ 0) ⊎ (shape.clients < stranger.peer)
   pub unchanged : IsStill held new

@@ -1,8 +1,9 @@
 //! The packets of a run.
-ghost use Rattle.std.specs.Prelude.{◌≡◌, ◌≤◌, ◌⊎◌, List, OnOk, OnErr, Ok, Err, true, false};
+ghost use Rattle.std.specs.Prelude.{◌≡◌, ◌+◌, ◌≤◌, ◌⊎◌, List, OnOk, OnErr, Ok, Err, true, false};
 ghost use Rattle.tk_io.specs.Content.{Rose};
 ghost use Rattle.tk_serve.specs.Courses.{SetUpThen, NothingCame, IsNoSetup, RanDone, RanCut, RanLong, RanPeer};
-ghost use Rattle.tk_serve.specs.Courses.{RanRead, RanFront, CutFirst, LongFirst, IsStill};
+ghost use Rattle.tk_serve.specs.Courses.{RanRead, RanFront, CutFirst, LongFirst, StopsWithin};
+ghost use Rattle.tk_serve.specs.Setup.{longest_frame as longest};
 ghost use Rattle.tk_serve.specs.Nexts.{TakesNext, TakesNextFront, NoneNext, CutNext, LongNext, StrangerNext};
 ghost use Rattle.tk_serve.specs.Seats.{Seat, empty_seats};
 ghost use Rattle.tk_serve.specs.Stands.{Stands, Serves};
@@ -34,12 +35,13 @@ pub fn serve<S: Source, K: Sink>(alloc: Global, source: &mut S, sink: &mut K) ->
     ensures peer { result ≡ Err Fault.Peer
         → SetUpThen (λ shape middle. RanPeer shape middle (S.left source.new) (K.held sink.old) (K.held sink.new))
         (S.left source.old) }
-    ensures front { OnErr result (IsStill (K.held sink.old) (K.held sink.new)
-        ⊎ SetUpThen (λ shape middle. RanFront shape middle (K.held sink.old) (K.held sink.new))
+    ensures front { OnErr result (
+        StopsWithin (8 + 52) (S.left source.old) (S.left source.new) (K.held sink.old) (K.held sink.new)
+        ⊎ SetUpThen (λ shape middle. RanFront shape middle (S.left source.new) (K.held sink.old) (K.held sink.new))
         (S.left source.old)) }
     ensures whole { result ≡ Err Fault.Read
-        → IsStill (K.held sink.old) (K.held sink.new)
-        ⊎ SetUpThen (λ shape middle. RanRead shape middle (K.held sink.old) (K.held sink.new))
+        → StopsWithin (8 + 52) (S.left source.old) (S.left source.new) (K.held sink.old) (K.held sink.new)
+        ⊎ SetUpThen (λ shape middle. RanRead shape middle (S.left source.new) (K.held sink.old) (K.held sink.new))
         (S.left source.old) }
     ensures read { result ≡ Err Fault.Read → Rose (S.faults source.old) (S.faults source.new) }
     ensures write { result ≡ Err Fault.Write → Rose (K.faults sink.old) (K.faults sink.new) }
@@ -73,9 +75,10 @@ fn serve_clients<S: Source, K: Sink>(
         (K.held sink.old) (K.held sink.new) }
     ensures peer { result ≡ Err Fault.Peer → RanPeer server.old.shape (S.left source.old) (S.left source.new)
         (K.held sink.old) (K.held sink.new) }
-    ensures front { OnErr result (RanFront server.old.shape (S.left source.old) (K.held sink.old) (K.held sink.new)) }
-    ensures whole { result ≡ Err Fault.Read
-        → RanRead server.old.shape (S.left source.old) (K.held sink.old) (K.held sink.new) }
+    ensures front { OnErr result (RanFront server.old.shape (S.left source.old) (S.left source.new)
+        (K.held sink.old) (K.held sink.new)) }
+    ensures whole { result ≡ Err Fault.Read → RanRead server.old.shape (S.left source.old) (S.left source.new)
+        (K.held sink.old) (K.held sink.new) }
     ensures read { result ≡ Err Fault.Read → Rose (S.faults source.old) (S.faults source.new) }
     ensures write { result ≡ Err Fault.Write → Rose (K.faults sink.old) (K.faults sink.new) }
 {
@@ -114,10 +117,12 @@ fn serve_next<S: Source, K: Sink>(
     ensures peer { result ≡ Err Fault.Peer → StrangerNext server.old.shape (S.left source.old) (S.left source.new)
         (K.held sink.old) (K.held sink.new) }
     ensures front { (seats : List Seat) → Stands server.old.shape seats server.old
-        → OnErr result (IsStill (K.held sink.old) (K.held sink.new)
+        → OnErr result (StopsWithin (8 + longest server.old.shape) (S.left source.old) (S.left source.new)
+        (K.held sink.old) (K.held sink.new)
         ⊎ TakesNextFront server.old.shape seats (S.left source.old) (S.left source.new)
         (K.held sink.old) (K.held sink.new)) }
-    ensures whole { result ≡ Err Fault.Read → IsStill (K.held sink.old) (K.held sink.new) }
+    ensures whole { result ≡ Err Fault.Read → StopsWithin (8 + longest server.old.shape)
+        (S.left source.old) (S.left source.new) (K.held sink.old) (K.held sink.new) }
     ensures read { result ≡ Err Fault.Read → Rose (S.faults source.old) (S.faults source.new) }
     ensures write { result ≡ Err Fault.Write → Rose (K.faults sink.old) (K.faults sink.new) }
     ensures source_counts { S.faults source.old ≤ S.faults source.new }

@@ -1,9 +1,10 @@
 -- One more packet is taken where the run isn't over.
-use Rattle.std.proofs.Common.{◌⊎◌, ◌∙◌, refl, sym, subst, arith}
+use Rattle.std.proofs.Common.{◌+◌, ◌⊎◌, ◌∙◌, refl, sym, subst, arith}
 use Rattle.tk_serve.specs.Seats.{empty_seats}
 use Rattle.tk_serve.specs.Steps.{seats_after}
 use Rattle.tk_serve.specs.Stands.{Stands}
-use Rattle.tk_serve.specs.Courses.{IsGoing, IsStill}
+use Rattle.tk_serve.specs.Setup.{longest_frame}
+use Rattle.tk_serve.specs.Courses.{IsGoing, StopsWithin}
 use Rattle.tk_serve.specs.Nexts.{TakesNext, TakesNextFront}
 use Rattle.tk_serve.proofs.CourseLaws.{running-first, running-next}
 use Rattle.tk_serve.proofs.EndLaws.{tested-not, ran-front}
@@ -33,8 +34,8 @@ returns-in-Err-clause-front g c =
     let rest = g.S.Source.left c.serve_next.new.source in
     let now = g.K.Sink.held c.packets.sink in
     let new = g.K.Sink.held c.serve_next.new.sink in
-    let front = subst (λ sh. IsStill now new ⊎ TakesNextFront sh seats middle rest now new) inv.same
-    (c.in-Err.ensures.front seats own)
+    let front = subst (λ sh. StopsWithin (8 + longest_frame sh) middle rest now new
+    ⊎ TakesNextFront sh seats middle rest now new) inv.same (c.in-Err.ensures.front seats own)
     in
     ran-front shape c.packets.counter s (g.S.Source.left c.args.source.now) middle (g.K.Sink.held c.args.sink.now) now
     inv.runs rest new going front

@@ -1,7 +1,10 @@
 -- A packet of a client is taken, and what goes out for it, or a front of it, is put.
-use Rattle.std.proofs.Common.{◌-◌, ◌∙◌, ◌++◌, ap, sym, rules, inr}
+use Rattle.std.proofs.Common.{◌≡◌, ◌≤◌, ◌-◌, ◌∙◌, ◌++◌, length, ap, sym, rules, inl, inr}
+use Rattle.tk_io.specs.Content.{before_taking}
+use Rattle.tk_packets.specs.Packets.{packet_bytes}
+use Rattle.tk_serve.specs.Setup.{longest_frame}
 use Rattle.tk_serve.specs.Steps.{step}
-use Rattle.tk_serve.proofs.NextLaws.{IsTakenOf, takes-next, takes-front, no_err-holds}
+use Rattle.tk_serve.proofs.NextLaws.{IsTakenOf, takes-next, takes-front, no_err-holds, stops-behind}
 use Rattle.tk_serve.proofs.serving.serve_next.Goals as goal
 
 pub returns-in-Ok-clause-next : goal.returns-in-Ok-clause-next
@@ -15,6 +18,7 @@ returns-in-Ok-clause-next g c = λ seats stands _.
     (g.S.Source.left c.next_packet.new.source) = record {
       low = search rules;
       high = search rules;
+      short = search rules;
       taken = search rules;
       client_is = ap (λ n. n - 1) c.peer-peer.ensures;
       frame_is = c.bytes.ensures;
@@ -37,6 +41,7 @@ returns-clause-front g c = λ seats stands.
     (g.S.Source.left c.next_packet.new.source) = record {
       low = search rules;
       high = search rules;
+      short = search rules;
       taken = search rules;
       client_is = ap (λ n. n - 1) c.peer-peer.ensures;
       frame_is = c.bytes.ensures;
@@ -46,3 +51,23 @@ returns-clause-front g c = λ seats stands.
     inr (takes-front shape seats p client frame _ _ _ _ came c.as_slice.result.now
     (c.as_slice.ensures.value ∙ told ∙ ap (λ ps. ps ++ (step shape seats client frame).packets) c.new-out.ensures.items)
     c.in-Err-put_packets.ensures.err)
+
+pub returns-then-peer-lt1-clause-front : goal.returns-then-peer-lt1-clause-front
+returns-then-peer-lt1-clause-front g c = λ seats stands.
+    let p = c.in-Ok-Some.packet in
+    let most = longest_frame c.args.server.now.shape in
+    let left = g.S.Source.left c.args.source.now in
+    let rest = g.S.Source.left c.next_packet.new.source in
+    let comes : left ≡ before_taking (packet_bytes p) rest = search rules in
+    let short : length p.bytes ≤ most = search rules in
+    inl (stops-behind most p left rest (g.K.Sink.held c.args.sink.now) comes short)
+
+pub returns-then-is_err-clause-front : goal.returns-then-is_err-clause-front
+returns-then-is_err-clause-front g c = λ seats stands.
+    let p = c.in-Ok-Some.packet in
+    let most = longest_frame c.args.server.now.shape in
+    let left = g.S.Source.left c.args.source.now in
+    let rest = g.S.Source.left c.next_packet.new.source in
+    let comes : left ≡ before_taking (packet_bytes p) rest = search rules in
+    let short : length p.bytes ≤ most = search rules in
+    inl (stops-behind most p left rest (g.K.Sink.held c.args.sink.now) comes short)
