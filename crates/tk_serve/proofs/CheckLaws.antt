@@ -28,7 +28,7 @@ after-refused : (o : Option FrameError) (e : FrameError) (behind : Option Refusa
 after-refused None e behind cause memory is = absurd (cc (sym (ap of_fault memory) ∙ is))
 after-refused (Some f) e behind cause same is = ap of_fault (sym same) ∙ is
 
-after-none : (o : Option FrameError) (behind : Option Refusal) → o ≡ None → after_fault o behind ≡ behind
+pub after-none : (o : Option FrameError) (behind : Option Refusal) → o ≡ None → after_fault o behind ≡ behind
 after-none o behind none = ap (λ p. after_fault p behind) none
 
 -- where nothing is refused a test holds, and what comes behind refuses nothing
@@ -121,14 +121,14 @@ read-taken shape due bytes r found none =
 
 -- ---- any frame
 
-begins-write : (shape : Shape) (due : Due) (bytes : List ℕ) → (slice_index bytes 0 == 1) ≡ true →
+pub begins-write : (shape : Shape) (due : Due) (bytes : List ℕ) → (slice_index bytes 0 == 1) ≡ true →
     refusal_by shape due bytes ≡ write_refusal shape due bytes
 unfolding refusal_by
 begins-write shape due bytes begins =
     ap (λ b. cond b (write_refusal shape due bytes)
     (cond (is_read_kind shape (slice_index bytes 0)) (read_refusal shape due bytes) (Some refusal.Kind))) begins
 
-begins-read : (shape : Shape) (due : Due) (bytes : List ℕ) → (slice_index bytes 0 == 1) ≡ false →
+pub begins-read : (shape : Shape) (due : Due) (bytes : List ℕ) → (slice_index bytes 0 == 1) ≡ false →
     is_read_kind shape (slice_index bytes 0) ≡ true → refusal_by shape due bytes ≡ read_refusal shape due bytes
 unfolding refusal_by
 begins-read shape due bytes other begins =

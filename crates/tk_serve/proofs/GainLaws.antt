@@ -82,15 +82,28 @@ module _ (shape : Shape) (seats new : List Seat) (g h : ℕ) (on : GoesOn shape 
   told-old d = ap (λ k. told_in shape (placed_to shape seats k) (phases_over shape k) (seat_of seats d).reads) on.was
 
   -- where no phase more is over nobody is told anything
-  pub write-tells_none : phases_over shape h ≡ phases_over shape g → all_gained shape seats new ≡ []
-  write-tells_none same =
-      all_gained-none shape seats new (λ d low.
+  pub write-keeps : phases_over shape h ≡ phases_over shape g → (d : ℕ) → d < shape.clients →
+      told shape new d ≡ told shape seats d
+  write-keeps same d low =
       told-new d ∙ ap (λ n. told_in shape (placed_to shape new h) n (seat_of seats d).reads) same
       ∙ told_in-same shape (phases_over shape g) (placed_to shape seats g) (placed_to shape new h) d
       (seat_of seats d).reads same-up_to (reads-of d low)
-      ∙ sym (told-old d))
+      ∙ sym (told-old d)
+
+  pub write-tells_none : phases_over shape h ≡ phases_over shape g → all_gained shape seats new ≡ []
+  write-tells_none same = all_gained-none shape seats new (write-keeps same)
 
   -- where one is each is told what its epoch brings
+  pub write-brings : phases_over shape h ≡ phases_over shape g + 1 → (d : ℕ) → d < shape.clients →
+      told shape new d
+      ≡ told shape seats d ++ brought shape (placed_to shape new h) (phases_over shape g + 1) (seat_of seats d).reads
+  write-brings more d low =
+      let n = phases_over shape g in
+      let F = placed_to shape new h in
+      told-new d ∙ ap (λ k. told_in shape F k (seat_of seats d).reads) more
+      ∙ told_in-brought shape n (placed_to shape seats g) F d (seat_of seats d).reads same-up_to (reads-of d low)
+      ∙ ap (λ xs. xs ++ brought shape F (n + 1) (seat_of seats d).reads) (sym (told-old d))
+
   pub write-tells_epoch : phases_over shape h ≡ phases_over shape g + 1 →
       all_gained shape seats new
       ≡ flat_map (packets_brought shape new (placed_to shape new h) (phases_over shape g + 1))
@@ -101,10 +114,7 @@ module _ (shape : Shape) (seats new : List Seat) (g h : ℕ) (on : GoesOn shape 
       let F = placed_to shape new h in
       flat_map-agree (packets_gained shape seats new) (packets_brought shape new F (n + 1)) 0 shape.clients (λ d _ low.
       gain-more shape seats new d (brought shape F (n + 1) (seat_of seats d).reads)
-      (told-new d ∙ ap (λ k. told_in shape F k (seat_of seats d).reads) more
-      ∙ told_in-brought shape n (placed_to shape seats g) F d (seat_of seats d).reads same-up_to
-      (reads-of d (omega (arith, low)))
-      ∙ ap (λ xs. xs ++ brought shape F (n + 1) (seat_of seats d).reads) (sym (told-old d)))
+      (write-brings more d (omega (arith, low)))
       ∙ ap (λ rs. packets_to d (brought shape F (n + 1) rs)) (sym (on.reads d)))
 
 -- ---- a read
@@ -120,34 +130,42 @@ module _ (shape : Shape) (seats : List Seat) (c : ℕ) (r : ReadFrame) (are : Ar
       ∙ ap (λ E. told_in shape E (newest shape seats) (seat_of new d).reads)
       (read-placed seats c low shape r (turns_written shape seats))
 
-  told-others : (d : ℕ) → d ≢ c → told shape (with_read seats c r) d ≡ told shape seats d
+  pub told-others : (d : ℕ) → d ≢ c → told shape (with_read seats c r) d ≡ told shape seats d
   told-others d other =
       told-after d
       ∙ ap (λ (s : Seat). told_in shape (placed shape seats) (newest shape seats) s.reads)
       (read-other seats c low r d other)
 
   -- one whose epoch is there is answered
+  pub read-brings : length (seat_of seats c).reads < turns_read shape (newest shape seats) →
+      told shape (with_read seats c r) c
+      ≡ told shape seats c ++ told_of shape (placed shape seats) (newest shape seats) r
+  read-brings there =
+      told-after c
+      ∙ ap (λ (s : Seat). told_in shape (placed shape seats) (newest shape seats) s.reads) (read-own seats c low r)
+      ∙ told_in-more shape (placed shape seats) (newest shape seats) (seat_of seats c).reads r there
+
   pub read-tells : length (seat_of seats c).reads < turns_read shape (newest shape seats) →
       all_gained shape seats (with_read seats c r)
       ≡ packets_to c (told_of shape (placed shape seats) (newest shape seats) r)
   read-tells there =
       all_gained-one shape seats (with_read seats c r) c (told_of shape (placed shape seats) (newest shape seats) r)
       (subst (λ k. c < k) are.counted low)
-      (told-after c
-      ∙ ap (λ (s : Seat). told_in shape (placed shape seats) (newest shape seats) s.reads) (read-own seats c low r)
-      ∙ told_in-more shape (placed shape seats) (newest shape seats) (seat_of seats c).reads r there)
-      (λ d _ other. told-others d other)
+      (read-brings there) (λ d _ other. told-others d other)
 
   -- one whose epoch isn't there waits
+  pub read-keeps : turns_read shape (newest shape seats) ≤ length (seat_of seats c).reads →
+      told shape (with_read seats c r) c ≡ told shape seats c
+  read-keeps past =
+      told-after c
+      ∙ ap (λ (s : Seat). told_in shape (placed shape seats) (newest shape seats) s.reads) (read-own seats c low r)
+      ∙ told_in-waits shape (placed shape seats) (newest shape seats) (seat_of seats c).reads r past
+
   pub read-waits : turns_read shape (newest shape seats) ≤ length (seat_of seats c).reads →
       all_gained shape seats (with_read seats c r) ≡ []
   read-waits past =
       all_gained-none shape seats (with_read seats c r) (λ d _. elim (cases_eq d c) [
         | inl same ↦
-            ap (told shape (with_read seats c r)) same ∙ told-after c
-            ∙ ap (λ (s : Seat). told_in shape (placed shape seats) (newest shape seats) s.reads)
-            (read-own seats c low r)
-            ∙ told_in-waits shape (placed shape seats) (newest shape seats) (seat_of seats c).reads r past
-            ∙ ap (told shape seats) (sym same)
+            ap (told shape (with_read seats c r)) same ∙ read-keeps past ∙ ap (told shape seats) (sym same)
         | inr other ↦ told-others d other
       ])

@@ -23,3 +23,5 @@ pub mod OpenLaws
 pub mod OverLaws
 pub mod TakeLaws
 pub mod TellLaws
+pub mod PassedLaws
+pub mod GrowthLaws

@@ -25,7 +25,7 @@ empty-at : (shape : Shape) (c : ℕ) (d : Seat) → c < shape.clients → slice_
 unfolding empty_seats
 empty-at shape c d low = get_or-replicate shape.clients c empty_seat d low
 
-empty-are : (shape : Shape) → AreSeats shape (empty_seats shape)
+pub empty-are : (shape : Shape) → AreSeats shape (empty_seats shape)
 empty-are shape =
     record {
       counted = empty-counted shape;

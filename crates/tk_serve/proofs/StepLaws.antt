@@ -34,7 +34,7 @@ step-none : (shape : Shape) (seats : List Seat) (c : ℕ) (bytes : List ℕ) →
 unfolding step
 step-none shape seats c bytes none = ap (step_by shape seats c bytes) none
 
-frame-write : (shape : Shape) (seats : List Seat) (c : ℕ) (bytes : List ℕ) (w : WriteFrame) →
+pub frame-write : (shape : Shape) (seats : List Seat) (c : ℕ) (bytes : List ℕ) (w : WriteFrame) →
     (slice_index bytes 0 == 1) ≡ true → w ≡ write_in shape (drop 2 bytes) →
     with_frame shape seats c bytes ≡ with_write seats c w
 unfolding with_frame
@@ -43,7 +43,7 @@ frame-write shape seats c bytes w begins spelled =
     (with_read seats c (read_in shape bytes))) begins
     ∙ ap (with_write seats c) (sym spelled)
 
-frame-read : (shape : Shape) (seats : List Seat) (c : ℕ) (bytes : List ℕ) (r : ReadFrame) →
+pub frame-read : (shape : Shape) (seats : List Seat) (c : ℕ) (bytes : List ℕ) (r : ReadFrame) →
     (slice_index bytes 0 == 1) ≡ false → r ≡ read_in shape bytes →
     with_frame shape seats c bytes ≡ with_read seats c r
 unfolding with_frame

@@ -10,3 +10,4 @@ pub mod Stands
 pub mod Courses
 pub mod Faults
 pub mod Nexts
+pub mod Laws

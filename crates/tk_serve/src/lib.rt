@@ -8,6 +8,7 @@ mod desk;
 mod due;
 mod fault;
 mod frame_kind;
+mod laws;
 mod refusal;
 mod release;
 mod server;
@@ -18,5 +19,6 @@ mod telling;
 mod turns;
 
 pub use fault::Fault;
+pub use laws::told_grows;
 pub use refusal::Refusal;
 pub use serving::serve;
