@@ -1,7 +1,7 @@
 -- Packets are taken one after the other, and what is sent for them comes one behind the other.
-use Rattle.std.proofs.Common.{◌≡◌, refl, ap, sym, ◌∙◌, subst, arith, ℕ, suc, ◌+◌, ◌^◌, ◌≤◌}
+use Rattle.std.proofs.Common.{◌≡◌, refl, ap, sym, ◌∙◌, subst, ℕ, ◌+◌, ◌^◌, ◌≤◌}
 use Rattle.std.proofs.Common.{true, false, cond, List, [], ◌∷◌, ◌++◌}
-use Rattle.std.proofs.Common.{length, take, append_assoc, append-nil, length-append, inl, inr}
+use Rattle.std.proofs.Common.{length, take, append-nil, length-append, inl, inr}
 use Rattle.std.specs.Prelude.{Option, Some, None, option_map, Result, Ok, Err}
 use Rattle.std.specs.Simd.Lanes.{fold_l}
 use Rattle.std.proofs.lemmas.Grind.{flat_map-append}
@@ -14,35 +14,12 @@ use Rattle.tk_member.specs.declared.fault.Fault.TheVariants.{Peer, Differ, Refus
 use Rattle.tk_member.specs.Members.{MemberState, is_over}
 use Rattle.tk_member.specs.Acting.{Turned, unmoved, behind}
 use Rattle.tk_member.specs.Steps.{step}
-use Rattle.tk_member.specs.Courses.{Told, behind_if, after_packet, after_packets, Takes, IsCourse}
+use Rattle.tk_member.specs.Courses.{Told, IsShort, behind_if, after_packet, after_packets, Takes, IsCourse}
 use Rattle.tk_member.specs.Courses.{EndsBetween, EndsAt, EndsWriting, EndsFor, TookOne}
 use Rattle.tk_member.specs.Courses.{HasTaken, EndsDone, TookNone}
 use Rattle.tk_member.proofs.ActingLaws.{behind-behind, behind-none}
-
--- ---- what is left and held
-
-pub taking-none : (left : Told) → left ≡ before_taking [] left
-taking-none None = refl
-taking-none (Some rest) = refl
-
-pub taking-both : (a b : List ℕ) (left : Told) →
-    before_taking a (before_taking b left) ≡ before_taking (a ++ b) left
-taking-both a b None = refl
-taking-both a b (Some rest) = ap Some (sym (append_assoc a b rest))
-
-pub gaining-none : (held : Told) → held ≡ gained held []
-gaining-none None = refl
-gaining-none (Some held) = ap Some (sym (append-nil held))
-
-pub gaining-both : (held : Told) (a b : List ℕ) → gained (gained held a) b ≡ gained held (a ++ b)
-gaining-both None a b = refl
-gaining-both (Some held) a b = ap Some (append_assoc held a b)
-
-front-behind : (a b : List ℕ) (k : ℕ) → a ++ take k b ≡ take (length a + k) (a ++ b)
-front-behind [] b k = let here : k ≡ 0 + k = omega arith in ap (λ n. take n b) here
-front-behind (x ∷ a) b k =
-    let here : suc (length a + k) ≡ suc (length a) + k = omega arith in
-    ap (λ bs. x ∷ bs) (front-behind a b k) ∙ ap (λ n. take n (x ∷ (a ++ b))) here
+use Rattle.tk_member.proofs.Sequences.{each-append}
+use Rattle.tk_member.proofs.Streams.{taking-none, taking-both, gaining-none, gaining-both, front-behind}
 
 -- ---- packets
 
@@ -94,6 +71,7 @@ pub takes-both : (b : WordBook) (m : MemberState) (t u : Turned) (left middle re
 takes-both b m t u left middle rest first second =
     record {
       packets = first.packets ++ second.packets;
+      short = each-append IsShort first.packets second.packets first.short second.short;
       stands = both-stand b m t u first.packets second.packets first.stands second.stands;
       taken =
           first.taken
@@ -119,7 +97,7 @@ course-both b m t u left middle rest held h new first second =
 -- no packet
 pub takes-none : (b : WordBook) (m : MemberState) (left : Told) → Takes b m (unmoved m) left left
 unfolding after_packets
-takes-none b m left = record { packets = []; stands = refl; taken = taking-none left }
+takes-none b m left = record { packets = []; short = tt; stands = refl; taken = taking-none left }
 
 pub course-none : (b : WordBook) (m : MemberState) (left held : Told) →
     IsCourse b m (unmoved m) left left held held
@@ -128,12 +106,13 @@ course-none b m left held = record { takes = takes-none b m left; puts = gaining
 -- one packet
 pub takes-one : (b : WordBook) (m n : MemberState) (p : PacketView) (sent : List PacketView)
     (left rest : Told) → is_over m ≡ false → step b m p ≡ Ok (record { member = n; packets = sent }) →
-    left ≡ before_taking (packet_bytes p) rest →
+    left ≡ before_taking (packet_bytes p) rest → IsShort p →
     Takes b m (record { member = n; packets = sent }) left rest
 unfolding after_packets
-takes-one b m n p sent left rest goes steps comes =
+takes-one b m n p sent left rest goes steps comes short =
     record {
       packets = p ∷ [];
+      short = (short, tt);
       stands =
           ap (λ over. cond over None (behind_if (unmoved m) (step b m p))) goes
           ∙ ap (behind_if (unmoved m)) steps;
@@ -145,7 +124,7 @@ pub course-one : (b : WordBook) (m n : MemberState) (left rest held new : Told) 
     IsCourse b m (record { member = n; packets = one.sent }) left rest held new
 course-one b m n left rest held new goes one =
     record {
-      takes = takes-one b m n one.packet one.sent left rest goes one.steps one.comes;
+      takes = takes-one b m n one.packet one.sent left rest goes one.steps one.comes one.short;
       puts = one.puts;
     }
 
@@ -175,6 +154,7 @@ at-behind fault b m t left middle rest held h new course ends =
       goes_on = ends.goes_on;
       packet = ends.packet;
       comes = ends.comes;
+      short = ends.short;
       ends = ends.ends;
     }
 
@@ -197,6 +177,7 @@ writing-behind b m t left middle rest held h new course ends =
           (front-behind one other ends.count
           ∙ ap (take (length one + ends.count))
           (sym (flat_map-append packet_bytes t.packets ends.last.packets)));
+      few = ends.few;
     }
 
 -- a member that ends later ends

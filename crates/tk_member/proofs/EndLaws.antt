@@ -16,9 +16,10 @@ use Rattle.tk_member.specs.Faults.{fault_of_packet, fault_of_put}
 use Rattle.tk_member.specs.Members.{MemberState, is_over}
 use Rattle.tk_member.specs.Acting.{unmoved}
 use Rattle.tk_member.specs.Steps.{step, IsEnded}
-use Rattle.tk_member.specs.Courses.{Told, most_later, IsCourse, EndsBetween, EndsAt, EndsFor}
+use Rattle.tk_member.specs.Courses.{Told, most_later, IsShort, IsCourse, EndsBetween, EndsAt, EndsFor}
 use Rattle.tk_member.proofs.StepLaws.{IsOfPacket, EndsByPacket, step-ends}
-use Rattle.tk_member.proofs.CourseLaws.{gaining-none, takes-none, takes-one, course-none}
+use Rattle.tk_member.proofs.Streams.{gaining-none, takes-nothing, takes-packet}
+use Rattle.tk_member.proofs.CourseLaws.{takes-none, takes-one, course-none}
 
 -- nothing is put
 still : (b : WordBook) (m : MemberState) (left held new : Told) → new ≡ held →
@@ -27,14 +28,15 @@ still b m left held new same =
     subst (λ (x : Told). IsCourse b m (unmoved m) left left held x) (sym same) (course-none b m left held)
 
 pub ends-memory : (b : WordBook) (m : MemberState) (left rest held new : Told) → new ≡ held →
-    EndsFor Memory b m left rest held new
-ends-memory b m left rest held new same =
+    TakesAtMost (8 + most_later) left rest → EndsFor Memory b m left rest held new
+ends-memory b m left rest held new same few =
     record {
       last = unmoved m;
       middle = left;
       takes = takes-none b m left;
       count = 0;
       puts = same ∙ gaining-none held;
+      few = few;
     }
 
 between : (Fails : Told → Told → Type 0) (b : WordBook) (m : MemberState)
@@ -55,7 +57,7 @@ pub ends-untaken : (e : PacketError) (b : WordBook) (m : MemberState) (left rest
     (e ≡ packets.Long → ComesLong most_later left rest) →
     EndsFor (fault_of_packet e) b m left rest held new
 ends-untaken packets.Memory b m left rest held new same most cut long =
-    ends-memory b m left rest held new same
+    ends-memory b m left rest held new same most
 ends-untaken packets.Read b m left rest held new same most cut long =
     between _ b m left rest held new same most
 ends-untaken packets.Cut b m left rest held new same most cut long =
@@ -79,12 +81,12 @@ of-packet Older b m left rest held new is at = at
 -- a packet ends it
 pub ends-taken : (e : Fault) (b : WordBook) (m : MemberState) (p : PacketView)
     (left rest held new : Told) → is_over m ≡ false → left ≡ before_taking (packet_bytes p) rest →
-    IsEnded (step b m p) e → new ≡ held → EndsFor e b m left rest held new
-ends-taken e b m p left rest held new goes comes ended same =
+    IsShort p → IsEnded (step b m p) e → new ≡ held → EndsFor e b m left rest held new
+ends-taken e b m p left rest held new goes comes short ended same =
     elim ended [
       | inl memory ↦
           subst (λ (f : Fault). EndsFor f b m left rest held new) (sym memory)
-          (ends-memory b m left rest held new same)
+          (ends-memory b m left rest held new same (takes-packet most_later p left rest comes short))
       | inr at ↦
           of-packet e b m left rest held new (subst EndsByPacket at (step-ends b m p)) (record {
             last = unmoved m;
@@ -93,6 +95,7 @@ ends-taken e b m p left rest held new goes comes ended same =
             goes_on = goes;
             packet = p;
             comes = comes;
+            short = short;
             ends = at;
           })
     ]
@@ -100,25 +103,27 @@ ends-taken e b m p left rest held new goes comes ended same =
 -- not all that it sends is put
 pub ends-unput : (e : PutError) (b : WordBook) (m n : MemberState) (p : PacketView)
     (sent : List PacketView) (left rest held new : Told) → is_over m ≡ false →
-    left ≡ before_taking (packet_bytes p) rest →
+    left ≡ before_taking (packet_bytes p) rest → IsShort p →
     step b m p ≡ Ok (record { member = n; packets = sent }) →
     (k : ℕ) × (new ≡ gained held (take k (packets_bytes sent))) →
     EndsFor (fault_of_put e) b m left rest held new
-ends-unput puts.Memory b m n p sent left rest held new goes comes steps front =
+ends-unput puts.Memory b m n p sent left rest held new goes comes short steps front =
     record {
       last = record { member = n; packets = sent };
       middle = rest;
-      takes = takes-one b m n p sent left rest goes steps comes;
+      takes = takes-one b m n p sent left rest goes steps comes short;
       count = front.0;
       puts = front.1;
+      few = takes-nothing (8 + most_later) rest;
     }
-ends-unput puts.Write b m n p sent left rest held new goes comes steps front =
+ends-unput puts.Write b m n p sent left rest held new goes comes short steps front =
     record {
       last = record { member = n; packets = sent };
       middle = rest;
-      takes = takes-one b m n p sent left rest goes steps comes;
+      takes = takes-one b m n p sent left rest goes steps comes short;
       count = front.0;
       puts = front.1;
+      few = takes-nothing (8 + most_later) rest;
     }
 
 -- no packet ends it because its source or its sink fails

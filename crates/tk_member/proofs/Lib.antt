@@ -1,4 +1,5 @@
 pub mod Sequences
+pub mod Streams
 pub mod Marked
 pub mod Tellings
 pub mod PacingLaws

@@ -2,6 +2,7 @@
 use Rattle.std.proofs.Common.{◌≡◌, refl, ap, sym, ◌∙◌, arith, ℕ, suc, ◌+◌, ◌-◌, ◌<◌, List, [], ◌∷◌, ◌++◌}
 use Rattle.std.proofs.Common.{length, drop, get_or, append_assoc, add-one, drop-cons}
 use Rattle.std.specs.Prelude.{replicate, Option, Some, None, option_map, IfSome}
+use Rattle.std.specs.List.{AllByRecursion}
 use Rattle.tk_client.specs.declared.got.Got.{Got}
 use Rattle.tk_packets.specs.Packets.{PacketView, packet}
 use Rattle.tk_member.specs.Acting.{packets_from}
@@ -68,3 +69,9 @@ pub all-sized : {X : Type 0} (xs : List (Option X)) →
 all-sized [] = refl
 all-sized (None ∷ xs) = tt {0}
 all-sized (Some x ∷ xs) = one-sized x (length xs) (all_of xs) (all-sized xs)
+
+-- what each element of two lists has each of both has
+pub each-append : {X : Type 0} (P : X → Type 0) (xs ys : List X) → AllByRecursion P xs → AllByRecursion P ys →
+    AllByRecursion P (xs ++ ys)
+each-append P [] ys one other = other
+each-append P (x ∷ xs) ys one other = (one.0, each-append P xs ys one.1 other)

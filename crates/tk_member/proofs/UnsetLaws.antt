@@ -1,5 +1,5 @@
 -- How a member ends that no packet set up.
-use Rattle.std.proofs.Common.{◌≡◌, sym, ◌∙◌, subst, arith, ◌+◌, ◌≤◌, ◌⊎◌}
+use Rattle.std.proofs.Common.{◌≡◌, sym, ◌∙◌, subst, ◌≤◌, ◌⊎◌}
 use Rattle.std.proofs.Common.{length, inl, inr}
 use Rattle.std.specs.Prelude.{Err}
 use Rattle.tk_io.specs.Content.{before_taking}
@@ -10,10 +10,7 @@ use Rattle.tk_member.specs.declared.fault.Fault.TheVariants.{Memory, Setup}
 use Rattle.tk_member.specs.Members.{MemberState}
 use Rattle.tk_member.specs.SetUp.{IsSetUp}
 use Rattle.tk_member.specs.Courses.{Told, most_first, EndsUnset}
-
-length-packet : (p : PacketView) → length (packet_bytes p) ≡ 8 + length p.bytes
-unfolding packet_bytes
-length-packet p = omega arith
+use Rattle.tk_member.proofs.Streams.{takes-packet}
 
 -- it sets no member up
 pub unset-refused : (T : Type 0) (e : Fault) (first : PacketView) (left rest : Told) →
@@ -24,15 +21,13 @@ pub unset-refused : (T : Type 0) (e : Fault) (first : PacketView) (left rest : T
 unset-refused T e first left rest comes few either only =
     elim either [
       | inl memory ↦
-          subst (λ (f : Fault). EndsUnset {T = T} (Err f) left rest) (sym memory) (record {
-            taken = packet_bytes first;
-            front = comes;
-            few = omega (arith, length-packet first, few);
-          })
+          subst (λ (f : Fault). EndsUnset {T = T} (Err f) left rest) (sym memory)
+          (takes-packet most_first first left rest comes few)
       | inr setup ↦
           subst (λ (f : Fault). EndsUnset {T = T} (Err f) left rest) (sym setup) (record {
             first = first;
             comes = comes;
+            short = few;
             other = λ b m is. let other : Setup ≡ Memory = sym setup ∙ only b m is in cc;
           })
     ]

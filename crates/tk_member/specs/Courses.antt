@@ -1,6 +1,7 @@
 -- What a member took and sent, until it ended.
 use Rattle.std.specs.Prelude.{◌≡◌, ℕ, ◌+◌, ◌^◌, ◌≤◌, ◌⊎◌, Bool, true, false, cond, List, []}
 use Rattle.std.specs.Prelude.{length, take, Option, Some, None, Result, Ok, Err}
+use Rattle.std.specs.List.{AllByRecursion}
 use Rattle.std.specs.Simd.Lanes.{fold_l}
 use Rattle.tk_io.specs.Content.{before_taking, emptied, gained}
 use Rattle.tk_words.specs.Words.{WordBook}
@@ -25,6 +26,10 @@ most_first = 4 + 8388608
 abbrev pub most_later : ℕ
 most_later = 65536
 
+-- one behind the first is no longer
+abbrev pub IsShort : PacketView → Type 0
+IsShort p = length p.bytes ≤ most_later
+
 -- ---- packets one after the other
 
 abbrev pub behind_if : Turned → Result Turned Fault → Option Turned
@@ -43,6 +48,7 @@ after_packets b m packets = fold_l (after_packet b) (Some (unmoved m)) packets
 -- packets were taken, after which the member stands so
 pub record Takes (b : WordBook) (m : MemberState) (t : Turned) (left middle : Told) : Type 0 where
   pub packets : List PacketView
+  pub short : AllByRecursion IsShort packets
   pub stands : after_packets b m packets ≡ Some t
   pub taken : left ≡ before_taking (packets_bytes packets) middle
 
@@ -81,15 +87,17 @@ pub record EndsAt (fault : Fault) (b : WordBook) (m : MemberState) (left rest he
   pub goes_on : is_over last.member ≡ false
   pub packet : PacketView
   pub comes : middle ≡ before_taking (packet_bytes packet) rest
+  pub short : IsShort packet
   pub ends : step b last.member packet ≡ Err fault
 
--- a front of what it sends was put
+-- a front of what it sends was put, and no more than a packet was taken besides
 pub record EndsWriting (b : WordBook) (m : MemberState) (left rest held new : Told) : Type 0 where
   pub last : Turned
   pub middle : Told
   pub takes : Takes b m last left middle
   pub count : ℕ
   pub puts : new ≡ gained held (take count (packets_bytes last.packets))
+  pub few : TakesAtMost (8 + most_later) middle rest
 
 -- how a member that is set up ends for a fault
 abbrev pub EndsFor : Fault → WordBook → MemberState → Told → Told → Told → Told → Type 0
@@ -125,6 +133,7 @@ pub record HasTaken (count : ℕ) (b : WordBook) (m n : MemberState) (left rest 
 pub record TookOne (b : WordBook) (m n : MemberState) (left rest held new : Told) : Type 0 where
   pub packet : PacketView
   pub comes : left ≡ before_taking (packet_bytes packet) rest
+  pub short : IsShort packet
   pub sent : List PacketView
   pub steps : step b m packet ≡ Ok (record { member = n; packets = sent })
   pub puts : new ≡ gained held (packets_bytes sent)
@@ -149,6 +158,7 @@ TakesNext (Err fault) b m n left rest held new = EndsFor fault b m left rest hel
 pub record IsNoSetup (left rest : Told) : Type 0 where
   pub first : PacketView
   pub comes : left ≡ before_taking (packet_bytes first) rest
+  pub short : length first.bytes ≤ most_first
   pub other : (b : WordBook) (m : MemberState) → IsSetUp first b m → ⊥
 
 -- no member was set up
@@ -172,6 +182,7 @@ pub record TookPart {T : Type 0} (result : Result T Fault) (left rest held new :
     pub words : WordBook
     pub member : MemberState
     pub sets : IsSetUp first words member
+    pub short : length first.bytes ≤ most_first
     pub middle : Told
     pub comes : left ≡ before_taking (packet_bytes first) middle
     pub ends : Ends result words member middle rest held new

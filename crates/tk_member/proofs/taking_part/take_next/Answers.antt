@@ -1,10 +1,11 @@
 -- How it ends at the next packet.
-use Rattle.std.proofs.Common.{◌≡◌, ◌∙◌, ap, refl, subst, rules, List, ℕ, Err, take}
-use Rattle.std.specs.Prelude.{Option}
+use Rattle.std.proofs.Common.{◌≡◌, ◌≤◌, ◌∙◌, ap, refl, subst, rules, List, ℕ, Err, length, take}
+use Rattle.std.specs.Prelude.{Option, IfSome}
 use Rattle.tk_io.specs.Content.{before_taking, gained}
 use Rattle.tk_words.specs.Words.{keyed}
 use Rattle.tk_packets.specs.Packets.{PacketView, packet_bytes, packets_bytes, spelling}
 use Rattle.tk_member.specs.declared.fault.Fault.TheVariants.{Read, Write}
+use Rattle.tk_member.specs.Courses.{most_later}
 use Rattle.tk_member.specs.Faults.{fault_of_packet, fault_of_put}
 use Rattle.tk_member.proofs.EndLaws.{ends-untaken, ends-taken, ends-unput, never-reads, never-writes, same-fault}
 use Rattle.tk_member.proofs.taking_part.take_next.Goals as goal
@@ -32,10 +33,14 @@ returns-in_err-sent-clause-next g c =
     c.in_ok-packet.ensures.found
     ∙ ap (λ (o : Option PacketView). before_taking (spelling o) rest) c.in-Some.is
     in
+    let short : length p.bytes ≤ most_later =
+    subst (λ (o : Option PacketView). IfSome o (λ q. length q.bytes ≤ most_later)) c.in-Some.is
+    c.in_ok-packet.ensures.within
+    in
     let out : c.from_residual-in_err-sent.result ≡ Err e = search rules in
     rw out
     (ends-taken e b c.args.member.now p left rest held held c.requires.goes_on comes
-    c.in_err-sent.ensures.ended refl)
+    short c.in_err-sent.ensures.ended refl)
 
 pub returns-in_err-sent-clause-read : goal.returns-in_err-sent-clause-read
 returns-in_err-sent-clause-read g c = λ is.
@@ -71,6 +76,10 @@ returns-in_err-put_packets-clause-next g c =
     c.in_ok-packet.ensures.found
     ∙ ap (λ (o : Option PacketView). before_taking (spelling o) rest) c.in-Some.is
     in
+    let short : length p.bytes ≤ most_later =
+    subst (λ (o : Option PacketView). IfSome o (λ q. length q.bytes ≤ most_later)) c.in-Some.is
+    c.in_ok-packet.ensures.within
+    in
     let front : (k : ℕ) × (new ≡ gained held (take k (packets_bytes sent))) =
     subst (λ (ps : List PacketView). (k : ℕ) × (new ≡ gained held (take k (packets_bytes ps))))
     c.as_slice.ensures.value c.in_err-put_packets.ensures.err
@@ -78,4 +87,4 @@ returns-in_err-put_packets-clause-next g c =
     let out : c.from_residual-in_err-put_packets.result ≡ Err (fault_of_put e) = search rules in
     rw out
     (ends-unput e b c.args.member.now c.take.new.self p sent left rest held new c.requires.goes_on
-    comes c.in_ok-sent.ensures.sent front)
+    comes short c.in_ok-sent.ensures.sent front)

@@ -38,6 +38,9 @@ returns-clause-part g c =
       words = keyed c.in_ok-member.draws.handles.items c.in_ok-member.draws.seeds.items;
       member = c.in_ok-member.member;
       sets = c.in_ok-member.ensures.found;
+      short =
+          subst (λ (o : Option PacketView). IfSome o (λ p. length p.bytes ≤ most_first)) c.in-Some.is
+          c.in_ok-first.ensures.within;
       middle = rest;
       comes =
           c.in_ok-first.ensures.found
