@@ -6,7 +6,7 @@ use Rattle.tk_shape.specs.declared.shape.Shape.{Shape}
 use Rattle.tk_packets.specs.Packets.{PacketView, packet_bytes, packets_bytes, EndsWithin, ComesLong, TakesAtMost}
 use Rattle.tk_serve.specs.Seats.{empty_seats}
 use Rattle.tk_serve.specs.Steps.{IsOfClient, answers, seats_after, IsOver}
-use Rattle.tk_serve.specs.Setup.{setup, longest_frame}
+use Rattle.tk_serve.specs.Setup.{setup, setup_len, longest_frame}
 
 -- what a source has left, and a sink holds, where they tell it
 abbrev pub Told : Type 0
@@ -123,7 +123,7 @@ pub record NothingCame (left middle held new : Told) : Type 0 where
 pub record IsNoSetup (left rest held new : Told) : Type 0 where
   pub first : PacketView
   pub comes : left ≡ before_taking (packet_bytes first) rest
-  pub short : length first.bytes ≤ 52
+  pub short : length first.bytes ≤ setup_len
   pub other : (shape : Shape) → first ≡ setup shape → ⊥
   pub unchanged : new ≡ held
 
@@ -138,9 +138,9 @@ pub record StopsWithin (most : ℕ) (left rest held new : Told) : Type 0 where
 
 -- the first packet was cut, or longer than one that sets a server up
 pub record CutFirst (left rest held new : Told) : Type 0 where
-  pub cut : EndsWithin 52 left rest
+  pub cut : EndsWithin setup_len left rest
   pub unchanged : IsStill held new
 
 pub record LongFirst (left rest held new : Told) : Type 0 where
-  pub long : ComesLong 52 left rest
+  pub long : ComesLong setup_len left rest
   pub unchanged : IsStill held new

@@ -10,6 +10,10 @@ use Rattle.tk_packets.specs.Packets.{PacketView, packet}
 unfoldable pub setup_bytes : Shape → List ℕ
 setup_bytes shape = flat_map be32 (format_and_numbers shape)
 
+-- thirteen numbers of four bytes each
+abbrev pub setup_len : ℕ
+setup_len = 52
+
 -- peer 0 is the server's own host
 abbrev pub setup : Shape → PacketView
 setup shape = packet 0 (setup_bytes shape)

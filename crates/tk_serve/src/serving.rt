@@ -3,7 +3,7 @@ ghost use Rattle.std.specs.Prelude.{◌≡◌, ◌+◌, ◌≤◌, ◌⊎◌, Li
 ghost use Rattle.tk_io.specs.Content.{Rose};
 ghost use Rattle.tk_serve.specs.Courses.{SetUpThen, NothingCame, IsNoSetup, RanDone, RanCut, RanLong, RanPeer};
 ghost use Rattle.tk_serve.specs.Courses.{RanRead, RanFront, CutFirst, LongFirst, StopsWithin};
-ghost use Rattle.tk_serve.specs.Setup.{longest_frame as longest};
+ghost use Rattle.tk_serve.specs.Setup.{setup_len, longest_frame as longest};
 ghost use Rattle.tk_serve.specs.Nexts.{TakesNext, TakesNextFront, NoneNext, CutNext, LongNext, StrangerNext};
 ghost use Rattle.tk_serve.specs.Seats.{Seat, empty_seats};
 ghost use Rattle.tk_serve.specs.Stands.{Stands, Serves};
@@ -36,11 +36,11 @@ pub fn serve<S: Source, K: Sink>(alloc: Global, source: &mut S, sink: &mut K) ->
         → SetUpThen (λ shape middle. RanPeer shape middle (S.left source.new) (K.held sink.old) (K.held sink.new))
         (S.left source.old) }
     ensures front { OnErr result (
-        StopsWithin (8 + 52) (S.left source.old) (S.left source.new) (K.held sink.old) (K.held sink.new)
+        StopsWithin (8 + setup_len) (S.left source.old) (S.left source.new) (K.held sink.old) (K.held sink.new)
         ⊎ SetUpThen (λ shape middle. RanFront shape middle (S.left source.new) (K.held sink.old) (K.held sink.new))
         (S.left source.old)) }
     ensures whole { result ≡ Err Fault.Read
-        → StopsWithin (8 + 52) (S.left source.old) (S.left source.new) (K.held sink.old) (K.held sink.new)
+        → StopsWithin (8 + setup_len) (S.left source.old) (S.left source.new) (K.held sink.old) (K.held sink.new)
         ⊎ SetUpThen (λ shape middle. RanRead shape middle (S.left source.new) (K.held sink.old) (K.held sink.new))
         (S.left source.old) }
     ensures read { result ≡ Err Fault.Read → Rose (S.faults source.old) (S.faults source.new) }
