@@ -1,25 +1,13 @@
 -- A run from its first packet on.
-use Rattle.std.proofs.Common.{◌≡◌, ℕ, ◌≤◌, length, inl, inr, [], refl, ap, sym, ◌∙◌, subst, arith}
-use Rattle.tk_io.specs.Content.{Rose, before_taking, emptied}
+use Rattle.std.proofs.Common.{◌≡◌, ℕ, ◌≤◌, inl, inr, ap, sym, ◌∙◌, subst, arith}
+use Rattle.tk_io.specs.Content.{Rose, before_taking}
 use Rattle.tk_shape.specs.declared.shape.Shape.{Shape}
 use Rattle.tk_packets.specs.Packets.{PacketView, packet_bytes}
 use Rattle.tk_serve.specs.declared.server.Server.{Server}
 use Rattle.tk_serve.specs.Seats.{empty_seats}
 use Rattle.tk_serve.specs.Setup.{setup}
 use Rattle.tk_serve.specs.Stands.{Stands}
-use Rattle.tk_serve.specs.Courses.{Told, NothingCame, IsNoSetup, SetUpThen}
-use Rattle.tk_serve.proofs.CourseLaws.{nothing-kept}
-
-pub nothing-came : (left rest held : Told) → left ≡ before_taking [] rest → rest ≡ emptied left →
-    NothingCame left rest held held
-nothing-came left rest held none end =
-    let same = nothing-kept left rest none in
-    record { empty = same ∙ end; kept = sym same; unchanged = refl }
-
-pub no-setup : (first : PacketView) (left rest held : Told) → left ≡ before_taking (packet_bytes first) rest →
-    length first.bytes ≤ 52 → ((shape : Shape) → first ≡ setup shape → ⊥) → IsNoSetup left rest held held
-no-setup first left rest held comes short other =
-    record { first = first; comes = comes; short = short; other = other; unchanged = refl }
+use Rattle.tk_serve.specs.Courses.{Told, SetUpThen}
 
 -- The first packet set a server up.
 module _ (shape : Shape) (first : PacketView) (s : Server) (left middle : Told) (is : first ≡ setup shape)

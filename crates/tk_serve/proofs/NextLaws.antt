@@ -1,8 +1,8 @@
 -- What becomes of the next packet, from the calls that take it and put what goes out.
-use Rattle.std.proofs.Common.{◌≡◌, ℕ, ◌+◌, ◌-◌, ◌≤◌, List, [], length, take, refl, ap, ap₂, ◌∙◌, subst, arith, false}
+use Rattle.std.proofs.Common.{◌≡◌, ℕ, ◌+◌, ◌-◌, ◌≤◌, List, length, take, refl, ap, ap₂, ◌∙◌, subst, arith, false}
 use Rattle.std.specs.Prelude.{Result, Ok, Err, OnOk}
 use Rattle.std.specs.Result.{is_err}
-use Rattle.tk_io.specs.Content.{before_taking, emptied, gained}
+use Rattle.tk_io.specs.Content.{before_taking, gained}
 use Rattle.tk_shape.specs.declared.shape.Shape.{Shape}
 use Rattle.tk_packets.specs.Packets.{PacketView, packet_bytes, packets_bytes, TakesAtMost}
 use Rattle.tk_serve.specs.declared.server.Server.{Server}
@@ -10,14 +10,7 @@ use Rattle.tk_serve.specs.Seats.{Seat}
 use Rattle.tk_serve.specs.Steps.{Step, step, step_on}
 use Rattle.tk_serve.specs.Stands.{Stands}
 use Rattle.tk_serve.specs.Courses.{Told, IsShort, StopsWithin}
-use Rattle.tk_serve.specs.Nexts.{TakesNext, TakesNextFront, NoneNext}
-use Rattle.tk_serve.proofs.CourseLaws.{nothing-kept}
-
-pub none-next : (left rest held : Told) → left ≡ before_taking [] rest → rest ≡ emptied left →
-    NoneNext left rest held held
-none-next left rest held none end =
-    let same = nothing-kept left rest none in
-    record { all = same; empty = end ∙ ap emptied same; unchanged = refl }
+use Rattle.tk_serve.specs.Nexts.{TakesNext, TakesNextFront}
 
 length-packet : (p : PacketView) → length (packet_bytes p) ≡ 8 + length p.bytes
 unfolding packet_bytes
