@@ -1,0 +1,13 @@
+pub mod Canonical
+pub mod Pace
+pub mod Standing
+pub mod Course
+pub mod telling
+pub mod servers
+pub mod hidden
+pub mod courses
+pub mod members
+pub mod examples
+pub mod own
+pub mod gotten
+pub mod scripts

@@ -1,0 +1,6 @@
+pub mod Growing
+pub mod ByLog
+pub mod Telling
+pub mod Aiming
+pub mod Finding
+pub mod Delivering

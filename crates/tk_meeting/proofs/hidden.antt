@@ -1,0 +1,8 @@
+pub mod Cells
+pub mod SameFrames
+pub mod Unsaid
+pub mod SameStreams
+pub mod Outlines
+pub mod SameOutlines
+pub mod LookAlike
+pub mod Kept

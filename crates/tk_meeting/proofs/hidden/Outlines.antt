@@ -1,0 +1,158 @@
+-- The kinds and lengths of frames, which the shape gives.
+use Rattle.std.proofs.Common.{◌≡◌, ℕ, ◌+◌, ◌≤◌, ◌<◌, Bool, true, false, cond, List}
+use Rattle.std.proofs.Common.{length, refl, ap, sym, ◌∙◌, subst, arith, length-append, le_trans, div-mul-le_self}
+use Rattle.std.proofs.Common.{le_of_mul-le-mul_right, []}
+use Rattle.std.specs.Prelude.{slice_index, ◌==◌, nat_lt, ◌&&◌, flat_map}
+use Rattle.std.proofs.lemmas.List.{length-map, get_or_default}
+use Rattle.std.proofs.lemmas.List.Elements.{recursion_from_All}
+use Rattle.tk_shape.specs.declared.shape.Shape.{Shape}
+use Rattle.tk_shape.specs.Lengths.{turn_count, width, reply_len}
+use Rattle.tk_kernel.specs.Pieces.{AllSized}
+use Rattle.tk_kernel.specs.Chosen.{chosen_sum}
+use Rattle.tk_bits.proofs.Offers.{length-chosen_sum}
+use Rattle.tk_schedule.specs.Schedule.{epoch_at, phases_over}
+use Rattle.tk_schedule.proofs.Offers.{serial-IsLegal}
+use Rattle.tk_script.specs.declared.script.Script.{Script}
+use Rattle.tk_words.specs.Words.{WordBook, IsBook, words_of, shows_vectors}
+use Rattle.tk_frames.specs.declared.read_frame.ReadFrame.{ReadFrame}
+use Rattle.tk_frames.specs.declared.seeds.Seeds.TheVariants.{Plain, Seeded, Shown}
+use Rattle.tk_frames.specs.Order.{Record, before}
+use Rattle.tk_frames.specs.Slots.{slot_bytes}
+use Rattle.tk_frames.specs.Faults.{read_len_of}
+use Rattle.tk_frames.specs.Spelling.{read_kind, read_frame}
+use Rattle.tk_frames.specs.Ranges.{IsRead}
+use Rattle.tk_frames.proofs.ReadLaws.{length-read_frame}
+use Rattle.tk_table.specs.Table.{layout, blocks_of}
+use Rattle.tk_table.proofs.Offers.{layout-read_back, layout-laid_out}
+use Rattle.tk_client.specs.Asked.{seeds_told, frame_with}
+use Rattle.tk_client.proofs.InRangeLaws.{frame-in_range}
+use Rattle.tk_report.specs.Exchange.{read_at, read_pair}
+use Rattle.tk_report.proofs.Offers.{epochs-ordered, epochs-storable}
+use Rattle.tk_serve.specs.Told.{reply_told}
+use Rattle.tk_meeting.specs.Hidden.{outline}
+use Rattle.tk_meeting.proofs.Canonical.{serial, whole, read_from}
+
+-- ---- replies
+
+-- each block of an epoch has the width of the shape's blocks
+blocks-sized : (S : Script) (b : WordBook) (e : ℕ) → IsBook S.shape b →
+    AllSized (width S.shape) (blocks_of (layout S.shape (before (whole S b) e)))
+blocks-sized S b e served =
+    let shape = S.shape in
+    let R : List Record = before (whole S b) e in
+    let ordered = epochs-ordered S b (serial S) e in
+    let storable = epochs-storable S b (serial S) e served (serial-IsLegal S.shape) in
+    let wide = (layout-laid_out shape R ordered).wide in
+    let count = length-map (layout shape R) (flat_map slot_bytes) in
+    recursion_from_All (λ (v : List ℕ). length v ≡ width shape) (blocks_of (layout shape R)) (λ i d low.
+    ap length (get_or_default (blocks_of (layout shape R)) i d [] low)
+    ∙ (layout-read_back shape R i ordered storable (omega (arith, low, count, wide))).long)
+
+-- the sum of the blocks that a vector chooses has it too
+sum-long : (S : Script) (b : WordBook) (e : ℕ) (vector : List ℕ) → IsBook S.shape b →
+    length (chosen_sum (width S.shape) (blocks_of (layout S.shape (before (whole S b) e))) vector)
+    ≡ width S.shape
+sum-long S b e vector served =
+    length-chosen_sum (width S.shape) (blocks_of (layout S.shape (before (whole S b) e))) vector
+    (blocks-sized S b e served)
+
+-- a reply of a server to any read
+pub length-reply : (S : Script) (b : WordBook) (r : ReadFrame) → IsBook S.shape b →
+    length (reply_told S.shape (whole S b) r) ≡ reply_len S.shape
+unfolding reply_told
+length-reply S b r served =
+    let blocks = blocks_of (layout S.shape (before (whole S b) r.epoch)) in
+    let first = chosen_sum (width S.shape) blocks r.first in
+    let second = chosen_sum (width S.shape) blocks r.second in
+    omega (
+      arith,
+      length-append first second,
+      sum-long S b r.epoch r.first served,
+      sum-long S b r.epoch r.second served,
+    )
+
+-- the two parts of an outline
+outline-is : (a b : List ℕ) → slice_index a 0 ≡ slice_index b 0 → length a ≡ length b →
+    outline a ≡ outline b
+outline-is a b kinds lengths = λ i. (kinds i, lengths i)
+
+kind-reply : (S : Script) (b : WordBook) (r : ReadFrame) →
+    slice_index (reply_told S.shape (whole S b) r) 0 ≡ 3
+unfolding reply_told
+kind-reply S b r = refl
+
+pub same-reply : (A B : Script) (b d : WordBook) (r s : ReadFrame) → A.shape ≡ B.shape →
+    IsBook A.shape b → IsBook B.shape d →
+    outline (reply_told A.shape (whole A b) r) ≡ outline (reply_told B.shape (whole B d) s)
+same-reply A B b d r s shapes served serves =
+    outline-is (reply_told A.shape (whole A b) r) (reply_told B.shape (whole B d) s)
+    (kind-reply A b r ∙ sym (kind-reply B d s))
+    (length-reply A b r served ∙ ap reply_len shapes ∙ sym (length-reply B d s serves))
+
+-- ---- reads
+
+-- the kind of a server's reads
+abbrev kind_to : Shape → Bool → ℕ → ℕ
+kind_to shape shows j = read_kind (seeds_told shape shows j [])
+
+kind-told : (shows told : Bool) (s t : List ℕ) →
+    read_kind (cond told (cond shows (Shown s) (Seeded s)) Plain)
+    ≡ read_kind (cond told (cond shows (Shown t) (Seeded t)) Plain)
+kind-told true true s t = refl
+kind-told false true s t = refl
+kind-told shows false s t = refl
+
+kind-read : (S : Script) (b : WordBook) (c j g : ℕ) →
+    read_kind (read_from S b c j g).seeds ≡ kind_to S.shape (shows_vectors b) j
+unfolding read_at frame_with
+kind-read S b c j g =
+    kind-told (shows_vectors b) (nat_lt j S.shape.servers && S.shape.format == 2) _ []
+
+-- no epoch is read that has no phase
+epoch-most : (S : Script) (g c : ℕ) → g < turn_count S.shape → c < S.shape.clients →
+    epoch_at (serial S) g c ≤ S.shape.phases
+epoch-most S g c low client_in =
+    let ahead = ((serial-IsLegal S.shape).each_turn g low).none_ahead c client_in in
+    let most : phases_over S.shape (g + 1) ≤ S.shape.phases =
+    le_of_mul-le-mul_right
+    (le_trans (div-mul-le_self (g + 1) S.shape.ticks) (omega (arith, low)))
+    S.shape.in_range.ticks_low
+    in
+    omega (arith, ahead, most)
+
+pub read-in_range : (S : Script) (b : WordBook) (c j g : ℕ) → IsBook S.shape b → 1 ≤ j →
+    j ≤ S.shape.servers → g < turn_count S.shape → c < S.shape.clients →
+    IsRead S.shape (read_from S b c j g)
+unfolding read_at
+read-in_range S b c j g served low high turn client =
+    frame-in_range S.shape b g c (epoch_at (serial S) g c)
+    (read_pair S (words_of S.shape b) (serial S) g c) served turn client j low high
+    (epoch-most S g c turn client)
+
+length-read : (S : Script) (b : WordBook) (c j g : ℕ) → IsBook S.shape b → 1 ≤ j →
+    j ≤ S.shape.servers → g < turn_count S.shape → c < S.shape.clients →
+    length (read_frame (read_from S b c j g))
+    ≡ read_len_of S.shape (kind_to S.shape (shows_vectors b) j)
+length-read S b c j g served low high turn client =
+    length-read_frame S.shape (read_from S b c j g) (read-in_range S b c j g served low high turn client)
+    ∙ ap (read_len_of S.shape) (kind-read S b c j g)
+
+module _ (A B : Script) (b d : WordBook) (shapes : A.shape ≡ B.shape)
+    (shows : shows_vectors b ≡ shows_vectors d) (served : IsBook A.shape b)
+    (serves : IsBook B.shape d) where
+  same-kind : (j : ℕ) → kind_to A.shape (shows_vectors b) j ≡ kind_to B.shape (shows_vectors d) j
+  same-kind j = λ i. kind_to (shapes i) (shows i) j
+
+  pub same-read_outline : (c j g : ℕ) → 1 ≤ j → j ≤ A.shape.servers → g < turn_count A.shape →
+      c < A.shape.clients →
+      outline (read_frame (read_from A b c j g)) ≡ outline (read_frame (read_from B d c j g))
+  same-read_outline c j g low high turn client =
+      let kinds = same-kind j in
+      outline-is (read_frame (read_from A b c j g)) (read_frame (read_from B d c j g))
+      (kind-read A b c j g ∙ kinds ∙ sym (kind-read B d c j g))
+      (length-read A b c j g served low high turn client
+      ∙ (λ i. read_len_of (shapes i) (kinds i))
+      ∙ sym (length-read B d c j g serves low
+      (subst (λ (shape : Shape). j ≤ shape.servers) shapes high)
+      (subst (λ (shape : Shape). g < turn_count shape) shapes turn)
+      (subst (λ (shape : Shape). c < shape.clients) shapes client)))

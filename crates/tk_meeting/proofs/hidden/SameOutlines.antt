@@ -1,0 +1,78 @@
+-- The kinds and lengths of frames on a link, where two scripts have each client write the same.
+use Rattle.std.proofs.Common.{◌≡◌, ℕ, zero, suc, ◌+◌, ◌≤◌, ◌<◌, min, List, [], ◌∷◌, ◌++◌, map, drop, flat_map}
+use Rattle.std.proofs.Common.{refl, ap, ap₂, sym, ◌∙◌, arith}
+use Rattle.std.specs.List.{range_with_len}
+use Rattle.std.proofs.lemmas.List.{map-append}
+use Rattle.tk_shape.specs.declared.shape.Shape.{Shape}
+use Rattle.tk_shape.specs.Lengths.{turn_count}
+use Rattle.tk_script.specs.declared.script.Script.{Script}
+use Rattle.tk_words.specs.Words.{WordBook, IsBook, shows_vectors}
+use Rattle.tk_frames.specs.Spelling.{write_frame}
+use Rattle.tk_frames.specs.declared.write_frame.WriteFrame.{WriteFrame}
+use Rattle.tk_serve.specs.Told.{closing_told, turns_read}
+use Rattle.tk_meeting.specs.Hidden.{outline}
+use Rattle.tk_meeting.proofs.Canonical.{read_from, whole, told_in_turn, stream}
+use Rattle.tk_meeting.proofs.Pace.{Kind, Wrote, Asked}
+use Rattle.tk_meeting.proofs.Standing.{frames_of}
+use Rattle.tk_meeting.proofs.servers.Places.{read-turn}
+use Rattle.tk_meeting.proofs.hidden.SameStreams.{WriteAlike, AreOfRun, same-whole}
+use Rattle.tk_meeting.proofs.hidden.Outlines.{same-reply, same-read_outline}
+
+pub outlines-drop : (n : ℕ) (xs ys : List (List ℕ)) → map outline xs ≡ map outline ys →
+    map outline (drop n xs) ≡ map outline (drop n ys)
+outlines-drop n xs ys same = dropped n xs ∙ ap (drop n) same ∙ sym (dropped n ys)
+  where
+    dropped : (n : ℕ) (xs : List (List ℕ)) → map outline (drop n xs) ≡ drop n (map outline xs)
+    dropped zero xs = refl
+    dropped (suc n) [] = refl
+    dropped (suc n) (x ∷ xs) = dropped n xs
+
+outlines-flat : (f h : ℕ → List (List ℕ)) (a n : ℕ) →
+    ((k : ℕ) → k < a + n → map outline (f k) ≡ map outline (h k)) →
+    map outline (flat_map f (range_with_len a n)) ≡ map outline (flat_map h (range_with_len a n))
+outlines-flat f h a zero same = refl
+outlines-flat f h a (suc n) same =
+    map-append outline (f a) (flat_map f (range_with_len (a + 1) n))
+    ∙ ap₂ (λ (xs ys : List (ℕ × ℕ)). xs ++ ys) (same a (omega arith))
+    (outlines-flat f h (a + 1) n (λ k low. same k (omega (arith, low))))
+    ∙ sym (map-append outline (h a) (flat_map h (range_with_len (a + 1) n)))
+
+module _ (A B : Script) (b d : WordBook) (w : WriteAlike A B b d)
+    (shows : shows_vectors b ≡ shows_vectors d) (served : IsBook A.shape b)
+    (serves : IsBook B.shape d) where
+  same-closing : (c j n g : ℕ) →
+      closing_told A.shape (whole A b) n (read_from A b c j g).turn
+      ≡ closing_told B.shape (whole B d) n (read_from B d c j g).turn
+  same-closing c j n g =
+      ap (closing_told A.shape (whole A b) n) (read-turn A b c j g ∙ sym (read-turn B d c j g))
+      ∙ (λ i. closing_told (w.shapes i) (same-whole A B b d w i) n (read_from B d c j g).turn)
+
+  same-told : (c j n g : ℕ) →
+      map outline (told_in_turn A b c j n g) ≡ map outline (told_in_turn B d c j n g)
+  same-told c j n g =
+      ap₂ (λ (x : ℕ × ℕ) (xs : List (List ℕ)). x ∷ map outline xs)
+      (same-reply A B b d (read_from A b c j g) (read_from B d c j g) w.shapes served serves)
+      (same-closing c j n g)
+
+  pub stream-outlines : (c j n k : ℕ) →
+      map outline (stream A b c j n k) ≡ map outline (stream B d c j n k)
+  unfolding stream
+  stream-outlines c j n k =
+      outlines-flat (told_in_turn A b c j n) (told_in_turn B d c j n) 0 (min k (turns_read A.shape n))
+      (λ g low. same-told c j n g)
+      ∙ ap (λ (shape : Shape). map outline (flat_map (told_in_turn B d c j n)
+      (range_with_len 0 (min k (turns_read shape n))))) w.shapes
+
+  pub frames-outlines : (c j g k : ℕ) (kinds : List Kind) → 1 ≤ j → j ≤ A.shape.servers →
+      c < A.shape.clients → AreOfRun (turn_count A.shape) g k kinds →
+      map outline (frames_of A b c j g k kinds) ≡ map outline (frames_of B d c j g k kinds)
+  unfolding frames_of
+  frames-outlines c j g k [] low high client turns = refl
+  frames-outlines c j g k (Wrote ∷ kinds) low high client turns =
+      ap₂ (λ (x : WriteFrame) (xs : List (ℕ × ℕ)). outline (write_frame x) ∷ xs)
+      (w.writes g c turns.0 client)
+      (frames-outlines c j (g + 1) k kinds low high client turns.1)
+  frames-outlines c j g k (Asked ∷ kinds) low high client turns =
+      ap₂ (λ (x : ℕ × ℕ) (xs : List (ℕ × ℕ)). x ∷ xs)
+      (same-read_outline A B b d w.shapes shows served serves c j k low high turns.0 client)
+      (frames-outlines c j g (k + 1) kinds low high client turns.1)

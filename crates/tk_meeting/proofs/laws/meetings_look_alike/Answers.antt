@@ -1,0 +1,5 @@
+use Rattle.tk_meeting.proofs.courses.Together.{meetings-look-alike}
+use Rattle.tk_meeting.proofs.laws.meetings_look_alike.Goals as goal
+
+pub returns : goal.returns
+returns c = meetings-look-alike

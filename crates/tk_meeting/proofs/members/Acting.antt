@@ -1,0 +1,205 @@
+-- What a member does when it acts is what is due at its pace.
+use Rattle.std.proofs.Common.{[], ◌≡◌, refl, sym, ap, ap₂, ◌∙◌, subst, arith, ℕ, zero, suc, ◌+◌, ◌-◌, ◌*◌, ◌≤◌}
+use Rattle.std.proofs.Common.{◌<◌, Bool, List, ◌++◌, map, filter, append-nil}
+use Rattle.std.specs.Prelude.{min, Result}
+use Rattle.tk_shape.specs.Lengths.{turn_count}
+use Rattle.tk_script.specs.declared.script.Script.{Script}
+use Rattle.tk_words.specs.Words.{WordBook, words_of}
+use Rattle.tk_packets.specs.Packets.{PacketView}
+use Rattle.tk_member.specs.declared.fault.Fault.{Fault}
+use Rattle.tk_member.specs.Members.{MemberState}
+use Rattle.tk_member.specs.Acting.{Turned, behind, followed_by, wrote, goes_ahead, goes_by_ticks, ticks_due}
+use Rattle.tk_member.specs.Acting.{asks_if_due, acts}
+use Rattle.tk_member.specs.Steps.{tells_and_acts}
+use Rattle.tk_meeting.specs.Meeting.{Saying, for_peer, frames_for}
+use Rattle.tk_meeting.specs.Laws.{sayings, tells_read}
+use Rattle.tk_meeting.proofs.Pace.{Pace, IsPace, acted, asks_now, count_ahead, count_ticks, gone_ahead}
+use Rattle.tk_meeting.proofs.Standing.{IsAt, IsForetold, Goes, Readies, said_on, frames_of}
+use Rattle.tk_meeting.proofs.members.Members.{member_at, at-is, at-from}
+use Rattle.tk_meeting.proofs.members.Paces.{written_on, asked_on, acted-pace, acted-kinds, written-pace}
+use Rattle.tk_meeting.proofs.members.Counts.{acted-written}
+use Rattle.tk_meeting.proofs.members.Packets.{AreToHost, peer-append, frames-append, host-own, host-alone}
+use Rattle.tk_meeting.proofs.members.Writing.{turned_at, wrote-is, packets_on, packets-both, frames-on}
+use Rattle.tk_meeting.proofs.members.Writing.{host-on, frames-then, nothing-said, said-later, said-still}
+use Rattle.tk_meeting.proofs.members.Asking.{known-is, asks-go, packets_by, frames-by, host-by}
+
+-- ---- what is said and foretold, in two steps
+
+said-both : (g n k : ℕ) (saids : List Saying) →
+    said_on (g + n) (g + n + k) (said_on g (g + n) saids) ≡ said_on g (g + n + k) saids
+said-both g zero k saids =
+    let e : g ≡ g + 0 = omega arith in
+    ap₂ (λ x ys. said_on x (g + 0 + k) ys) (sym e) (said-still g (g + 0) saids e)
+said-both g (suc n) k saids =
+    ap (said_on (g + suc n) (g + suc n + k)) (said-later g (g + suc n) saids (omega arith))
+    ∙ nothing-said (g + suc n) (g + suc n + k)
+    ∙ sym (said-later g (g + suc n + k) saids (omega arith))
+
+foretold-front : (S : Script) (c g n k : ℕ) (saids : List Saying) → k ≤ n →
+    IsForetold S c g n saids → IsForetold S c g k saids
+foretold-front S c g n k saids within told =
+    record {
+      here = λ low. told.here (omega (arith, low, within));
+      behind = λ i above low. told.behind i above (omega (arith, low, within));
+    }
+
+foretold-on : (S : Script) (c g n k : ℕ) (saids : List Saying) → IsForetold S c g (g + n + k) saids →
+    IsForetold S c (g + n) (g + n + k) (said_on g (g + n) saids)
+foretold-on S c g zero k saids told =
+    let e : g ≡ g + 0 = omega arith in
+    record {
+      here = λ low. said-still g (g + 0) saids e ∙ told.here (omega (arith, low)) ∙ ap (sayings S c) e;
+      behind = λ i above low. told.behind i (omega (arith, above)) low;
+    }
+foretold-on S c g (suc n) k saids told =
+    record {
+      here = λ low.
+          said-later g (g + suc n) saids (omega arith) ∙ sym (told.behind (g + suc n) (omega arith) low);
+      behind = λ i above low. told.behind i (omega (arith, above)) low;
+    }
+
+-- ---- writes
+
+module _ (S : Script) (b : WordBook) (c : ℕ) (p : Pace) (saids : List Saying) (is : IsPace S.shape p)
+  where
+    abbrev ahead : ℕ
+    ahead = count_ahead S.shape p
+
+    abbrev after_ahead : Pace
+    after_ahead = gone_ahead S.shape p
+
+    abbrev ticking : ℕ
+    ticking = count_ticks S.shape after_ahead
+
+    abbrev last : ℕ
+    last = p.written + ahead + ticking
+
+    ahead-in : p.written + ahead ≤ turn_count S.shape
+    ahead-in = omega (arith, is.written_in)
+
+    ticking-in : p.written + ahead + ticking ≤ turn_count S.shape
+    ticking-in = let low = ahead-in in omega (arith, low)
+
+    ahead-goes : IsForetold S c p.written last saids →
+        goes_ahead (words_of S.shape b) (member_at S b c p saids)
+        ≡ turned_at S b c after_ahead (said_on p.written (p.written + ahead) saids)
+        (packets_on S b c p.written ahead)
+    ahead-goes told =
+        wrote-is S b c ahead (record p { ahead = p.ahead - ahead }) saids ahead-in
+        (foretold-front S c p.written last (p.written + ahead) saids (omega arith) told)
+
+    ticks-go : IsForetold S c p.written last saids →
+        let said = said_on p.written (p.written + ahead) saids in
+        goes_by_ticks (words_of S.shape b) (member_at S b c after_ahead said)
+        ≡ turned_at S b c (written_on S.shape p) (said_on (p.written + ahead) last said)
+        (packets_on S b c (p.written + ahead) ticking)
+    ticks-go told =
+        let w = words_of S.shape b in
+        let q = after_ahead in
+        let said = said_on p.written (p.written + ahead) saids in
+        let m = member_at S b c q said in
+        let due : ticks_due m ≡ ticking =
+        ap (λ n. min q.ticks (min (turn_count S.shape) ((n + 1) * S.shape.ticks) - q.written))
+        (known-is S b q)
+        in
+        ap (λ n. wrote w n (record m { ticks = m.ticks - n })) due
+        ∙ wrote-is S b c ticking (record q { ticks = q.ticks - ticking }) said ticking-in
+        (foretold-on S c p.written ahead ticking saids told)
+
+    writes-go : IsForetold S c p.written last saids → let w = words_of S.shape b in
+        followed_by (goes_ahead w (member_at S b c p saids)) (goes_by_ticks w)
+        ≡ turned_at S b c (written_on S.shape p) (said_on p.written last saids)
+        (packets_on S b c p.written (ahead + ticking))
+    writes-go told =
+        let w = words_of S.shape b in
+        ap (λ (t : Turned). followed_by t (goes_by_ticks w)) (ahead-goes told)
+        ∙ ap (behind (packets_on S b c p.written ahead)) (ticks-go told)
+        ∙ ap₂ (turned_at S b c (written_on S.shape p)) (said-both p.written ahead ticking saids)
+        (packets-both S b c p.written ahead ticking)
+
+    -- ---- writes, and then a read
+
+    abbrev asking : Bool
+    asking = asks_now S.shape (written_on S.shape p)
+
+    pub acts-is : c < S.shape.clients → IsForetold S c p.written last saids →
+        acts b (member_at S b c p saids)
+        ≡ turned_at S b c (asked_on S.shape p).pace (said_on p.written last saids)
+        (packets_on S b c p.written (ahead + ticking) ++ packets_by S b c p.asked asking)
+    unfolding acts
+    acts-is client told =
+        let q = written_on S.shape p in
+        ap (λ (t : Turned). followed_by t (asks_if_due b)) (writes-go told)
+        ∙ ap (behind (packets_on S b c p.written (ahead + ticking)))
+        (asks-go S b c q (said_on p.written last saids) client (written-pace S.shape p is))
+
+    -- the frames of all this
+    frames-are : (j : ℕ) → 1 ≤ j → j ≤ S.shape.servers →
+        frames_for j (packets_on S b c p.written (ahead + ticking) ++ packets_by S b c p.asked asking)
+        ≡ frames_of S b c j p.written p.asked (acted S.shape p).kinds
+    frames-are j low high =
+        let g = p.written in
+        let n = ahead + ticking in
+        let kinds = (asked_on S.shape p).kinds in
+        frames-append j (packets_on S b c g n) (packets_by S b c p.asked asking)
+        ∙ ap₂ (λ xs ys. xs ++ ys) (frames-on S b c j g p.asked n low high)
+        (frames-by S b c j (g + n) p.asked asking (written_on S.shape p) low high)
+        ∙ sym (frames-then S b c j g p.asked n kinds)
+        ∙ ap (frames_of S b c j g p.asked) (sym (acted-kinds S.shape p))
+
+    -- none of which is for its host
+    host-none : for_peer 0 (packets_on S b c p.written (ahead + ticking)
+        ++ packets_by S b c p.asked asking) ≡ []
+    host-none =
+        peer-append 0 (packets_on S b c p.written (ahead + ticking)) (packets_by S b c p.asked asking)
+        ∙ ap₂ (λ xs ys. xs ++ ys) (host-on S b c p.written (ahead + ticking)) (host-by S b c p.asked asking)
+
+    last-is : last ≡ (acted S.shape p).pace.written
+    last-is = let due = acted-written S.shape p in omega (arith, due)
+
+-- A member acts as is due at its pace, whatever its host is told before.
+pub acts-go : (S : Script) (b : WordBook) (c : ℕ) (p : Pace) (saids : List Saying) (m : MemberState)
+    (told : List PacketView) → c < S.shape.clients → IsPace S.shape p →
+    IsForetold S c p.written (acted S.shape p).pace.written saids → IsAt S b c p saids m →
+    AreToHost told → Goes S b c p saids (filter tells_read told) (tells_and_acts b told m)
+acts-go S b c p saids m told client is foretold at to_host =
+    let last = last-is S b c p saids is in
+    let known = subst (λ n. IsForetold S c p.written n saids) (sym last) foretold in
+    let does = ap (acts b) (at-is at) ∙ acts-is S b c p saids is client known in
+    let stands : (acts b m).member
+    ≡ member_at S b c (acted S.shape p).pace (said_on p.written (acted S.shape p).pace.written saids) =
+    ap (λ (t : Turned). t.member) does
+    ∙ ap₂ (λ (q : Pace) (n : ℕ). member_at S b c q (said_on p.written n saids))
+    (sym (acted-pace S.shape p)) last
+    in
+    record {
+      turned = behind told (acts b m);
+      is = refl;
+      at = at-from stands;
+      frames = λ j low high.
+          frames-append j told (acts b m).packets
+          ∙ ap₂ (λ (xs : List PacketView) (ys : List (List ℕ)). map (λ (x : PacketView). x.bytes) xs ++ ys)
+          (host-alone told j low to_host)
+          (ap (λ (t : Turned). frames_for j t.packets) does ∙ frames-are S b c p saids is j low high);
+      host =
+          ap (filter tells_read)
+          (peer-append 0 told (acts b m).packets
+          ∙ ap₂ (λ (xs ys : List PacketView). xs ++ ys) (host-own told to_host)
+          (ap (λ (t : Turned). for_peer 0 t.packets) does ∙ host-none S b c p saids is)
+          ∙ append-nil told);
+    }
+
+-- so a step goes as it should once it is ready to
+pub readies-go : {S : Script} {b : WordBook} {c : ℕ} {p : Pace} {saids : List Saying}
+    {news : List PacketView} {result : Result Turned Fault} → c < S.shape.clients →
+    IsPace S.shape p → IsForetold S c p.written (acted S.shape p).pace.written saids →
+    Readies S b c p saids news result → Goes S b c p saids news result
+readies-go {S} {b} {c} {p} {saids} {news} {result} client is foretold ready =
+    let goes = acts-go S b c p saids ready.member ready.told client is foretold ready.at ready.to_host in
+    record {
+      turned = goes.turned;
+      is = ready.is ∙ goes.is;
+      at = goes.at;
+      frames = goes.frames;
+      host = goes.host ∙ ready.host;
+    }

@@ -1,0 +1,138 @@
+-- What becomes of a member when its host tells it something.
+use Rattle.std.proofs.Common.{[], ◌≡◌, refl, ap, ap₂, ◌∙◌, arith, ℕ, ◌+◌, ◌≤◌, List, ◌∷◌, ◌++◌, cond, Some, None}
+use Rattle.std.specs.Prelude.{min, Err}
+use Rattle.std.proofs.lemmas.Bool.{le-ltb}
+use Rattle.tk_shape.specs.Lengths.{turn_count}
+use Rattle.tk_script.specs.declared.script.Script.{Script}
+use Rattle.tk_words.specs.Words.{WordBook}
+use Rattle.tk_client.specs.Writing.{Writing, with_text}
+use Rattle.tk_client.specs.Saying.{fault_of}
+use Rattle.tk_client.specs.declared.say_error.SayError.{SayError}
+use Rattle.tk_member.specs.declared.fault.Fault.TheVariants.{Older}
+use Rattle.tk_member.specs.declared.word.HostWord.TheVariants.{Say, Tick, Ahead, Has}
+use Rattle.tk_member.specs.Members.{MemberState}
+use Rattle.tk_member.specs.News.{refused_packet}
+use Rattle.tk_member.specs.Steps.{heard, said, tells_and_acts}
+use Rattle.tk_meeting.specs.Meeting.{Saying}
+use Rattle.tk_meeting.proofs.Canonical.{with_sayings}
+use Rattle.tk_meeting.proofs.Pace.{Pace, ticked, sent_ahead}
+use Rattle.tk_meeting.proofs.Standing.{IsAt, Readies}
+
+abbrev pub say_of : ℕ → List ℕ → Saying
+say_of log text = record { log = log; text = text }
+
+-- one text more
+said-one : (saids : List Saying) (log : ℕ) (text : List ℕ) (w : Writing) →
+    with_text log text (with_sayings saids w) ≡ with_sayings (saids ++ say_of log text ∷ []) w
+unfolding with_sayings
+said-one [] log text w = refl
+said-one (y ∷ ys) log text w = said-one ys log text (with_text y.log y.text w)
+
+module _ {S : Script} {b : WordBook} {c : ℕ} {p : Pace} {saids : List Saying} {m : MemberState}
+    (at : IsAt S b c p saids m) where
+  -- a text that the client may say waits from then on
+  pub say-readies : (log : ℕ) (text : List ℕ) →
+      fault_of m.client.shape m.client.writing.logs log text ≡ None →
+      Readies S b c p (saids ++ say_of log text ∷ []) [] (heard b m (Some (Say log text)))
+  say-readies log text may =
+      let writing = with_text log text m.client.writing in
+      record {
+        member = record m { client = record m.client { writing = writing } };
+        told = [];
+        is = ap (said b m log text) may;
+        at =
+            record {
+              shape_is = at.shape_is;
+              number_is = at.number_is;
+              writing_is = ap (with_text log text) at.writing_is ∙ said-one saids log text _;
+              reader_is = at.reader_is;
+              read_is = at.read_is;
+              written_is = at.written_is;
+              asked_is = at.asked_is;
+              ticks_is = at.ticks_is;
+              ahead_is = at.ahead_is;
+              told_is = at.told_is;
+              replies_is = at.replies_is;
+            };
+        to_host = tt;
+        host = refl;
+      }
+
+  -- of one that it may not say its host is told, and nothing else changes
+  pub refused-readies : (log : ℕ) (text : List ℕ) (error : SayError) →
+      fault_of m.client.shape m.client.writing.logs log text ≡ Some error →
+      Readies S b c p saids [] (heard b m (Some (Say log text)))
+  refused-readies log text error refused =
+      record {
+        member = m;
+        told = refused_packet log error ∷ [];
+        is = ap (said b m log text) refused;
+        at = at;
+        to_host = (refl, tt);
+        host = refl;
+      }
+
+  pub tick-readies : Readies S b c (ticked S.shape p) saids [] (heard b m (Some Tick))
+  tick-readies =
+      record {
+        member = record m { ticks = min (m.ticks + 1) (turn_count m.client.shape) };
+        told = [];
+        is = refl;
+        at =
+            record {
+              shape_is = at.shape_is;
+              number_is = at.number_is;
+              writing_is = at.writing_is;
+              reader_is = at.reader_is;
+              read_is = at.read_is;
+              written_is = at.written_is;
+              asked_is = at.asked_is;
+              ticks_is = ap₂ (λ n s. min (n + 1) (turn_count s)) at.ticks_is at.shape_is;
+              ahead_is = at.ahead_is;
+              told_is = at.told_is;
+              replies_is = at.replies_is;
+            };
+        to_host = tt;
+        host = refl;
+      }
+
+  pub ahead-readies : (turns : ℕ) →
+      Readies S b c (sent_ahead S.shape turns p) saids [] (heard b m (Some (Ahead turns)))
+  ahead-readies turns =
+      record {
+        member = record m { ahead = min (m.ahead + turns) (turn_count m.client.shape) };
+        told = [];
+        is = refl;
+        at =
+            record {
+              shape_is = at.shape_is;
+              number_is = at.number_is;
+              writing_is = at.writing_is;
+              reader_is = at.reader_is;
+              read_is = at.read_is;
+              written_is = at.written_is;
+              asked_is = at.asked_is;
+              ticks_is = at.ticks_is;
+              ahead_is = ap₂ (λ n s. min (n + turns) (turn_count s)) at.ahead_is at.shape_is;
+              told_is = at.told_is;
+              replies_is = at.replies_is;
+            };
+        to_host = tt;
+        host = refl;
+      }
+
+  -- a server has no more packets of it than it sent
+  pub greeted-readies : (packets : ℕ) → packets ≤ p.written + p.asked →
+      Readies S b c p saids [] (heard b m (Some (Has packets)))
+  greeted-readies packets few =
+      let sent : packets ≤ m.written + m.asked = omega (arith, few, at.written_is, at.asked_is) in
+      record {
+        member = m;
+        told = [];
+        is =
+            ap (λ x. cond x (Err Older) (tells_and_acts b [] m))
+            (le-ltb (m.written + m.asked) packets sent);
+        at = at;
+        to_host = tt;
+        host = refl;
+      }

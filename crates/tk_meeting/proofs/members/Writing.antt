@@ -1,0 +1,222 @@
+-- What a member writes in the turns that come is what the serial run has it write.
+use Rattle.std.proofs.Common.{[], ◌≡◌, refl, sym, ap, ap₂, ◌∙◌, subst, arith, ℕ, zero, suc, ◌+◌, ◌≤◌, ◌<◌, Bool}
+use Rattle.std.proofs.Common.{true, false, List, ◌∷◌, ◌++◌, map, filter, cond, add-one}
+use Rattle.std.specs.Prelude.{◌==◌, replicate}
+use Rattle.std.proofs.lemmas.Bool.{ne_eqb, eq-eqb}
+use Rattle.tk_shape.specs.Lengths.{turn_count}
+use Rattle.tk_script.specs.declared.script.Script.{Script}
+use Rattle.tk_script.specs.declared.say.Say.{Say}
+use Rattle.tk_script.specs.Sent.{writer_of}
+use Rattle.tk_words.specs.Words.{WordBook, words_of}
+use Rattle.tk_frames.specs.Spelling.{write_frame}
+use Rattle.tk_frames.specs.declared.write_frame.WriteFrame.{WriteFrame}
+use Rattle.tk_client.specs.Writing.{Writing, with_text, first_waiting, after_write}
+use Rattle.tk_client.specs.Writes.{write_of}
+use Rattle.tk_packets.specs.Packets.{PacketView}
+use Rattle.tk_report.specs.Entries.{write_at}
+use Rattle.tk_report.specs.Queues.{with_says, says_in, writing_before, writing_said}
+use Rattle.tk_report.proofs.Offers.{queues-send}
+use Rattle.tk_member.specs.Members.{MemberState}
+use Rattle.tk_member.specs.Acting.{Turned, behind, packets_from, write_packets, after_turn, wrote}
+use Rattle.tk_meeting.specs.Meeting.{Saying, for_peer, frames_for}
+use Rattle.tk_meeting.specs.Laws.{saying_of, sayings}
+use Rattle.tk_meeting.proofs.Canonical.{write_in, with_sayings}
+use Rattle.tk_meeting.proofs.Pace.{Pace, Kind, Wrote}
+use Rattle.tk_meeting.proofs.Standing.{IsForetold, said_on, frames_of}
+use Rattle.tk_meeting.proofs.members.Members.{member_at, client_at, writing_at, all-same-range}
+use Rattle.tk_meeting.proofs.members.Packets.{frames-append, peer-append, none-below, own-frame}
+
+-- ---- what is said in a turn
+
+said-texts : (S : Script) (c : ℕ) (ys : List Say) (w : Writing) →
+    with_sayings (map saying_of (filter (λ (y : Say). writer_of S y.log == c) ys)) w
+    ≡ with_says S c ys w
+unfolding with_sayings with_says
+said-texts S c [] w = refl
+said-texts S c (y ∷ ys) w =
+    let rest = filter (λ (z : Say). writer_of S z.log == c) ys in
+    elim (writer_of S y.log == c) as (λ b. with_sayings (map saying_of (cond b (y ∷ rest) rest)) w
+    ≡ with_says S c ys (cond b (with_text y.log y.text w) w)) [
+      | true ↦ said-texts S c ys (with_text y.log y.text w)
+      | false ↦ said-texts S c ys w
+    ]
+
+pub said-turn : (S : Script) (c g : ℕ) →
+    with_sayings (sayings S c g) (writing_before S c g) ≡ writing_said S c g
+said-turn S c g = said-texts S c (says_in S g) (writing_before S c g)
+
+turn-after : (S : Script) (c g : ℕ) → after_write (writing_said S c g) ≡ writing_before S c (suc g)
+unfolding writing_before
+turn-after S c g = refl
+
+-- after the turn's write the client has to write what it has before the next turn
+turn-written : (S : Script) (c g : ℕ) →
+    after_write (with_sayings (sayings S c g) (writing_before S c g)) ≡ writing_before S c (g + 1)
+turn-written S c g =
+    ap after_write (said-turn S c g) ∙ turn-after S c g ∙ ap (writing_before S c) (sym (add-one g))
+
+-- and the write is the serial run's
+turn-write : (S : Script) (b : WordBook) (c g : ℕ) → g < turn_count S.shape →
+    write_of (words_of S.shape b) g c
+    (first_waiting (with_sayings (sayings S c g) (writing_before S c g)))
+    ≡ write_in S b c g
+unfolding write_at
+turn-write S b c g low =
+    ap (λ w. write_of (words_of S.shape b) g c (first_waiting w)) (said-turn S c g)
+    ∙ ap (write_of (words_of S.shape b) g c) (queues-send.sends S c g low)
+
+-- ---- one turn
+
+-- the packets of the write of a turn, and of several turns
+abbrev pub packets_in : Script → WordBook → ℕ → ℕ → List PacketView
+packets_in S b c g = packets_from 1 (replicate S.shape.servers (write_frame (write_in S b c g)))
+
+abbrev pub packets_on : Script → WordBook → ℕ → ℕ → ℕ → List PacketView
+packets_on S b c g zero = []
+packets_on S b c g (suc n) = packets_in S b c g ++ packets_on S b c (g + 1) n
+
+abbrev pub written_more : ℕ → Pace → Pace
+written_more n p = record p { written = p.written + n }
+
+after-one : (S : Script) (b : WordBook) (c : ℕ) (p : Pace) (saids : List Saying) →
+    saids ≡ sayings S c p.written →
+    after_turn (member_at S b c p saids) ≡ member_at S b c (written_more 1 p) []
+unfolding with_sayings
+after-one S b c p saids here =
+    let q = written_more 1 p in
+    let written : after_write (writing_at S c p saids) ≡ writing_at S c q [] =
+    ap (λ ys. after_write (with_sayings ys (writing_before S c p.written))) here
+    ∙ turn-written S c p.written
+    in
+    ap (λ (w : Writing). record (member_at S b c q []) {
+      client = record (client_at S b c q []) { writing = w };
+    }) written
+
+packets-one : (S : Script) (b : WordBook) (c : ℕ) (p : Pace) (saids : List Saying) →
+    p.written < turn_count S.shape → saids ≡ sayings S c p.written →
+    write_packets (words_of S.shape b) (member_at S b c p saids) ≡ packets_in S b c p.written
+packets-one S b c p saids low here =
+    let w = words_of S.shape b in
+    let g = p.written in
+    let write : write_of w g c (first_waiting (writing_at S c p saids)) ≡ write_in S b c g =
+    ap (λ ys. write_of w g c (first_waiting (with_sayings ys (writing_before S c g)))) here
+    ∙ turn-write S b c g low
+    in
+    ap (λ (x : WriteFrame). packets_from 1 (replicate S.shape.servers (write_frame x))) write
+
+-- ---- several turns
+
+pub nothing-said : (g n : ℕ) → said_on g n [] ≡ []
+nothing-said g n = either-way (g == n) []
+  where
+    either-way : (b : Bool) (ys : List Saying) → cond b ys ys ≡ ys
+    either-way true ys = refl
+    either-way false ys = refl
+
+pub said-later : (g n : ℕ) (saids : List Saying) → g < n → said_on g n saids ≡ []
+said-later g n saids low = ap (λ b. cond b saids []) (ne_eqb g n (λ e. omega (arith, low, e)))
+
+pub said-still : (g n : ℕ) (saids : List Saying) → g ≡ n → said_on g n saids ≡ saids
+said-still g n saids e = ap (λ b. cond b saids []) (eq-eqb g n e)
+
+-- what is foretold for a turn is for the next one
+foretold-next : (S : Script) (c g n : ℕ) (saids : List Saying) → IsForetold S c g n saids →
+    IsForetold S c (g + 1) n []
+foretold-next S c g n saids told =
+    record {
+      here = λ low. sym (told.behind (g + 1) (omega arith) low);
+      behind = λ k above low. told.behind k (omega (arith, above)) low;
+    }
+
+abbrev pub turned_at : Script → WordBook → ℕ → Pace → List Saying → List PacketView → Turned
+turned_at S b c p saids packets = record { member = member_at S b c p saids; packets = packets }
+
+-- how it stands then, and what it sent
+abbrev pub wrote_at : Script → WordBook → ℕ → ℕ → Pace → List Saying → Turned
+wrote_at S b c n p saids =
+    turned_at S b c (written_more n p) (said_on p.written (p.written + n) saids)
+    (packets_on S b c p.written n)
+
+pub wrote-is : (S : Script) (b : WordBook) (c n : ℕ) (p : Pace) (saids : List Saying) →
+    p.written + n ≤ turn_count S.shape → IsForetold S c p.written (p.written + n) saids →
+    wrote (words_of S.shape b) n (member_at S b c p saids) ≡ wrote_at S b c n p saids
+unfolding wrote
+wrote-is S b c zero p saids low told =
+    let g : p.written ≡ p.written + 0 = omega arith in
+    let said = said-still p.written (p.written + 0) saids g in
+    ap₂ (λ (k : ℕ) (ys : List Saying). turned_at S b c (record p { written = k }) ys []) g (sym said)
+wrote-is S b c (suc n) p saids low told =
+    let w = words_of S.shape b in
+    let g = p.written in
+    let q = written_more 1 p in
+    let here : saids ≡ sayings S c g = told.here (omega arith) in
+    let end : g + 1 + n ≡ g + suc n = omega arith in
+    let next : IsForetold S c (g + 1) (g + 1 + n) [] =
+    subst (λ (k : ℕ). IsForetold S c (g + 1) k []) (sym end)
+    (foretold-next S c g (g + suc n) saids told)
+    in
+    let said : said_on (g + 1) (g + 1 + n) [] ≡ said_on g (g + suc n) saids =
+    nothing-said (g + 1) (g + 1 + n) ∙ sym (said-later g (g + suc n) saids (omega arith))
+    in
+    let rest = packets_on S b c (g + 1) n in
+    ap₂ (λ ps (m : MemberState). behind ps (wrote w n m))
+    (packets-one S b c p saids (omega (arith, low)) here) (after-one S b c p saids here)
+    ∙ ap (behind (packets_in S b c g)) (wrote-is S b c n q [] (omega (arith, low)) next)
+    ∙ ap₂ (λ (k : ℕ) (ys : List Saying). turned_at S b c (record p { written = k }) ys
+    (packets_in S b c g ++ rest)) end said
+
+-- ---- frame by frame
+
+to-each : (S : Script) (b : WordBook) (c g j : ℕ) → 1 ≤ j → j ≤ S.shape.servers →
+    frames_for j (packets_in S b c g) ≡ write_frame (write_in S b c g) ∷ []
+to-each S b c g j low high =
+    let frame = write_frame (write_in S b c g) in
+    ap (λ fs. frames_for j (packets_from 1 fs))
+    (sym (all-same-range (λ (k : ℕ). frame) frame (λ k. refl) 1 S.shape.servers))
+    ∙ own-frame (λ (k : ℕ). frame) 1 S.shape.servers j low (omega (arith, high))
+
+pub frames-on : (S : Script) (b : WordBook) (c j g k n : ℕ) → 1 ≤ j → j ≤ S.shape.servers →
+    frames_for j (packets_on S b c g n) ≡ frames_of S b c j g k (replicate n Wrote)
+unfolding frames_of
+frames-on S b c j g k zero low high = refl
+frames-on S b c j g k (suc n) low high =
+    frames-append j (packets_in S b c g) (packets_on S b c (g + 1) n)
+    ∙ ap₂ (λ xs ys. xs ++ ys) (to-each S b c g j low high)
+    (frames-on S b c j (g + 1) k n low high)
+
+pub host-on : (S : Script) (b : WordBook) (c g n : ℕ) → for_peer 0 (packets_on S b c g n) ≡ []
+host-on S b c g zero = refl
+host-on S b c g (suc n) =
+    let frames = replicate S.shape.servers (write_frame (write_in S b c g)) in
+    peer-append 0 (packets_in S b c g) (packets_on S b c (g + 1) n)
+    ∙ ap₂ (λ xs ys. xs ++ ys) (none-below 0 1 frames (omega arith)) (host-on S b c (g + 1) n)
+
+-- more turns
+pub packets-both : (S : Script) (b : WordBook) (c g n k : ℕ) →
+    packets_on S b c g n ++ packets_on S b c (g + n) k ≡ packets_on S b c g (n + k)
+packets-both S b c g zero k =
+    ap₂ (λ x y. packets_on S b c x y) (omega arith) (omega arith)
+packets-both S b c g (suc n) k =
+    let here : g + suc n ≡ g + 1 + n = omega arith in
+    let count : suc n + k ≡ suc (n + k) = omega arith in
+    append-more (packets_in S b c g) (packets_on S b c (g + 1) n) (packets_on S b c (g + suc n) k)
+    ∙ ap (λ x. packets_in S b c g ++ (packets_on S b c (g + 1) n ++ packets_on S b c x k)) here
+    ∙ ap (λ xs. packets_in S b c g ++ xs) (packets-both S b c (g + 1) n k)
+    ∙ ap (packets_on S b c g) (sym count)
+  where
+    append-more : (xs ys zs : List PacketView) → (xs ++ ys) ++ zs ≡ xs ++ (ys ++ zs)
+    append-more [] ys zs = refl
+    append-more (x ∷ xs) ys zs = ap (λ (l : List PacketView). x ∷ l) (append-more xs ys zs)
+
+-- frames of writes, and of what comes then
+pub frames-then : (S : Script) (b : WordBook) (c j g k n : ℕ) (kinds : List Kind) →
+    frames_of S b c j g k (replicate n Wrote ++ kinds)
+    ≡ frames_of S b c j g k (replicate n Wrote) ++ frames_of S b c j (g + n) k kinds
+unfolding frames_of
+frames-then S b c j g k zero kinds = ap (λ x. frames_of S b c j x k kinds) (omega arith)
+frames-then S b c j g k (suc n) kinds =
+    let next : g + 1 + n ≡ g + suc n = omega arith in
+    let frame = write_frame (write_in S b c g) in
+    ap (λ xs. frame ∷ xs) (frames-then S b c j (g + 1) k n kinds)
+    ∙ ap (λ x. frame ∷ (frames_of S b c j (g + 1) k (replicate n Wrote) ++ frames_of S b c j x k kinds))
+    next

@@ -1,0 +1,208 @@
+-- What was said to a client may be said by it: it is of a log that the client writes, and without a fault.
+use Rattle.std.proofs.Common.{◌≡◌, refl, ap, sym, ◌∙◌, subst, arith, ℕ, ◌<◌, Bool, true, false, cond}
+use Rattle.std.proofs.Common.{List, [], ◌∷◌, ◌++◌, map, Option, Some, None, Result, Ok, Err, eqb-true}
+use Rattle.std.specs.Prelude.{◌==◌, ◌&&◌, ◌||◌}
+use Rattle.std.specs.List.{AllByRecursion}
+use Rattle.std.proofs.lemmas.Bool.{false≢true}
+use Rattle.std.proofs.lemmas.Option.{none-some}
+use Rattle.tk_shape.specs.declared.shape.Shape.{Shape}
+use Rattle.tk_script.specs.declared.script.Script.{Script}
+use Rattle.tk_script.specs.Sent.{writer_of}
+use Rattle.tk_words.specs.Words.{WordBook}
+use Rattle.tk_client.specs.declared.say_error.SayError.{SayError}
+use Rattle.tk_client.specs.declared.say_error.SayError.TheVariants.{NotWriter}
+use Rattle.tk_client.specs.declared.written.Written.{Written}
+use Rattle.tk_client.specs.Saying.{fault_of, text_fault, is_written}
+use Rattle.tk_client.specs.Writing.{unwritten}
+use Rattle.tk_report.specs.Queues.{writes_of}
+use Rattle.tk_member.specs.declared.fault.Fault.{Fault}
+use Rattle.tk_member.specs.declared.word.HostWord.{HostWord}
+use Rattle.tk_member.specs.declared.word.HostWord.TheVariants.{Say, Tick, Ahead, Has}
+use Rattle.tk_member.specs.Acting.{Turned}
+use Rattle.tk_member.specs.Steps.{heard, served}
+use Rattle.tk_meeting.specs.Meeting.{Meeting, Saying, opening, changed, member_went}
+use Rattle.tk_meeting.specs.Events.{Event, Said, Ticked, WentAhead, Greeted, Up, Down, noted, say_fault, hears}
+use Rattle.tk_meeting.specs.Events.{greeting_of, comes_up, comes_down, unless_ended, is_client, is_server}
+use Rattle.tk_meeting.specs.Events.{client_does, happens, after_events, met}
+use Rattle.tk_meeting.proofs.own.Openings.{kept}
+use Rattle.tk_meeting.proofs.telling.Rising.{cond-has}
+use Rattle.tk_meeting.proofs.scripts.Lasting.{base_of, logs_of, LastsIn, heard-lasts, served-lasts}
+
+-- client c writes the log
+pub record IsMine (S : Script) (c log : ℕ) : Type 0 where
+  pub low : log < S.shape.logs
+  pub mine : writer_of S log ≡ c
+
+pub record MaySay (S : Script) (c : ℕ) (y : Saying) : Type 0 where
+  pub of : IsMine S c y.log
+  pub free : text_fault S.shape y.text ≡ None
+
+-- each client has the group's shape and the logs that it writes, and all that was said to it may be said
+pub record IsSayable (S : Script) (m : Meeting) : Type 0 where
+  pub bases : (c : ℕ) → base_of (m.members c) ≡ (S.shape, writes_of S c)
+  pub each : (c g : ℕ) → AllByRecursion (MaySay S c) (m.said c g)
+
+-- ---- the opening
+
+logs-unwritten : (logs : List ℕ) → logs_of (map unwritten logs) ≡ logs
+logs-unwritten [] = refl
+logs-unwritten (log ∷ logs) = ap (λ (xs : List ℕ). log ∷ xs) (logs-unwritten logs)
+
+pub opening-sayable : (S : Script) → IsSayable S (opening S)
+opening-sayable S =
+    record {
+      bases = λ c. ap (λ (logs : List ℕ). (S.shape, logs)) (logs-unwritten (writes_of S c));
+      each = λ c g. tt;
+    }
+
+-- ---- a text is noted
+
+writes-mine : (S : Script) (c : ℕ) → AllByRecursion (IsMine S c) (writes_of S c)
+writes-mine S c =
+    kept (IsMine S c) (λ log. writer_of S log == c) 0 S.shape.logs S.shape.logs (omega arith)
+    (λ log within is. record { low = within; mine = eqb-true (writer_of S log) c is })
+
+written-has : (P : ℕ → Type 0) (log : ℕ) (fs : List Written) → AllByRecursion P (logs_of fs) →
+    is_written log fs ≡ true → P log
+written-has P log [] all is = absurd (false≢true is)
+written-has P log (f ∷ fs) all is = by (f.log == log) refl (written-has P log fs all.1) is
+  where
+    by : (b : Bool) → (f.log == log) ≡ b → (is_written log fs ≡ true → P log) →
+        (b || is_written log fs) ≡ true → P log
+    by true same later is = subst P (eqb-true f.log log same) all.0
+    by false other later is = later is
+
+may-say : (S : Script) (c log : ℕ) (text : List ℕ) (fs : List Written) →
+    AllByRecursion (IsMine S c) (logs_of fs) → fault_of S.shape fs log text ≡ None →
+    MaySay S c (record { log = log; text = text })
+may-say S c log text fs all none = by (is_written log fs) refl none
+  where
+    by : (is : Bool) → is_written log fs ≡ is →
+        cond is (text_fault S.shape text) (Some (NotWriter log)) ≡ None →
+        MaySay S c (record { log = log; text = text })
+    by true is none = record { of = written-has (IsMine S c) log fs all is; free = none }
+    by false is none = absurd (none-some (NotWriter log) (sym none))
+
+free-said : (S : Script) (m : Meeting) (c log : ℕ) (text : List ℕ) → IsSayable S m →
+    say_fault m c log text ≡ None → MaySay S c (record { log = log; text = text })
+free-said S m c log text is none =
+    let k = (m.members c).client in
+    let base : base_of (m.members c) ≡ (S.shape, writes_of S c) = is.bases c in
+    let shape_is : k.shape ≡ S.shape = ap (λ (x : Shape × List ℕ). x.0) base in
+    let logs_are : logs_of k.writing.logs ≡ writes_of S c = ap (λ (x : Shape × List ℕ). x.1) base in
+    may-say S c log text k.writing.logs
+    (subst (AllByRecursion (IsMine S c)) (sym logs_are) (writes-mine S c))
+    (subst (λ (s : Shape). fault_of s k.writing.logs log text ≡ None) shape_is none)
+
+one-more : (S : Script) (c : ℕ) (ys : List Saying) (y : Saying) → AllByRecursion (MaySay S c) ys →
+    MaySay S c y → AllByRecursion (MaySay S c) (ys ++ y ∷ [])
+one-more S c [] y all may = (may, tt)
+one-more S c (x ∷ xs) y all may = (all.0, one-more S c xs y all.1 may)
+
+noted-at : (S : Script) (m : Meeting) (c g : ℕ) (y : Saying) → IsSayable S m → MaySay S c y →
+    (d k : ℕ) → AllByRecursion (MaySay S d)
+    (changed c (changed g (m.said c g ++ y ∷ []) (m.said c)) m.said d k)
+noted-at S m c g y is may d k = by (d == c) refl
+  where
+    here : (t : Bool) → AllByRecursion (MaySay S c) (cond t (m.said c g ++ y ∷ []) (m.said c k))
+    here true = one-more S c (m.said c g) y (is.each c g) may
+    here false = is.each c k
+
+    by : (t : Bool) → (d == c) ≡ t →
+        AllByRecursion (MaySay S d)
+        (cond t (changed g (m.said c g ++ y ∷ []) (m.said c)) (m.said d) k)
+    by true same =
+        subst
+        (λ (n : ℕ). AllByRecursion (MaySay S n) (changed g (m.said c g ++ y ∷ []) (m.said c) k))
+        (sym (eqb-true d c same)) (here (k == g))
+    by false other = is.each d k
+
+noted-sayable : (S : Script) (m : Meeting) (c : ℕ) (y : Saying) (o : Option SayError) → IsSayable S m →
+    (o ≡ None → MaySay S c y) → IsSayable S (noted c y o m)
+noted-sayable S m c y (Some error) is may = is
+noted-sayable S m c y None is may =
+    record { bases = is.bases; each = λ d k. noted-at S m c (m.members c).written y is (may refl) d k }
+
+-- ---- a member goes on
+
+went-sayable : (S : Script) (m : Meeting) (c : ℕ) (r : Result Turned Fault) → IsSayable S m →
+    LastsIn (base_of (m.members c)) r → IsSayable S (member_went m c r)
+went-sayable S m c (Err fault) is lasts = record { bases = is.bases; each = is.each }
+went-sayable S m c (Ok t) is lasts = record { bases = λ d. by d (d == c) refl; each = is.each }
+  where
+    by : (d : ℕ) (b : Bool) → (d == c) ≡ b →
+        base_of (cond b t.member (m.members d)) ≡ (S.shape, writes_of S d)
+    by d true same =
+        subst (λ (n : ℕ). base_of t.member ≡ (S.shape, writes_of S n)) (sym (eqb-true d c same))
+        (lasts ∙ is.bases c)
+    by d false other = is.bases d
+
+hears-sayable : (S : Script) (b : ℕ → WordBook) (m : Meeting) (c : ℕ) (word : HostWord) → IsSayable S m →
+    IsSayable S (hears b m c word)
+hears-sayable S b m c word is =
+    went-sayable S m c (heard (b c) (m.members c) (Some word)) is
+    (heard-lasts (b c) (m.members c) (Some word))
+
+-- ---- links
+
+up-sayable : (S : Script) (m : Meeting) (c j : ℕ) (frames : List (List ℕ)) → IsSayable S m →
+    IsSayable S (comes_up S.shape m c j frames)
+up-sayable S m c j [] is = is
+up-sayable S m c j (frame ∷ frames) is = record { bases = is.bases; each = is.each }
+
+down-sayable : (S : Script) (b : ℕ → WordBook) (m : Meeting) (j c : ℕ) (frames : List (List ℕ)) →
+    IsSayable S m → IsSayable S (comes_down b m j c frames)
+down-sayable S b m j c [] is = is
+down-sayable S b m j c (frame ∷ frames) is =
+    let left : Meeting = record m { down = changed j (changed c frames (m.down j)) m.down } in
+    went-sayable S left c (served (b c) (m.members c) j frame)
+    (record { bases = is.bases; each = is.each }) (served-lasts (b c) (m.members c) j frame)
+
+-- ---- events
+
+unless-sayable : (S : Script) (o : Option Fault) (m after : Meeting) → IsSayable S m → IsSayable S after →
+    IsSayable S (unless_ended o m after)
+unless-sayable S None m after is later = later
+unless-sayable S (Some fault) m after is later = is
+
+client-sayable : (S : Script) (m : Meeting) (c : ℕ) (after : Meeting) → IsSayable S m → IsSayable S after →
+    IsSayable S (client_does S.shape m c after)
+client-sayable S m c after is later =
+    cond-has (IsSayable S) (is_client S.shape c) (unless_ended (m.ended c) m after) m
+    (unless-sayable S (m.ended c) m after is later) is
+
+event-sayable : (S : Script) (b : ℕ → WordBook) (m : Meeting) (x : Event) → IsSayable S m →
+    IsSayable S (happens S.shape b m x)
+unfolding happens
+event-sayable S b m (Said c log text) is =
+    let y : Saying = record { log = log; text = text } in
+    let n : Meeting = noted c y (say_fault m c log text) m in
+    client-sayable S m c (hears b n c (Say log text)) is
+    (hears-sayable S b n c (Say log text)
+    (noted-sayable S m c y (say_fault m c log text) is (free-said S m c log text is)))
+event-sayable S b m (Ticked c) is =
+    client-sayable S m c (hears b m c Tick) is (hears-sayable S b m c Tick is)
+event-sayable S b m (WentAhead c turns) is =
+    client-sayable S m c (hears b m c (Ahead turns)) is (hears-sayable S b m c (Ahead turns) is)
+event-sayable S b m (Greeted c j count) is =
+    let word : HostWord = Has (greeting_of m c j count) in
+    cond-has (IsSayable S) (is_server S.shape j) (client_does S.shape m c (hears b m c word)) m
+    (client-sayable S m c (hears b m c word) is (hears-sayable S b m c word is)) is
+event-sayable S b m (Up c j) is =
+    cond-has (IsSayable S) (is_client S.shape c && is_server S.shape j)
+    (comes_up S.shape m c j (m.up c j)) m (up-sayable S m c j (m.up c j) is) is
+event-sayable S b m (Down j c) is =
+    let after : Meeting = comes_down b m j c (m.down j c) in
+    cond-has (IsSayable S) (is_server S.shape j) (client_does S.shape m c after) m
+    (client-sayable S m c after is (down-sayable S b m j c (m.down j c) is)) is
+
+after-sayable : (S : Script) (b : ℕ → WordBook) (m : Meeting) (events : List Event) → IsSayable S m →
+    IsSayable S (after_events S.shape b m events)
+unfolding after_events
+after-sayable S b m [] is = is
+after-sayable S b m (x ∷ xs) is =
+    after-sayable S b (happens S.shape b m x) xs (event-sayable S b m x is)
+
+pub met-sayable : (S : Script) (books : ℕ → WordBook) (events : List Event) →
+    IsSayable S (met S books events)
+met-sayable S books events = after-sayable S books (opening S) events (opening-sayable S)

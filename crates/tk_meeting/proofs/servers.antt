@@ -1,0 +1,11 @@
+pub mod SameEntries
+pub mod Places
+pub mod Streams
+pub mod Openings
+pub mod Numbers
+pub mod Quiet
+pub mod InRange
+pub mod Bumps
+pub mod Gains
+pub mod Fronts
+pub mod Taken

@@ -1,0 +1,121 @@
+-- What a server tells a client, in numbers: how many frames there are, which comes next, and that more only
+-- come at the end.
+use Rattle.std.proofs.Common.{◌≡◌, ℕ, ◌+◌, ◌*◌, ◌/◌, ◌≤◌, ◌<◌, ap, sym, ◌∙◌, arith, inl, inr, min}
+use Rattle.std.proofs.Common.{List, ◌∷◌, ◌++◌, length, drop, map}
+use Rattle.std.specs.List.{range_with_len}
+use Rattle.std.proofs.Math.Nat.{div-mul-le_self, mul-le-mul_right}
+use Rattle.std.proofs.lemmas.Bool.{cases_lt}
+use Rattle.std.proofs.lemmas.List.{drop_more, take-append-drop}
+use Rattle.std.proofs.lemmas.List.FromFn.{get_or-map-range_with_len, length-map-range_with_len}
+use Rattle.std.proofs.lemmas.List.FromFn.{take-map-range_with_len}
+use Rattle.tk_shape.specs.declared.shape.Shape.{Shape}
+use Rattle.tk_script.specs.declared.script.Script.{Script}
+use Rattle.tk_words.specs.Words.{WordBook}
+use Rattle.tk_serve.specs.Told.{turns_read}
+use Rattle.tk_serve.proofs.Phases.{phase-before, phase-past}
+use Rattle.tk_meeting.proofs.Canonical.{reply_in, epoch_in, stream}
+use Rattle.tk_meeting.proofs.Course.{stream_len}
+use Rattle.tk_meeting.proofs.servers.Places.{frame_at, reply-at, epoch-at, stream-places}
+
+-- a turn is in no later phase than a turn that isn't before it
+pub phases-ordered : (t g h : ℕ) → 0 < t → g ≤ h → g / t ≤ h / t
+phases-ordered t g h some low =
+    let whole : g / t * t ≤ g = div-mul-le_self g t in
+    phase-past t (g / t) h some (omega (arith, whole, low))
+
+-- what comes next of what a function gives for the first numbers
+next-of : {X : Type 0} (f : ℕ → X) (n i : ℕ) (x : X) → i < n → f i ≡ x →
+    drop i (map f (range_with_len 0 n)) ≡ x ∷ drop (i + 1) (map f (range_with_len 0 n))
+next-of {X} f n i x low is =
+    drop_more (map f (range_with_len 0 n)) i x (omega (arith, low, length-map-range_with_len f 0 n))
+    ∙ ap (λ (y : X). y ∷ drop (i + 1) (map f (range_with_len 0 n)))
+    (get_or-map-range_with_len f 0 n i i x low (omega arith) ∙ is)
+
+-- ---- lengths
+
+module _ (shape : Shape) where
+  abbrev ticks : ℕ
+  ticks = shape.ticks
+
+  some : 0 < ticks
+  some = let low = shape.in_range.ticks_low in omega (arith, low)
+
+  -- a reply that is there is of a read that came, over an epoch that is there
+  pub reply-there : (n k r : ℕ) → r + r / ticks < stream_len shape n k → (r < k) × (r / ticks ≤ n)
+  reply-there n k r there = elim (cases_lt r (min k (turns_read shape n))) [
+    | inl before ↦
+        let phase : r / ticks < n + 1 = phase-before ticks (n + 1) r some (omega (arith, before)) in
+        (omega (arith, before), omega (arith, phase))
+    | inr past ↦
+        let phases = phases-ordered ticks (min k (turns_read shape n)) r some past in
+        absurd (omega (arith, there, past, phases))
+  ]
+
+  -- and an epoch that is told is there
+  pub epoch-there : (n k r e : ℕ) → r ≡ (e + 1) * ticks → r + e < stream_len shape n k → e + 1 ≤ n
+  epoch-there n k r e is there = elim (cases_lt e n) [
+    | inl before ↦ omega (arith, before)
+    | inr past ↦
+        let later : (n + 1) * ticks ≤ (e + 1) * ticks =
+        mul-le-mul_right {m = n + 1} {n = e + 1} ticks (omega (arith, past))
+        in
+        absurd (omega (arith, there, is, later, past))
+  ]
+
+  -- more are told where more epochs are there and more reads came
+  pub length-grows : (n more k later : ℕ) → n ≤ more → k ≤ later →
+      stream_len shape n k ≤ stream_len shape more later
+  length-grows n more k later epochs turns =
+      let reads : (n + 1) * ticks ≤ (more + 1) * ticks =
+      mul-le-mul_right {m = n + 1} {n = more + 1} ticks (omega (arith, epochs))
+      in
+      let m = min k (turns_read shape n) in
+      let p = min later (turns_read shape more) in
+      let ordered : m ≤ p = omega (arith, reads, turns) in
+      let phases : m / ticks ≤ p / ticks = phases-ordered ticks m p some ordered in
+      omega (arith, ordered, phases, epochs)
+
+-- ---- frames
+
+module _ (S : Script) (b : WordBook) (c j : ℕ) where
+  pub stream-length : (n k : ℕ) → length (stream S b c j n k) ≡ stream_len S.shape n k
+  stream-length n k =
+      ap length (stream-places S b c j n k)
+      ∙ length-map-range_with_len (frame_at S b c j) 0 (stream_len S.shape n k)
+
+  next-frame : (n k place : ℕ) (frame : List ℕ) → place < stream_len S.shape n k →
+      frame_at S b c j place ≡ frame →
+      drop place (stream S b c j n k) ≡ frame ∷ drop (place + 1) (stream S b c j n k)
+  next-frame n k place frame low is =
+      ap (drop place) (stream-places S b c j n k)
+      ∙ next-of (frame_at S b c j) (stream_len S.shape n k) place frame low is
+      ∙ ap (λ (xs : List (List ℕ)). frame ∷ drop (place + 1) xs) (sym (stream-places S b c j n k))
+
+  -- behind r replies and the epochs of the phases that are over the next frame is a reply
+  pub next-reply : (n k r e : ℕ) → e ≡ r / S.shape.ticks → r + e < stream_len S.shape n k →
+      drop (r + e) (stream S b c j n k) ≡ reply_in S b c j r ∷ drop (r + e + 1) (stream S b c j n k)
+  next-reply n k r e is low =
+      next-frame n k (r + e) (reply_in S b c j r) low
+      (ap (λ i. frame_at S b c j (r + i)) is ∙ reply-at S b c j r)
+
+  -- and behind the replies of a phase it is the epoch that the phase makes
+  pub next-epoch : (n k r e : ℕ) → r ≡ (e + 1) * S.shape.ticks → r + e < stream_len S.shape n k →
+      drop (r + e) (stream S b c j n k) ≡ epoch_in S b (e + 1) ∷ drop (r + e + 1) (stream S b c j n k)
+  next-epoch n k r e is low =
+      next-frame n k (r + e) (epoch_in S b (e + 1)) low
+      (ap (λ i. frame_at S b c j (i + e)) is ∙ epoch-at S b c j e)
+
+  -- more only come at the end
+  pub stream-grows : (n more k later : ℕ) → n ≤ more → k ≤ later →
+      (rest : List (List ℕ)) × (stream S b c j more later ≡ stream S b c j n k ++ rest)
+  stream-grows n more k later epochs turns =
+      let f = frame_at S b c j in
+      let short = stream_len S.shape n k in
+      let long = stream_len S.shape more later in
+      let all = map f (range_with_len 0 long) in
+      let within : short ≤ long = length-grows S.shape n more k later epochs turns in (
+        drop short all,
+        stream-places S b c j more later ∙ sym (take-append-drop short all)
+            ∙ ap (λ (xs : List (List ℕ)). xs ++ drop short all)
+            (take-map-range_with_len f 0 long short within ∙ sym (stream-places S b c j n k)),
+      )

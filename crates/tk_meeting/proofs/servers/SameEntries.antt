@@ -1,0 +1,52 @@
+-- Writes that agree in the first turns make the same entries of them.
+use Rattle.std.proofs.Common.{◌≡◌, ℕ, zero, suc, ◌+◌, ◌≤◌, ◌<◌, true, List, [], ◌∷◌, ◌++◌}
+use Rattle.std.proofs.Common.{length, count_by, get_or, refl, ap, ap₂, ◌∙◌, arith, ltb-true}
+use Rattle.std.specs.Prelude.{nat_lt}
+use Rattle.std.specs.List.{list_all}
+use Rattle.std.proofs.lemmas.Bool.{and_parts}
+use Rattle.tk_shape.specs.declared.shape.Shape.{Shape}
+use Rattle.tk_shape.specs.Lengths.{turn_count}
+use Rattle.tk_schedule.specs.declared.history.History.{History}
+use Rattle.tk_schedule.specs.declared.item.Item.{Item}
+use Rattle.tk_schedule.specs.declared.item.Item.TheVariants.{Client, Publish}
+use Rattle.tk_schedule.specs.Schedule.{IsLegal, order_at, blank_turn, is_within}
+use Rattle.tk_schedule.proofs.Offers.{turn_within}
+use Rattle.tk_frames.specs.declared.write_frame.WriteFrame.{WriteFrame}
+use Rattle.tk_frames.specs.declared.entry.Placed.{Placed}
+use Rattle.tk_frames.specs.declared.entry.Entry.TheVariants.{Write, Mark}
+use Rattle.tk_frames.specs.Order.{is_mark_entry}
+use Rattle.tk_report.specs.Entries.{placed_from, placed_after, entries_before}
+
+same-placed : (f g : ℕ → WriteFrame) (n : ℕ) → ((c : ℕ) → c < n → f c ≡ g c) →
+    (position e : ℕ) (items : List Item) →
+    list_all (is_within n) items ≡ true →
+    placed_from f position e items ≡ placed_from g position e items
+unfolding placed_from
+same-placed f g n same position e [] within = refl
+same-placed f g n same position e (Client c ∷ items) within =
+    let split = and_parts (nat_lt c n) (list_all (is_within n) items) within in
+    ap₂ (λ (w : WriteFrame) (rest : List Placed). record { position = position; entry = Write w }
+    ∷ rest)
+    (same c (ltb-true c n split.0)) (same-placed f g n same (position + 1) e items split.1)
+same-placed f g n same position e (Publish ∷ items) within =
+    ap (λ (rest : List Placed). record { position = position; entry = Mark e } ∷ rest)
+    (same-placed f g n same (position + 1) (e + 1) items within)
+
+-- the entries of the first n turns are made of the writes of these turns
+pub same-entries : (shape : Shape) (H : History) (f g : ℕ → ℕ → WriteFrame) (n : ℕ) →
+    IsLegal shape H → n ≤ turn_count shape →
+    ((k c : ℕ) → k < n → c < shape.clients → f k c ≡ g k c) →
+    entries_before f H n ≡ entries_before g H n
+unfolding entries_before
+same-entries shape H f g zero legal low same = refl
+same-entries shape H f g (suc n) legal low same =
+    let before =
+    same-entries shape H f g n legal (omega (arith, low))
+    (λ k c turn client. same k c (omega (arith, turn)) client)
+    in
+    let E = entries_before g H n in
+    ap (λ (xs : List Placed). xs ++ placed_after (f n) xs (order_at H n)) before
+    ∙ ap (λ ys. E ++ ys)
+    (same-placed (f n) (g n) shape.clients (λ c client. same n c (omega arith) client) (length E + 1)
+    (count_by is_mark_entry E + 1) (order_at H n)
+    (turn_within shape n (get_or H n blank_turn) (legal.each_turn n (omega (arith, low)))))

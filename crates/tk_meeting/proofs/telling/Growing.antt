@@ -1,0 +1,208 @@
+-- What was said to a client only grows, at the end of what was said for the turn that it writes next.
+use Rattle.std.proofs.Common.{◌≡◌, ℕ, ◌<◌, ◌≤◌, Bool, true, false, cond, List, [], ◌∷◌, ◌++◌, Option, Some}
+use Rattle.std.proofs.Common.{None, Result, Ok, Err, refl, ap, sym, ◌∙◌, subst, arith, append-nil, append_assoc}
+use Rattle.std.proofs.Common.{eqb-true, ne_eqb, ⊎_elim}
+use Rattle.std.specs.Prelude.{◌==◌, ◌&&◌, ◌⊎◌, ◌≢◌}
+use Rattle.tk_shape.specs.declared.shape.Shape.{Shape}
+use Rattle.tk_words.specs.Words.{WordBook}
+use Rattle.tk_client.specs.declared.say_error.SayError.{SayError}
+use Rattle.tk_member.specs.declared.fault.Fault.{Fault}
+use Rattle.tk_member.specs.declared.word.HostWord.{HostWord}
+use Rattle.tk_member.specs.declared.word.HostWord.TheVariants.{Say, Tick, Ahead, Has}
+use Rattle.tk_member.specs.Members.{MemberState}
+use Rattle.tk_member.specs.Acting.{Turned}
+use Rattle.tk_member.specs.Steps.{heard, served}
+use Rattle.tk_meeting.specs.Meeting.{Meeting, Saying, changed, member_went}
+use Rattle.tk_meeting.specs.Events.{Event, Said, Ticked, WentAhead, Greeted, Up, Down, noted, say_fault, hears}
+use Rattle.tk_meeting.specs.Events.{greeting_of, comes_up, comes_down, unless_ended, is_client, is_server}
+use Rattle.tk_meeting.specs.Events.{client_does, happens, after_events}
+use Rattle.tk_meeting.proofs.telling.Rising.{RisesIn, cond-has, heard-rises, served-rises}
+
+-- A client that wrote g turns wrote n turns later. What was said for earlier turns stays; for turn g more
+-- may be said; and nothing was said for a turn that is still to come.
+pub record GrowsOf (g n : ℕ) (said later : ℕ → List Saying) : Type 0 where
+  pub rises : g ≤ n
+  pub past : (k : ℕ) → k < g → later k ≡ said k
+  pub more : List Saying
+  pub here : later g ≡ said g ++ more
+  pub behind : (k : ℕ) → n < k → later k ≡ said k
+
+abbrev pub Grows : Meeting → Meeting → Type 0
+Grows m n =
+    (c : ℕ) → GrowsOf (m.members c).written (n.members c).written (m.said c) (n.said c)
+
+-- ---- none, and one after the other
+
+grows_of-none : (g n : ℕ) (said : ℕ → List Saying) → g ≤ n → GrowsOf g n said said
+grows_of-none g n said h =
+    record {
+      rises = h;
+      past = λ k low. refl;
+      more = [];
+      here = sym (append-nil (said g));
+      behind = λ k high. refl;
+    }
+
+pub grows-none : (m : Meeting) → Grows m m
+grows-none m c = grows_of-none (m.members c).written (m.members c).written (m.said c) (omega arith)
+
+-- what was said for turn g after both
+here-next : (g n : ℕ) (before mid after front back : List Saying) (stays : g < n → after ≡ mid) →
+    (g ≡ n → after ≡ mid ++ back) → mid ≡ before ++ front → g ≤ n →
+    (more : List Saying) × (after ≡ before ++ more)
+here-next g n before mid after front back stays grows is low =
+    ⊎_elim
+    (λ (h : g < n). (front, stays h ∙ is))
+    (λ (h : g ≡ n). (
+      front ++ back,
+      grows h ∙ ap (λ xs. xs ++ back) is ∙ append_assoc before front back,
+    ))
+    (cases g n low)
+  where
+    cases : (g n : ℕ) → g ≤ n → (g < n) ⊎ (g ≡ n)
+    cases g n h = grind arith
+
+grows_of-next : (g n k : ℕ) (said mid later : ℕ → List Saying) → GrowsOf g n said mid →
+    GrowsOf n k mid later → GrowsOf g k said later
+grows_of-next g n k said mid later a b =
+    let at : g ≡ n → later g ≡ mid g ++ b.more
+    = λ (e : g ≡ n). subst (λ (x : ℕ). later x ≡ mid x ++ b.more) (sym e) b.here in
+    let next : (more : List Saying) × (later g ≡ said g ++ more)
+    = here-next g n (said g) (mid g) (later g) a.more b.more (λ (h : g < n). b.past g h) at a.here a.rises in
+    record {
+      rises = omega (arith, a.rises, b.rises);
+      past = λ i low. let low_mid : i < n = omega (arith, low, a.rises) in b.past i low_mid ∙ a.past i low;
+      more = next.0;
+      here = next.1;
+      behind = λ i high. let high_mid : n < i = omega (arith, high, b.rises) in b.behind i high ∙ a.behind i high_mid;
+    }
+
+pub grows-next : (l m n : Meeting) → Grows l m → Grows m n → Grows l n
+grows-next l m n a b c =
+    grows_of-next (l.members c).written (m.members c).written (n.members c).written (l.said c) (m.said c)
+    (n.said c) (a c) (b c)
+
+-- ---- a text is noted
+
+-- for one turn and no other
+noted-of : (g : ℕ) (y : Saying) (said : ℕ → List Saying) →
+    GrowsOf g g said (changed g (said g ++ y ∷ []) said)
+noted-of g y said =
+    record {
+      rises = omega arith;
+      past = λ k low. other k (omega (arith, low));
+      more = y ∷ [];
+      here = same (g == g) (eqb-same g);
+      behind = λ k high. other k (omega (arith, high));
+    }
+  where
+    eqb-same : (g : ℕ) → (g == g) ≡ true
+    eqb-same g = search arith
+
+    same : (t : Bool) → t ≡ true → cond t (said g ++ y ∷ []) (said g) ≡ said g ++ y ∷ []
+    same t e = rw e refl
+
+    other : (k : ℕ) → k ≢ g → changed g (said g ++ y ∷ []) said k ≡ said k
+    other k ne = rw (ne_eqb k g ne) refl
+
+noted-at : (m : Meeting) (c d : ℕ) (y : Saying) (t : Bool) → (d == c) ≡ t →
+    GrowsOf (m.members d).written (m.members d).written (m.said d)
+    (cond t (changed (m.members c).written (m.said c (m.members c).written ++ y ∷ []) (m.said c))
+    (m.said d))
+noted-at m c d y true e =
+    subst
+    (λ (i : ℕ). GrowsOf (m.members i).written (m.members i).written (m.said i)
+    (changed (m.members c).written (m.said c (m.members c).written ++ y ∷ []) (m.said c)))
+    (sym (eqb-true d c e)) (noted-of (m.members c).written y (m.said c))
+noted-at m c d y false e =
+    grows_of-none (m.members d).written (m.members d).written (m.said d) (omega arith)
+
+pub grows-noted : (c : ℕ) (y : Saying) (o : Option SayError) (m : Meeting) → Grows m (noted c y o m)
+grows-noted c y (Some error) m d = grows-none m d
+grows-noted c y None m d = noted-at m c d y (d == c) refl
+
+-- ---- a member goes on
+
+went-at : (m : Meeting) (c d : ℕ) (n : MemberState) (t : Bool) → (d == c) ≡ t →
+    (m.members c).written ≤ n.written →
+    (m.members d).written ≤ (cond t n (m.members d)).written
+went-at m c d n true e h =
+    subst (λ (i : ℕ). (m.members i).written ≤ n.written) (sym (eqb-true d c e)) h
+went-at m c d n false e h = omega arith
+
+pub grows-went : (m : Meeting) (c : ℕ) (r : Result Turned Fault) → RisesIn (m.members c).written r →
+    Grows m (member_went m c r)
+grows-went m c (Ok t) h d =
+    grows_of-none (m.members d).written (changed c t.member m.members d).written (m.said d)
+    (went-at m c d t.member (d == c) refl h)
+grows-went m c (Err fault) h d = grows-none m d
+
+-- the host of a client tells it something
+pub grows-hears : (b : ℕ → WordBook) (m : Meeting) (c : ℕ) (word : HostWord) → Grows m (hears b m c word)
+grows-hears b m c word =
+    grows-went m c (heard (b c) (m.members c) (Some word)) (heard-rises (b c) (m.members c) (Some word))
+
+-- ---- links
+
+pub grows-up : (shape : Shape) (m : Meeting) (c j : ℕ) (frames : List (List ℕ)) →
+    Grows m (comes_up shape m c j frames)
+grows-up shape m c j [] = grows-none m
+grows-up shape m c j (frame ∷ frames) = grows-none m
+
+pub grows-down : (b : ℕ → WordBook) (m : Meeting) (j c : ℕ) (frames : List (List ℕ)) →
+    Grows m (comes_down b m j c frames)
+grows-down b m j c [] = grows-none m
+grows-down b m j c (frame ∷ frames) =
+    let left : Meeting = record m { down = changed j (changed c frames (m.down j)) m.down } in
+    grows-went left c (served (b c) (m.members c) j frame) (served-rises (b c) (m.members c) j frame)
+
+-- ---- events
+
+unless-grows : (o : Option Fault) (m after : Meeting) → Grows m after → Grows m (unless_ended o m after)
+unless-grows None m after h = h
+unless-grows (Some fault) m after h = grows-none m
+
+client-grows : (shape : Shape) (m : Meeting) (c : ℕ) (after : Meeting) → Grows m after →
+    Grows m (client_does shape m c after)
+client-grows shape m c after h =
+    cond-has (Grows m) (is_client shape c) (unless_ended (m.ended c) m after) m
+    (unless-grows (m.ended c) m after h) (grows-none m)
+
+pub grows-event : (shape : Shape) (b : ℕ → WordBook) (m : Meeting) (x : Event) →
+    Grows m (happens shape b m x)
+unfolding happens
+grows-event shape b m (Said c log text) =
+    let y : Saying = record { log = log; text = text } in
+    let n : Meeting = noted c y (say_fault m c log text) m in
+    client-grows shape m c (hears b n c (Say log text))
+    (grows-next m n (hears b n c (Say log text)) (grows-noted c y (say_fault m c log text) m)
+    (grows-hears b n c (Say log text)))
+grows-event shape b m (Ticked c) = client-grows shape m c (hears b m c Tick) (grows-hears b m c Tick)
+grows-event shape b m (WentAhead c turns) =
+    client-grows shape m c (hears b m c (Ahead turns)) (grows-hears b m c (Ahead turns))
+grows-event shape b m (Greeted c j count) =
+    let word : HostWord = Has (greeting_of m c j count) in
+    cond-has (Grows m) (is_server shape j) (client_does shape m c (hears b m c word)) m
+    (client-grows shape m c (hears b m c word) (grows-hears b m c word)) (grows-none m)
+grows-event shape b m (Up c j) =
+    cond-has (Grows m) (is_client shape c && is_server shape j) (comes_up shape m c j (m.up c j)) m
+    (grows-up shape m c j (m.up c j)) (grows-none m)
+grows-event shape b m (Down j c) =
+    let after : Meeting = comes_down b m j c (m.down j c) in
+    cond-has (Grows m) (is_server shape j) (client_does shape m c after) m
+    (client-grows shape m c after (grows-down b m j c (m.down j c))) (grows-none m)
+
+pub grows-events : (shape : Shape) (b : ℕ → WordBook) (m : Meeting) (events : List Event) →
+    Grows m (after_events shape b m events)
+unfolding after_events
+grows-events shape b m [] = grows-none m
+grows-events shape b m (x ∷ xs) =
+    grows-next m (happens shape b m x) (after_events shape b (happens shape b m x) xs)
+    (grows-event shape b m x) (grows-events shape b (happens shape b m x) xs)
+
+pub after-append : (shape : Shape) (b : ℕ → WordBook) (m : Meeting) (events more : List Event) →
+    after_events shape b m (events ++ more)
+    ≡ after_events shape b (after_events shape b m events) more
+unfolding after_events
+after-append shape b m [] more = refl
+after-append shape b m (x ∷ xs) more = after-append shape b (happens shape b m x) xs more

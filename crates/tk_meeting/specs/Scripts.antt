@@ -1,0 +1,19 @@
+-- Whatever is said in a group apart, there is a script that has it.
+use Rattle.std.specs.Prelude.{◌≡◌, ℕ, List}
+use Rattle.tk_script.specs.declared.script.Script.{Script}
+use Rattle.tk_words.specs.Words.{WordBook}
+use Rattle.tk_meeting.specs.Events.{Event, met}
+use Rattle.tk_meeting.specs.Laws.{Tells}
+
+-- a script of the same group that has what was said
+pub record HasScript (S : Script) (books : ℕ → WordBook) (events : List Event) : Type 0 where
+  pub script : Script
+  pub same_shape : script.shape ≡ S.shape
+  pub same_keys : script.keys ≡ S.keys
+  pub same_roles : script.roles ≡ S.roles
+  pub tells : Tells script (met script books events)
+
+-- Whatever happens in a group, there is such a script.
+abbrev pub MeetingsHaveScripts : Type 0
+MeetingsHaveScripts =
+    (S : Script) (books : ℕ → WordBook) (events : List Event) → HasScript S books events

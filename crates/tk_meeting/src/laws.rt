@@ -1,0 +1,37 @@
+//! Why a group on several machines does what the serial run does, and shows no more.
+ghost use Rattle.tk_meeting.specs.Delivery.{MeetingsDeliver};
+ghost use Rattle.tk_meeting.specs.Hidden.{MeetingsLookAlike};
+ghost use Rattle.tk_meeting.specs.Laws.{MeetingsAreSerial};
+ghost use Rattle.tk_meeting.specs.OwnBooks.{OwnKeysServe};
+ghost use Rattle.tk_meeting.specs.Scripts.{MeetingsHaveScripts};
+
+/// However packets are delayed, mixed and delivered: at any time what each server has of each client is a front of what
+/// the serial run has it see, what each member told is a front of what the report says, nobody refuses, and once all is
+/// handed over each member has told all.
+pub fn meetings_are_serial()
+    ensures { MeetingsAreSerial }
+{}
+
+/// What a member tells of a log is, in a clear run, each text as it was written; and a number that it tells to be absent
+/// was rightly passed over.
+pub fn meetings_deliver()
+    ensures { MeetingsDeliver }
+{}
+
+/// Two groups in which the same happens but for what is said, the second one over the mirrored tape, look alike at any
+/// time: each server but the hidden one gets and sends the same, in the same order, and on each link there are frames of
+/// the same kinds and lengths.
+pub fn meetings_look_alike()
+    ensures { MeetingsLookAlike }
+{}
+
+/// A keyed book with the handles of the logs that a client uses, and with its seed, serves the client as the book with
+/// all keys does.
+pub fn own_keys_serve()
+    ensures { OwnKeysServe }
+{}
+
+/// Whatever happens, there is a script that has what was said: each text in the turn that its writer wrote next.
+pub fn meetings_have_scripts()
+    ensures { MeetingsHaveScripts }
+{}

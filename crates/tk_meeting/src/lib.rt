@@ -1,0 +1,7 @@
+//! A group apart, as definitions and laws: clients and servers on machines of their own, and what is on its way between
+//! them. What it does, however packets are delivered, is what the serial run does.
+#![tactic(auto)]
+
+mod laws;
+
+pub use laws::{meetings_are_serial, meetings_deliver, meetings_look_alike, own_keys_serve};
