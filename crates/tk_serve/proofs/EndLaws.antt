@@ -1,5 +1,5 @@
 -- How a run ends, from how its next packet does.
-use Rattle.std.proofs.Common.{◌≡◌, ℕ, ◌+◌, ◌⊎◌, sym, ◌∙◌, subst, inl, inr}
+use Rattle.std.proofs.Common.{◌≡◌, ℕ, ◌+◌, ◌⊎◌, refl, sym, ◌∙◌, subst, inl, inr}
 use Rattle.std.proofs.Common.{List, [], ◌∷◌, ◌++◌, OnOk, OnErr, IfOk, Bool, false, IsTrue, ◌↔◌}
 use Rattle.std.specs.Prelude.{Result, Ok, Err}
 use Rattle.tk_shape.specs.declared.shape.Shape.{Shape}
@@ -46,6 +46,7 @@ module _ (shape : Shape) (count : ℕ) (s : Server) (left middle held now : Told
             course-whole shape runs.frames left middle held new
             (still shape runs.frames left middle held now new stops.unchanged runs.course);
         takes = stops.takes;
+        over = λ is. absurd (going is);
       }
   ran-front rest new going (inr next) =
       record {
@@ -53,6 +54,7 @@ module _ (shape : Shape) (count : ℕ) (s : Server) (left middle held now : Told
         middle = rest;
         course = course-front shape runs.frames left middle rest held now new runs.course going next;
         takes = takes-nothing (8 + longest_frame shape) rest;
+        over = λ _. refl;
       }
 
 -- what holds of a call's value holds of more

@@ -93,12 +93,13 @@ pub record RanRead (shape : Shape) (left rest held new : Told) : Type 0 where
   pub going : IsGoing shape frames
   pub takes : TakesAtMost (8 + longest_frame shape) middle rest
 
--- a front of what goes out was put, and no more than a packet was taken besides
+-- a front of what goes out was put, and no more than a packet was taken besides; nothing, where the run is over
 pub record RanFront (shape : Shape) (left rest held new : Told) : Type 0 where
   pub frames : List PacketView
   pub middle : Told
   pub course : IsCourseFront shape frames left middle held new
   pub takes : TakesAtMost (8 + longest_frame shape) middle rest
+  pub over : IsOver shape (seats_after shape (empty_seats shape) frames) → rest ≡ middle
 
 -- ---- from the first packet on
 
