@@ -139,6 +139,7 @@ between-behind Fails b m t left middle rest held h new course ends =
       middle = ends.middle;
       course =
           course-both b m t ends.last left middle ends.middle held h new course ends.course;
+      goes_on = ends.goes_on;
       fails = ends.fails;
     }
 
@@ -178,6 +179,7 @@ writing-behind b m t left middle rest held h new course ends =
           ∙ ap (take (length one + ends.count))
           (sym (flat_map-append packet_bytes t.packets ends.last.packets)));
       few = ends.few;
+      over = ends.over;
     }
 
 -- a member that ends later ends

@@ -1,5 +1,5 @@
 -- How a member ends at the next packet.
-use Rattle.std.proofs.Common.{◌≡◌, refl, sym, ◌∙◌, subst, ℕ, ◌+◌, false, List}
+use Rattle.std.proofs.Common.{◌≡◌, refl, sym, ◌∙◌, subst, ℕ, ◌+◌, true, false, List}
 use Rattle.std.proofs.Common.{take, inl, inr}
 use Rattle.std.specs.Prelude.{Result, Ok, Err}
 use Rattle.tk_io.specs.Content.{before_taking, gained}
@@ -27,9 +27,9 @@ still : (b : WordBook) (m : MemberState) (left held new : Told) → new ≡ held
 still b m left held new same =
     subst (λ (x : Told). IsCourse b m (unmoved m) left left held x) (sym same) (course-none b m left held)
 
-pub ends-memory : (b : WordBook) (m : MemberState) (left rest held new : Told) → new ≡ held →
-    TakesAtMost (8 + most_later) left rest → EndsFor Memory b m left rest held new
-ends-memory b m left rest held new same few =
+pub ends-memory : (b : WordBook) (m : MemberState) (left rest held new : Told) → is_over m ≡ false →
+    new ≡ held → TakesAtMost (8 + most_later) left rest → EndsFor Memory b m left rest held new
+ends-memory b m left rest held new goes same few =
     record {
       last = unmoved m;
       middle = left;
@@ -37,33 +37,35 @@ ends-memory b m left rest held new same few =
       count = 0;
       puts = same ∙ gaining-none held;
       few = few;
+      over = λ is. let other : true ≡ false = sym is ∙ goes in cc;
     }
 
 between : (Fails : Told → Told → Type 0) (b : WordBook) (m : MemberState)
-    (left rest held new : Told) → new ≡ held → Fails left rest →
+    (left rest held new : Told) → is_over m ≡ false → new ≡ held → Fails left rest →
     EndsBetween Fails b m left rest held new
-between Fails b m left rest held new same fails =
+between Fails b m left rest held new goes same fails =
     record {
       last = unmoved m;
       middle = left;
       course = still b m left held new same;
+      goes_on = goes;
       fails = fails;
     }
 
 -- no packet is taken
 pub ends-untaken : (e : PacketError) (b : WordBook) (m : MemberState) (left rest held new : Told) →
-    new ≡ held → TakesAtMost (8 + most_later) left rest →
+    is_over m ≡ false → new ≡ held → TakesAtMost (8 + most_later) left rest →
     (e ≡ packets.Cut → EndsWithin most_later left rest) →
     (e ≡ packets.Long → ComesLong most_later left rest) →
     EndsFor (fault_of_packet e) b m left rest held new
-ends-untaken packets.Memory b m left rest held new same most cut long =
-    ends-memory b m left rest held new same most
-ends-untaken packets.Read b m left rest held new same most cut long =
-    between _ b m left rest held new same most
-ends-untaken packets.Cut b m left rest held new same most cut long =
-    between _ b m left rest held new same (cut refl)
-ends-untaken packets.Long b m left rest held new same most cut long =
-    between _ b m left rest held new same (long refl)
+ends-untaken packets.Memory b m left rest held new goes same most cut long =
+    ends-memory b m left rest held new goes same most
+ends-untaken packets.Read b m left rest held new goes same most cut long =
+    between _ b m left rest held new goes same most
+ends-untaken packets.Cut b m left rest held new goes same most cut long =
+    between _ b m left rest held new goes same (cut refl)
+ends-untaken packets.Long b m left rest held new goes same most cut long =
+    between _ b m left rest held new goes same (long refl)
 
 of-packet : (e : Fault) (b : WordBook) (m : MemberState) (left rest held new : Told) →
     IsOfPacket e → EndsAt e b m left rest held new → EndsFor e b m left rest held new
@@ -86,7 +88,7 @@ ends-taken e b m p left rest held new goes comes short ended same =
     elim ended [
       | inl memory ↦
           subst (λ (f : Fault). EndsFor f b m left rest held new) (sym memory)
-          (ends-memory b m left rest held new same (takes-packet most_later p left rest comes short))
+          (ends-memory b m left rest held new goes same (takes-packet most_later p left rest comes short))
       | inr at ↦
           of-packet e b m left rest held new (subst EndsByPacket at (step-ends b m p)) (record {
             last = unmoved m;
@@ -115,6 +117,7 @@ ends-unput puts.Memory b m n p sent left rest held new goes comes short steps fr
       count = front.0;
       puts = front.1;
       few = takes-nothing (8 + most_later) rest;
+      over = λ _. refl;
     }
 ends-unput puts.Write b m n p sent left rest held new goes comes short steps front =
     record {
@@ -124,6 +127,7 @@ ends-unput puts.Write b m n p sent left rest held new goes comes short steps fro
       count = front.0;
       puts = front.1;
       few = takes-nothing (8 + most_later) rest;
+      over = λ _. refl;
     }
 
 -- no packet ends it because its source or its sink fails

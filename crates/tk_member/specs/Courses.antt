@@ -70,12 +70,13 @@ pub record EndsDone (b : WordBook) (m : MemberState) (left rest held new : Told)
   pub course : IsCourse b m last left rest held new
   pub done : IsDone last.member course.takes.packets rest
 
--- no packet could be taken, of which this holds
+-- no packet could be taken, of which this holds, while the run wasn't over
 pub record EndsBetween (Fails : Told → Told → Type 0) (b : WordBook) (m : MemberState)
     (left rest held new : Told) : Type 0 where
   pub last : Turned
   pub middle : Told
   pub course : IsCourse b m last left middle held new
+  pub goes_on : is_over last.member ≡ false
   pub fails : Fails middle rest
 
 -- a packet came that ends it for this fault
@@ -90,7 +91,7 @@ pub record EndsAt (fault : Fault) (b : WordBook) (m : MemberState) (left rest he
   pub short : IsShort packet
   pub ends : step b last.member packet ≡ Err fault
 
--- a front of what it sends was put, and no more than a packet was taken besides
+-- a front of what it sends was put, and no more than a packet was taken besides; nothing, where the run is over
 pub record EndsWriting (b : WordBook) (m : MemberState) (left rest held new : Told) : Type 0 where
   pub last : Turned
   pub middle : Told
@@ -98,6 +99,7 @@ pub record EndsWriting (b : WordBook) (m : MemberState) (left rest held new : To
   pub count : ℕ
   pub puts : new ≡ gained held (take count (packets_bytes last.packets))
   pub few : TakesAtMost (8 + most_later) middle rest
+  pub over : is_over last.member ≡ true → rest ≡ middle
 
 -- how a member that is set up ends for a fault
 abbrev pub EndsFor : Fault → WordBook → MemberState → Told → Told → Told → Told → Type 0

@@ -18,7 +18,8 @@ returns-in_err-packet-clause-next g c =
     let out : c.from_residual.result ≡ Err (fault_of_packet e) = search rules in
     rw out
     (ends-untaken e b c.args.member.now (g.S.Source.left c.args.source.now)
-    (g.S.Source.left c.next_packet.new.source) held held refl c.in_err-packet.ensures.err
+    (g.S.Source.left c.next_packet.new.source) held held c.requires.goes_on refl
+    c.in_err-packet.ensures.err
     (λ is. c.in_err-packet.ensures.cut (ap Err is)) (λ is. c.in_err-packet.ensures.long (ap Err is)))
 
 pub returns-in_err-sent-clause-next : goal.returns-in_err-sent-clause-next
