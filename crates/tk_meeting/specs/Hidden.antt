@@ -61,9 +61,9 @@ abbrev pub MeetingsLookAlike : Type 0
 MeetingsLookAlike =
     (A B : Script) (h : ℕ) (u : List ℕ) → let H = serial_history A.shape in
     AreMirrored A B H h u →
-    (books others : ℕ → WordBook) → HaveKeys A (drawn u) books →
-    HaveKeys B (drawn (mirror A B H h u)) others →
+    (books other_books : ℕ → WordBook) → HaveKeys A (drawn u) books →
+    HaveKeys B (drawn (mirror A B H h u)) other_books →
     (events more : List Event) → Tells A (met A books (events ++ more)) →
-    (changed rest : List Event) → Tells B (met B others (changed ++ rest)) →
-    unsaid events ≡ unsaid changed →
-    LooksAlike A.shape h (met A books events) (met B others changed)
+    (other_events rest : List Event) → Tells B (met B other_books (other_events ++ rest)) →
+    unsaid events ≡ unsaid other_events →
+    LooksAlike A.shape h (met A books events) (met B other_books other_events)
