@@ -6,3 +6,4 @@ pub mod Outlines
 pub mod SameOutlines
 pub mod LookAlike
 pub mod Kept
+pub mod Pacing

@@ -5,3 +5,4 @@ pub mod Laws
 pub mod Delivery
 pub mod Hidden
 pub mod Scripts
+pub mod Pacing

@@ -17,8 +17,8 @@ pub record Saying : Type 0 where
   pub log : ℕ
   pub text : List ℕ
 
--- Of each client, by number: its member; the texts that were said to it, by the turn that it was
--- to write next; what it told its host; and why it ended, if it did. Of each server, by number, what
+-- Of each client, by number: its member; the texts that were said to it and that it may say, by the turn
+-- that it was to write next; what it told its host; and why it ended, if it did. Of each server, by number, what
 -- it took of each client. And the frames on their way, from a client up to a server, and from a
 -- server down to a client.
 pub record Meeting : Type 0 where

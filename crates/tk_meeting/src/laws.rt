@@ -1,8 +1,9 @@
-//! Why a group on several machines does what the serial run does, and shows no more.
+//! Why a group on several machines does what the serial run does, and looks the same to all servers but one.
 ghost use Rattle.tk_meeting.specs.Delivery.{MeetingsDeliver};
 ghost use Rattle.tk_meeting.specs.Hidden.{MeetingsLookAlike};
 ghost use Rattle.tk_meeting.specs.Laws.{MeetingsAreSerial};
 ghost use Rattle.tk_meeting.specs.OwnBooks.{OwnKeysServe};
+ghost use Rattle.tk_meeting.specs.Pacing.{MeetingsKeepPace};
 ghost use Rattle.tk_meeting.specs.Scripts.{MeetingsHaveScripts};
 
 /// However packets are delayed, mixed and delivered: at any time what each server has of each client is a front of what
@@ -12,17 +13,23 @@ pub fn meetings_are_serial()
     ensures { MeetingsAreSerial }
 {}
 
-/// What a member tells of a log is, in a clear run, each text as it was written; and a number that it tells to be absent
-/// was rightly passed over.
+/// What a member tells of a log is, in a clear run, each text as it was written; and a number that it tells to be
+/// absent was rightly passed over.
 pub fn meetings_deliver()
     ensures { MeetingsDeliver }
 {}
 
 /// Two groups in which the same happens but for what is said, the second one over the mirrored tape, look alike at any
-/// time: each server but the hidden one gets and sends the same, in the same order, and on each link there are frames of
-/// the same kinds and lengths.
+/// time: each server but the hidden one gets and sends the same, in the same order, and on each link there are frames
+/// of the same kinds and lengths.
 pub fn meetings_look_alike()
     ensures { MeetingsLookAlike }
+{}
+
+/// When a member writes and asks depends on no text and no key: two groups of one shape in which the same happens but
+/// for what is said keep pace, whatever words they have, keyed or drawn.
+pub fn meetings_keep_pace()
+    ensures { MeetingsKeepPace }
 {}
 
 /// A keyed book with the handles of the logs that a client uses, and with its seed, serves the client as the book with

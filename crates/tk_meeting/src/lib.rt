@@ -4,4 +4,7 @@
 
 mod laws;
 
-pub use laws::{meetings_are_serial, meetings_deliver, meetings_look_alike, own_keys_serve};
+pub use laws::{
+    meetings_are_serial, meetings_deliver, meetings_have_scripts, meetings_keep_pace,
+    meetings_look_alike, own_keys_serve,
+};
