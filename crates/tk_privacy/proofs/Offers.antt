@@ -21,3 +21,9 @@ pub use Rattle.tk_privacy.proofs.EnteringLaws.{frames-seen}
 unfoldable pub use Rattle.tk_privacy.proofs.Computing.{computing}
 pub use Rattle.tk_privacy.proofs.examples.Mirrored.{shape as one_shape, script_a as speaking}
 pub use Rattle.tk_privacy.proofs.examples.Mirrored.{script_b as silent, tape, t1 as mirrored}
+-- the cells of a tape, and those of the tape of what is shown
+pub use Rattle.tk_privacy.proofs.Tapes.{IsTape}
+pub use Rattle.tk_privacy.proofs.Changes.{sent_len}
+pub use Rattle.tk_privacy.proofs.Masks.{cell_write-masked}
+pub use Rattle.tk_privacy.proofs.ReadCells.{AreShown, pieces-shown}
+pub use Rattle.tk_privacy.proofs.PrivacyLaws.{length-mirror, same-normal}

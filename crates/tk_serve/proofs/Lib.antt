@@ -25,3 +25,4 @@ pub mod TakeLaws
 pub mod TellLaws
 pub mod PassedLaws
 pub mod GrowthLaws
+pub mod Offers

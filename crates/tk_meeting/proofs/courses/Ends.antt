@@ -10,7 +10,7 @@ use Rattle.tk_shape.specs.declared.shape.Shape.{Shape}
 use Rattle.tk_shape.specs.Lengths.{turn_count}
 use Rattle.tk_schedule.specs.Schedule.{phases_over}
 use Rattle.tk_member.specs.Epochs.{least_of}
-use Rattle.tk_serve.proofs.Phases.{phase-past}
+use Rattle.tk_serve.proofs.Offers.{phase-past}
 use Rattle.tk_meeting.proofs.Pace.{Pace, Paced, Kind, Wrote, Asked, IsPace, IsIdle, acted, asks_now, gone_ahead}
 use Rattle.tk_meeting.proofs.Pace.{gone_by_ticks, count_ahead, count_ticks, has_asked, known_by, all_replied}
 use Rattle.tk_meeting.proofs.Pace.{settled}

@@ -10,8 +10,7 @@ use Rattle.std.proofs.lemmas.List.FromFn.{length-map-range_with_len, get_or-map-
 use Rattle.tk_shape.specs.declared.shape.Shape.{Shape}
 use Rattle.tk_shape.specs.Lengths.{turn_count}
 use Rattle.tk_serve.specs.Seats.{least}
-use Rattle.tk_serve.proofs.Least.{least-top, least-above, least-below}
-use Rattle.tk_serve.proofs.Phases.{phase-past, closing-last, phases-stay}
+use Rattle.tk_serve.proofs.Offers.{least-top, least-above, least-below, phase-past, closing-last, phases-stay}
 use Rattle.tk_meeting.proofs.Course.{newest_by, stream_len}
 
 -- ---- phases

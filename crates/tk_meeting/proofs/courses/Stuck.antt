@@ -5,7 +5,7 @@ use Rattle.std.proofs.Math.Nat.{mul-le-mul_right, mul-div_left}
 use Rattle.std.proofs.lemmas.Bool.{cases_lt}
 use Rattle.tk_shape.specs.declared.shape.Shape.{Shape}
 use Rattle.tk_shape.specs.Lengths.{turn_count}
-use Rattle.tk_serve.proofs.Phases.{phase-past, phase-before}
+use Rattle.tk_serve.proofs.Offers.{phase-past, phase-before}
 use Rattle.tk_meeting.proofs.Pace.{Pace, Paced, Kind, IsIdle, known_by}
 use Rattle.tk_meeting.proofs.Course.{Course, newest_by, came_of, stream_len}
 use Rattle.tk_meeting.proofs.members.Paces.{count_due}

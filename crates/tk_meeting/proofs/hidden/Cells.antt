@@ -22,11 +22,8 @@ use Rattle.tk_report.specs.Entries.{write_at}
 use Rattle.tk_report.specs.Exchange.{read_at}
 use Rattle.tk_privacy.specs.Privacy.{Pairs, shown_write_cell, shown_keyed_cell, read_cell_for}
 use Rattle.tk_privacy.specs.Privacy.{shown_read, normal, pairs_read, read_for}
-use Rattle.tk_privacy.proofs.Tapes.{IsTape}
-use Rattle.tk_privacy.proofs.Masks.{cell_write-masked}
-use Rattle.tk_privacy.proofs.ReadCells.{both, AreShown, pieces-shown}
-use Rattle.tk_privacy.proofs.SameWords.{length-read_cell}
-use Rattle.tk_privacy.proofs.Changes.{normal-IsTape, sent_len}
+use Rattle.tk_privacy.proofs.Offers.{IsTape, cell_write-masked, both, AreShown, pieces-shown}
+use Rattle.tk_privacy.proofs.Offers.{length-read_cell, normal-IsTape, sent_len}
 
 module _ (S : Script) (H : History) (h : ℕ) (u : List ℕ) (whole : length u ≡ tape_len S.shape) where
   pairs : Pairs

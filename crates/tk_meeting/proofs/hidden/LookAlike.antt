@@ -7,7 +7,7 @@ use Rattle.tk_script.specs.declared.script.Script.{Script}
 use Rattle.tk_words.specs.Words.{WordBook, IsBook, drawn, shows_vectors}
 use Rattle.tk_report.specs.Exchange.{read_at}
 use Rattle.tk_privacy.specs.Privacy.{mirror}
-use Rattle.tk_privacy.proofs.PrivacyLaws.{length-mirror}
+use Rattle.tk_privacy.proofs.Offers.{length-mirror}
 use Rattle.tk_serve.specs.Seats.{seat_of}
 use Rattle.tk_meeting.specs.Meeting.{Meeting}
 use Rattle.tk_meeting.specs.Events.{Event, met}

@@ -13,23 +13,22 @@ use Rattle.tk_bits.proofs.Offers.{length-chosen_sum}
 use Rattle.tk_schedule.specs.Schedule.{epoch_at, phases_over}
 use Rattle.tk_schedule.proofs.Offers.{serial-IsLegal}
 use Rattle.tk_script.specs.declared.script.Script.{Script}
-use Rattle.tk_words.specs.Words.{WordBook, IsBook, words_of, shows_vectors}
+use Rattle.tk_words.specs.Words.{WordBook, IsBook, shows_vectors}
 use Rattle.tk_frames.specs.declared.read_frame.ReadFrame.{ReadFrame}
 use Rattle.tk_frames.specs.declared.seeds.Seeds.TheVariants.{Plain, Seeded, Shown}
 use Rattle.tk_frames.specs.Order.{Record, before}
 use Rattle.tk_frames.specs.Slots.{slot_bytes}
 use Rattle.tk_frames.specs.Faults.{read_len_of}
 use Rattle.tk_frames.specs.Spelling.{read_kind, read_frame}
-use Rattle.tk_frames.specs.Ranges.{IsRead}
 use Rattle.tk_frames.proofs.ReadLaws.{length-read_frame}
 use Rattle.tk_table.specs.Table.{layout, blocks_of}
 use Rattle.tk_table.proofs.Offers.{layout-read_back, layout-laid_out}
 use Rattle.tk_client.specs.Asked.{seeds_told, frame_with}
-use Rattle.tk_client.proofs.InRangeLaws.{frame-in_range}
-use Rattle.tk_report.specs.Exchange.{read_at, read_pair}
+use Rattle.tk_report.specs.Exchange.{read_at}
 use Rattle.tk_report.proofs.Offers.{epochs-ordered, epochs-storable}
 use Rattle.tk_serve.specs.Told.{reply_told}
 use Rattle.tk_meeting.specs.Hidden.{outline}
+use Rattle.tk_meeting.proofs.servers.InRange.{read-in_range}
 use Rattle.tk_meeting.proofs.Canonical.{serial, whole, read_from}
 
 -- ---- replies
@@ -120,21 +119,12 @@ epoch-most S g c low client_in =
     in
     omega (arith, ahead, most)
 
-pub read-in_range : (S : Script) (b : WordBook) (c j g : ℕ) → IsBook S.shape b → 1 ≤ j →
-    j ≤ S.shape.servers → g < turn_count S.shape → c < S.shape.clients →
-    IsRead S.shape (read_from S b c j g)
-unfolding read_at
-read-in_range S b c j g served low high turn client =
-    frame-in_range S.shape b g c (epoch_at (serial S) g c)
-    (read_pair S (words_of S.shape b) (serial S) g c) served turn client j low high
-    (epoch-most S g c turn client)
-
 length-read : (S : Script) (b : WordBook) (c j g : ℕ) → IsBook S.shape b → 1 ≤ j →
     j ≤ S.shape.servers → g < turn_count S.shape → c < S.shape.clients →
     length (read_frame (read_from S b c j g))
     ≡ read_len_of S.shape (kind_to S.shape (shows_vectors b) j)
 length-read S b c j g served low high turn client =
-    length-read_frame S.shape (read_from S b c j g) (read-in_range S b c j g served low high turn client)
+    length-read_frame S.shape (read_from S b c j g) (read-in_range S b c j g served client low high turn)
     ∙ ap (read_len_of S.shape) (kind-read S b c j g)
 
 module _ (A B : Script) (b d : WordBook) (shapes : A.shape ≡ B.shape)

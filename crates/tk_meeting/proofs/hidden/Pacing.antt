@@ -1,13 +1,12 @@
 -- Groups whose courses are the same keep pace.
-use Rattle.std.proofs.Common.{◌≡◌, refl, ap, sym, ◌∙◌, subst, ℕ, suc, ◌+◌, ◌-◌, ◌≤◌, ◌<◌, List, [], ◌∷◌, ◌++◌, length}
-use Rattle.std.specs.Prelude.{drop}
+use Rattle.std.proofs.Common.{◌≡◌, refl, ap, sym, ◌∙◌, subst, ℕ, suc, ◌+◌, ◌-◌, ◌≤◌, ◌<◌, List, [], ◌∷◌, length}
 use Rattle.std.proofs.lemmas.List.{length-drop}
 use Rattle.tk_shape.specs.declared.shape.Shape.{Shape}
 use Rattle.tk_script.specs.declared.script.Script.{Script}
 use Rattle.tk_words.specs.Words.{WordBook}
 use Rattle.tk_meeting.specs.Meeting.{Meeting}
-use Rattle.tk_meeting.specs.Events.{Event, met}
-use Rattle.tk_meeting.specs.Pacing.{KeepsPace, MeetingsKeepPace}
+use Rattle.tk_meeting.specs.Events.{met}
+use Rattle.tk_meeting.specs.Pacing.{MeetingsKeepPace}
 use Rattle.tk_meeting.proofs.Canonical.{stream}
 use Rattle.tk_meeting.proofs.Pace.{Kind, Wrote, Asked}
 use Rattle.tk_meeting.proofs.Standing.{frames_of}

@@ -11,7 +11,7 @@ use Rattle.tk_report.specs.Entries.{write_at}
 use Rattle.tk_report.specs.Exchange.{read_at}
 use Rattle.tk_privacy.specs.Privacy.{shown_read, normal, mirror}
 use Rattle.tk_privacy.specs.Laws.{AreMirrored}
-use Rattle.tk_privacy.proofs.PrivacyLaws.{length-mirror, same-normal}
+use Rattle.tk_privacy.proofs.Offers.{length-mirror, same-normal}
 use Rattle.tk_meeting.proofs.hidden.Cells.{write-cell, read-cell}
 
 module _ (A B : Script) (H : History) (h : ℕ) (u : List ℕ) (is : AreMirrored A B H h u) where

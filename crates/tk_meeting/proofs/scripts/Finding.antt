@@ -10,7 +10,7 @@ use Rattle.tk_shape.specs.declared.shape.Shape.{Shape}
 use Rattle.tk_script.specs.declared.script.Script.{Script}
 use Rattle.tk_script.specs.declared.say.Say.{Say}
 use Rattle.tk_script.specs.Sent.{writer_of}
-use Rattle.tk_serve.proofs.Lists.{flat_map-one}
+use Rattle.tk_serve.proofs.Offers.{flat_map-one}
 use Rattle.tk_report.specs.Queues.{turn_said}
 use Rattle.tk_meeting.specs.Meeting.{Saying}
 use Rattle.tk_meeting.specs.Laws.{saying_of}

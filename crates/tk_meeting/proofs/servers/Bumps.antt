@@ -8,7 +8,7 @@ use Rattle.std.proofs.lemmas.List.FromFn.{get_or-map-range_with_len, length-map-
 use Rattle.tk_shape.specs.declared.shape.Shape.{Shape}
 use Rattle.tk_shape.specs.Lengths.{turn_count}
 use Rattle.tk_serve.specs.Seats.{least}
-use Rattle.tk_serve.proofs.Least.{least-top, least-below, least-above}
+use Rattle.tk_serve.proofs.Offers.{least-top, least-below, least-above}
 use Rattle.tk_meeting.specs.Meeting.{changed}
 use Rattle.tk_meeting.proofs.Course.{newest_by}
 use Rattle.tk_meeting.proofs.servers.Numbers.{phases-ordered}

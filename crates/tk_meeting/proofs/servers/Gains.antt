@@ -14,7 +14,7 @@ use Rattle.tk_packets.specs.Packets.{PacketView, packet}
 use Rattle.tk_serve.specs.Seats.{Seat}
 use Rattle.tk_serve.specs.Told.{told}
 use Rattle.tk_serve.specs.Steps.{Step, gain, packets_gained, all_gained}
-use Rattle.tk_serve.proofs.Lists.{flat_map-one}
+use Rattle.tk_serve.proofs.Offers.{flat_map-one}
 use Rattle.tk_meeting.specs.Meeting.{frames_for}
 use Rattle.tk_meeting.proofs.Canonical.{AreFronts, stream}
 use Rattle.tk_meeting.proofs.Course.{newest_by}

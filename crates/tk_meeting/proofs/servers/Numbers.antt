@@ -12,7 +12,7 @@ use Rattle.tk_shape.specs.declared.shape.Shape.{Shape}
 use Rattle.tk_script.specs.declared.script.Script.{Script}
 use Rattle.tk_words.specs.Words.{WordBook}
 use Rattle.tk_serve.specs.Told.{turns_read}
-use Rattle.tk_serve.proofs.Phases.{phase-before, phase-past}
+use Rattle.tk_serve.proofs.Offers.{phase-before, phase-past}
 use Rattle.tk_meeting.proofs.Canonical.{reply_in, epoch_in, stream}
 use Rattle.tk_meeting.proofs.Course.{stream_len}
 use Rattle.tk_meeting.proofs.servers.Places.{frame_at, reply-at, epoch-at, stream-places}

@@ -16,8 +16,8 @@ use Rattle.tk_client.specs.Asked.{frame_with}
 use Rattle.tk_report.specs.Exchange.{read_at}
 use Rattle.tk_report.proofs.Offers.{flat_map-next}
 use Rattle.tk_serve.specs.Told.{closing_told, turns_read}
-use Rattle.tk_serve.proofs.Phases.{one_more, phase-before, closing-last, phases-step, phases-stay}
-use Rattle.tk_serve.proofs.ToldLaws.{closing-none, closing-some}
+use Rattle.tk_serve.proofs.Offers.{one_more, phase-before, closing-last, phases-step, phases-stay}
+use Rattle.tk_serve.proofs.Offers.{closing-none, closing-some}
 use Rattle.tk_meeting.proofs.Canonical.{whole, read_from, reply_in, epoch_in, told_in_turn, stream}
 use Rattle.tk_meeting.proofs.Course.{stream_len}
 

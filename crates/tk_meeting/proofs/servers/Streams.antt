@@ -23,9 +23,8 @@ use Rattle.tk_report.specs.Exchange.{read_at}
 use Rattle.tk_report.proofs.Offers.{before-over, flat_map-agree}
 use Rattle.tk_serve.specs.Seats.{Seat, empty_seat, taken_write, blank_write, least, turns_written, placed, newest}
 use Rattle.tk_serve.specs.Told.{told, told_in, told_of, closing_told, turns_read}
-use Rattle.tk_serve.proofs.Least.{least-top, least-below}
-use Rattle.tk_serve.proofs.Phases.{phase-before}
-use Rattle.tk_serve.proofs.ToldLaws.{SameUpTo, reply-same, epoch-same, closing-none, closing-some}
+use Rattle.tk_serve.proofs.Offers.{least-top, least-below, phase-before, SameUpTo, reply-same, epoch-same}
+use Rattle.tk_serve.proofs.Offers.{closing-none, closing-some}
 use Rattle.tk_meeting.proofs.Canonical.{serial, write_in, read_from, whole, told_in_turn, stream, AreFronts}
 use Rattle.tk_meeting.proofs.Course.{newest_by}
 use Rattle.tk_meeting.proofs.servers.SameEntries.{same-entries}

@@ -1,0 +1,14 @@
+-- What the proofs of other crates may cite.
+
+-- the least of some numbers
+pub use Rattle.tk_serve.proofs.Least.{least-top, least-below, least-above}
+-- turns and phases
+pub use Rattle.tk_serve.proofs.Phases.{phase-before, phase-past, one_more, closing-last, phases-step, phases-stay}
+-- what each of some numbers gives
+pub use Rattle.tk_serve.proofs.Lists.{flat_map-one}
+-- what is told over entries that agree up to an epoch
+pub use Rattle.tk_serve.proofs.ToldLaws.{SameUpTo, reply-same, epoch-same, closing-none, closing-some}
+-- what a client is told after a step
+pub use Rattle.tk_serve.proofs.StepLaws.{told_step}
+-- the next frame of its client is taken
+pub use Rattle.tk_serve.proofs.CheckLaws.{write-placed, read-placed_by}
