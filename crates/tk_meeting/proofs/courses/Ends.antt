@@ -15,7 +15,8 @@ use Rattle.tk_meeting.proofs.Pace.{Pace, Paced, Kind, Wrote, Asked, IsPace, IsId
 use Rattle.tk_meeting.proofs.Pace.{gone_by_ticks, count_ahead, count_ticks, has_asked, known_by, all_replied}
 use Rattle.tk_meeting.proofs.Pace.{settled}
 use Rattle.tk_meeting.proofs.Course.{newest_by, replies_of, came_of, stream_len}
-use Rattle.tk_meeting.proofs.courses.Lengths.{phases-more, order-epoch}
+use Rattle.tk_meeting.proofs.servers.Numbers.{phases-ordered}
+use Rattle.tk_meeting.proofs.courses.Lengths.{order-epoch}
 use Rattle.tk_meeting.proofs.courses.Acting.{asked_in, asked_in-append}
 use Rattle.tk_meeting.proofs.courses.Balanced.{IsLinked, IsBalancedAt}
 
@@ -126,7 +127,7 @@ came-whole shape c p j writes reads pace l there past =
     replies_most p j p.is_open (p.replied j) refl refl pace.open_in (λ e. pace.none_replied e j)
     in
     let told = epochs_most shape r (p.epochs j) l.ordered in
-    let fewer : r / t ≤ p.asked / t = phases-more t r p.asked shape.in_range.ticks_low most in
+    let fewer : r / t ≤ p.asked / t = phases-ordered t r p.asked shape.in_range.ticks_low most in
     let asked_is : reads ≡ p.asked = omega (arith, l.asked) in
     let whole : stream_len shape (newest_by shape writes) reads ≡ p.asked + p.asked / t =
     ap (stream_len shape (newest_by shape writes)) asked_is
@@ -179,7 +180,7 @@ pub phases-few : (shape : Shape) (k : ℕ) → k ≤ turn_count shape → k / sh
 phases-few shape k low =
     let t = shape.ticks in
     subst (λ n. k / t ≤ n) (mul-div_left shape.phases shape.in_range.ticks_low)
-    (phases-more t k (shape.phases * t) shape.in_range.ticks_low low)
+    (phases-ordered t k (shape.phases * t) shape.in_range.ticks_low low)
 
 asked_all : (shape : Shape) (p : Pace) → IsPace shape p → IsIdle shape p → p.written ≡ turn_count shape →
     p.is_open ≡ false → ((j : ℕ) → 1 ≤ j → j ≤ shape.servers → all_came shape p j) →

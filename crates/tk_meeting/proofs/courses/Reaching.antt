@@ -10,7 +10,8 @@ use Rattle.tk_meeting.proofs.Pace.{Pace, Kind, Wrote, Asked, ticked, sent_ahead}
 use Rattle.tk_meeting.proofs.Course.{Course, first_course, newest_by, came_of, stream_len, goes_on, course_up}
 use Rattle.tk_meeting.proofs.Course.{pace_down, course_down, moves, moved, course_of}
 use Rattle.tk_meeting.proofs.courses.Picks.{pick, itself}
-use Rattle.tk_meeting.proofs.courses.Lengths.{stream_len-grows, newest-grows}
+use Rattle.tk_meeting.proofs.servers.Bumps.{newest-grows}
+use Rattle.tk_meeting.proofs.servers.Numbers.{length-grows}
 use Rattle.tk_meeting.proofs.courses.Balanced.{IsLinked, IsBalanced, IsBalancedAt, ArePaces}
 use Rattle.tk_meeting.proofs.courses.Balanced.{first-balanced, goes_on-balanced, ticked-ready, ahead-ready}
 use Rattle.tk_meeting.proofs.courses.Coming.{down-ready}
@@ -51,7 +52,7 @@ wrote_here shape c p j writes reads left l =
       asked = l.asked;
       came =
           le_trans l.came
-          (stream_len-grows shape (newest_by shape writes) (newest_by shape more) reads reads
+          (length-grows shape (newest_by shape writes) (newest_by shape more) reads reads
           (newest-grows shape writes more (λ d low. changed-more c writes d)) (omega arith));
       ordered = l.ordered;
     }
@@ -67,7 +68,7 @@ wrote_other shape c d p j writes reads kinds other l =
       asked = l.asked;
       came =
           le_trans l.came
-          (stream_len-grows shape (newest_by shape writes) (newest_by shape more) reads reads
+          (length-grows shape (newest_by shape writes) (newest_by shape more) reads reads
           (newest-grows shape writes more (λ d low. changed-more c writes d)) (omega arith));
       ordered = l.ordered;
     }
@@ -108,7 +109,7 @@ asked_here shape c p j writes reads left l =
     record {
       wrote = l.wrote;
       asked = omega (arith, l.asked);
-      came = le_trans l.came (stream_len-grows shape n n reads (reads + 1) (omega arith) (omega arith));
+      came = le_trans l.came (length-grows shape n n reads (reads + 1) (omega arith) (omega arith));
       ordered = l.ordered;
     }
 

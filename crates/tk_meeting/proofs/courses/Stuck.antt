@@ -10,7 +10,8 @@ use Rattle.tk_meeting.proofs.Pace.{Pace, Paced, Kind, IsIdle, known_by}
 use Rattle.tk_meeting.proofs.Course.{Course, newest_by, came_of, stream_len}
 use Rattle.tk_meeting.proofs.members.Paces.{count_due}
 use Rattle.tk_meeting.proofs.members.Counts.{acted-written}
-use Rattle.tk_meeting.proofs.courses.Lengths.{newest-least, stream_len-grows}
+use Rattle.tk_meeting.proofs.servers.Numbers.{length-grows}
+use Rattle.tk_meeting.proofs.courses.Lengths.{newest-least}
 use Rattle.tk_meeting.proofs.courses.Acting.{wrote_in}
 use Rattle.tk_meeting.proofs.courses.Balanced.{IsLinked, IsBalancedAt, IsBalanced}
 use Rattle.tk_meeting.proofs.courses.Ends.{all_came, full-len, came-whole, closed-by, none-due, least-from, phases-few}
@@ -22,7 +23,7 @@ epoch_there shape n asked r e k ordered there read past =
     let t = shape.ticks in
     let some = shape.in_range.ticks_low in
     let over : (k + 1) * t / t ≡ k + 1 = mul-div_left (k + 1) some in
-    let grows = stream_len-grows shape (k + 1) n ((k + 1) * t) asked there read in
+    let grows = length-grows shape (k + 1) n ((k + 1) * t) asked there read in
     let told = full-len shape (k + 1) ((k + 1) * t) (omega (arith, over)) in
     let long : (k + 1) * t + (k + 1) ≤ r + e = omega (arith, over, grows, told, past) in
     elim (cases_lt k e) [

@@ -1,6 +1,6 @@
 -- Functions of numbers of which one value is one more.
 use Rattle.std.proofs.Common.{◌≡◌, ◌≢◌, ℕ, ◌+◌, ◌≤◌, ◌<◌, refl, sym, subst, arith}
-use Rattle.std.proofs.Common.{inl, inr, eq-eqb, get_or, map, length}
+use Rattle.std.proofs.Common.{inl, inr, eq-eqb, map, length}
 use Rattle.std.specs.Prelude.{◌==◌}
 use Rattle.std.specs.List.{range_with_len}
 use Rattle.std.proofs.lemmas.Bool.{cases_eq, ne_eqb, cond-true, cond-false}
@@ -37,21 +37,21 @@ bumped-within i f k most here there = elim (cases_eq k i) [
 ]
 
 -- where each has written at least as much the newest epoch is at least as late
-pub newest-grows : (shape : Shape) (f h : ℕ → ℕ) → ((k : ℕ) → f k ≤ h k) →
-    newest_by shape f ≤ newest_by shape h
-newest-grows shape f h above =
-    let some = shape.in_range.ticks_low in
+pub newest-grows : (shape : Shape) (writes more : ℕ → ℕ) →
+    ((c : ℕ) → c < shape.clients → writes c ≤ more c) → newest_by shape writes ≤ newest_by shape more
+newest-grows shape writes more each =
+    let turns = turn_count shape in
     let n = shape.clients in
-    let all = turn_count shape in
-    let fs = map f (range_with_len 0 n) in
-    let hs = map h (range_with_len 0 n) in
-    let long : length hs ≡ n = length-map-range_with_len h 0 n in
-    let more : least all fs ≤ least all hs =
-    least-above all (least all fs) hs (least-top all fs) (λ i low.
-    let there : i < n = omega (arith, low, long) in
-    let one = least-below all fs i 0 (omega (arith, there, length-map-range_with_len f 0 n)) in
-    let was : get_or fs i 0 ≡ f i = get_or-map-range_with_len f 0 n i i 0 there (omega arith) in
-    let now : get_or hs i 0 ≡ h i = get_or-map-range_with_len h 0 n i i 0 there (omega arith) in
-    omega (arith, one, was, now, above i))
-    in
-    phases-ordered shape.ticks (least all fs) (least all hs) (omega (arith, some)) more
+    let ms = map writes (range_with_len 0 n) in
+    let ls = map more (range_with_len 0 n) in
+    phases-ordered shape.ticks (least turns ms) (least turns ls) shape.in_range.ticks_low
+    (least-above turns (least turns ms) ls (least-top turns ms) (λ i low.
+    let within : i < n = omega (arith, low, length-map-range_with_len more 0 n) in
+    let here : i < length ms = omega (arith, within, length-map-range_with_len writes 0 n) in
+    omega (
+      arith,
+      least-below turns ms i 0 here,
+      get_or-map-range_with_len writes 0 n i i 0 within (omega arith),
+      get_or-map-range_with_len more 0 n i i 0 within (omega arith),
+      each i within,
+    )))

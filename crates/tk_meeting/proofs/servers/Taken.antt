@@ -135,7 +135,7 @@ module _ (S : Script) (b : WordBook) (j : ℕ) (writes reads : ℕ → ℕ) (sea
       subst (λ (s : Step). TakesFrame S b j writes reads (bumped c writes) reads s) (sym taken)
       (tells-next S b j writes reads (bumped c writes) reads seats (with_write seats c w) fronts
       (write-fronts S b j writes reads seats fronts c client due)
-      (newest-grows S.shape writes (bumped c writes) (bumped-above c writes)) (λ d. omega arith))
+      (newest-grows S.shape writes (bumped c writes) (λ k low. bumped-above c writes k)) (λ d. omega arith))
 
   -- and so is its next read
   pub read-steps : reads c < turn_count S.shape →
