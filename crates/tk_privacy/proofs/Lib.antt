@@ -6,6 +6,9 @@ pub mod Changes
 pub mod Seen
 pub mod Offers
 pub mod PrivacyLaws
+pub mod Counting
+pub mod ByteCells
+pub mod CountLaws
 pub mod Computing
 pub mod ExchangingLaws
 pub mod NumberingLaws

@@ -7,7 +7,7 @@ pub use Rattle.tk_privacy.proofs.Changes.{words-regained, reads-regained, words-
 -- only the buckets of the run matter
 pub use Rattle.tk_privacy.proofs.Changes.{same-normal_for, same-unnormal_for}
 -- what is seen of a run that reads given buckets
-pub use Rattle.tk_privacy.proofs.Seen.{view-is}
+pub use Rattle.tk_privacy.proofs.Seen.{view-is, write-seen, read-seen}
 -- what the hidden server gets of a read cell that is changed back
 pub use Rattle.tk_privacy.proofs.ReadCells.{both, GetsLastOfBoth, pieces-hidden}
 pub use Rattle.tk_privacy.proofs.SameWords.{length-read_cell}
@@ -27,3 +27,7 @@ pub use Rattle.tk_privacy.proofs.Changes.{sent_len}
 pub use Rattle.tk_privacy.proofs.Masks.{cell_write-masked}
 pub use Rattle.tk_privacy.proofs.ReadCells.{AreShown, pieces-shown}
 pub use Rattle.tk_privacy.proofs.PrivacyLaws.{length-mirror, same-normal}
+-- the tapes of a length, and what shows of as many of them
+pub use Rattle.tk_privacy.proofs.Counting.{IsUndoneBy, as-many}
+pub use Rattle.tk_privacy.proofs.CountLaws.{others-same, turned, at-tape, mirror-undone}
+pub use Rattle.tk_privacy.proofs.ByteCells.{AreBytes, bytes-normal_for, bytes-unnormal_for}

@@ -27,7 +27,7 @@ unfolding unnormal
 length-unnormal S H h low v whole =
     changes.length-unnormal S h low (pairs_read S (drawn (regained S v)) H) v whole
 
-unnormal-normal : (S : Script) (H : History) (h : ℕ) → 1 ≤ h → (u : List ℕ) →
+pub unnormal-normal : (S : Script) (H : History) (h : ℕ) → 1 ≤ h → (u : List ℕ) →
     length u ≡ tape_len S.shape → unnormal S H h (normal S H h u) ≡ u
 unfolding unnormal normal
 unnormal-normal S H h low u whole =
@@ -36,7 +36,7 @@ unnormal-normal S H h low u whole =
     (changes.words-regained S h low (pairs_read S (drawn u) H) u whole)
     ∙ changes.unnormal-normal S h low (pairs_read S (drawn u) H) u whole
 
-normal-unnormal : (S : Script) (H : History) (h : ℕ) → 1 ≤ h → (v : List ℕ) →
+pub normal-unnormal : (S : Script) (H : History) (h : ℕ) → 1 ≤ h → (v : List ℕ) →
     length v ≡ tape_len S.shape → normal S H h (unnormal S H h v) ≡ v
 unfolding unnormal normal
 normal-unnormal S H h low v whole =

@@ -28,7 +28,7 @@ use Rattle.tk_frames.specs.Spelling.{placed_frame, read_frame}
 use Rattle.tk_frames.specs.Order.{is_mark_entry}
 use Rattle.tk_client.specs.Writes.{write_of, dummy}
 use Rattle.tk_bits.proofs.Offers.{vector-at, seed-at}
-use Rattle.tk_client.specs.Asked.{frame_with}
+use Rattle.tk_client.specs.Asked.{frame_for, frame_with}
 use Rattle.tk_client.proofs.Offers.{told-alike}
 use Rattle.tk_report.specs.Queues.{waiting_of}
 use Rattle.tk_report.specs.Entries.{write_at, placed_from, placed_after, entries_before}
@@ -103,83 +103,91 @@ module _ (shape : Shape) (H : History) (legal : IsLegal shape H) (f f' : ℕ →
 
 -- ---- one script
 
-module _ (S : Script) (H : History) (h j : ℕ) (pairs : Pairs) (u : List ℕ)
-    (legal : IsLegal S.shape H) (whole : length u ≡ tape_len S.shape)
-    (low : 1 ≤ h) (high : h ≤ S.shape.servers) (j_low : 1 ≤ j) (j_high : j ≤ S.shape.servers)
-    (differ : j ≢ h) where
-  v : List ℕ
-  v = normal_for S h pairs u
+module _ (S : Script) (h : ℕ) (pairs : Pairs) (u : List ℕ) (whole : length u ≡ tape_len S.shape)
+  where
+    v : List ℕ
+    v = normal_for S h pairs u
 
-  tv : IsTape S.shape (λ g c. shown_write_cell S.shape u g c (sent S g c))
-      (read_cell_for S.shape h pairs u)
-      (λ log s. shown_keyed_cell S.shape u (writer_of S log) log s (sent_as S log s)) v
-  unfolding v
-  tv = normal-IsTape S u whole h pairs
+    tv : IsTape S.shape (λ g c. shown_write_cell S.shape u g c (sent S g c))
+        (read_cell_for S.shape h pairs u)
+        (λ log s. shown_keyed_cell S.shape u (writer_of S log) log s (sent_as S log s)) v
+    unfolding v
+    tv = normal-IsTape S u whole h pairs
 
-  -- the write of a turn is the shown write cell, whether a text is sent or not
-  write_shown : (g c : ℕ) (o : Option Sending) → sent S g c ≡ o →
-      write_of (words_of S.shape (drawn u)) g c (option_map waiting_of o)
-      ≡ dummy g c (cell_write S.shape (shown_write_cell S.shape u g c o))
-  unfolding fresh_write pair_of hits_of pad_of tag_of
-  write_shown g c None e = refl
-  write_shown g c (Some y) e =
-      ap (dummy g c) (sym (cell_write-masked S.shape y.text (keyed_cell S.shape u y.log y.number)
-      (sent_len S u whole g c y e)))
+    -- the write of a turn is the shown write cell, whether a text is sent or not
+    write_shown : (g c : ℕ) (o : Option Sending) → sent S g c ≡ o →
+        write_of (words_of S.shape (drawn u)) g c (option_map waiting_of o)
+        ≡ dummy g c (cell_write S.shape (shown_write_cell S.shape u g c o))
+    unfolding fresh_write pair_of hits_of pad_of tag_of
+    write_shown g c None e = refl
+    write_shown g c (Some y) e =
+        ap (dummy g c) (sym (cell_write-masked S.shape y.text (keyed_cell S.shape u y.log y.number)
+        (sent_len S u whole g c y e)))
 
-  writes_seen : (g c : ℕ) → g < turn_count S.shape → c < S.shape.clients →
-      write_at S (words_of S.shape (drawn u)) g c
-      ≡ dummy g c (cell_write S.shape (write_cell S.shape v g c))
-  unfolding write_at
-  writes_seen g c turn client =
-      write_shown g c (sent S g c) refl
-      ∙ ap (λ cell. dummy g c (cell_write S.shape cell)) (sym (tv.writes g c turn client))
+    pub write-seen : (g c : ℕ) → g < turn_count S.shape → c < S.shape.clients →
+        write_at S (words_of S.shape (drawn u)) g c
+        ≡ dummy g c (cell_write S.shape (write_cell S.shape (normal_for S h pairs u) g c))
+    unfolding write_at v
+    write-seen g c turn client =
+        write_shown g c (sent S g c) refl
+        ∙ ap (λ cell. dummy g c (cell_write S.shape cell)) (sym (tv.writes g c turn client))
 
-  pieces_kept : (g c : ℕ) → g < turn_count S.shape → c < S.shape.clients →
-      cell_pieces S.shape (read_cell_for S.shape h pairs u g c)
-      ≡ cell_pieces S.shape (read_cell S.shape v g c)
-  pieces_kept g c turn client = ap (cell_pieces S.shape) (sym (tv.reads g c turn client))
+    pieces_kept : (g c : ℕ) → g < turn_count S.shape → c < S.shape.clients →
+        cell_pieces S.shape (read_cell_for S.shape h pairs u g c)
+        ≡ cell_pieces S.shape (read_cell S.shape v g c)
+    pieces_kept g c turn client = ap (cell_pieces S.shape) (sym (tv.reads g c turn client))
 
-  read_shown : (g c : ℕ) → g < turn_count S.shape → c < S.shape.clients →
-      read_for S.shape (drawn u) H (pairs g c) g c j ≡ shown_read S.shape H h v j g c
-  unfolding frame_with shown_read fresh_seeds fresh_vectors
-  read_shown g c turn client =
-      let cell = read_cell S.shape u g c in
-      let pair = pairs g c in
-      let size = length-read_cell S.shape u g c whole turn client in
-      let own = cell_pieces S.shape cell in
-      let counted = both S.shape cell size in
-      let shown = subst (AreShown S.shape cell size h j pair own) (pieces_kept g c turn client)
-      (pieces-shown S.shape cell size h j pair low high j_low j_high differ) in
-      let firsts = map (piece_vector S.shape) own.first in
-      let seconds = map (piece_vector S.shape) own.second in
-      let first_seeds = map (piece_seed S.shape) own.first in
-      let second_seeds = map (piece_seed S.shape) own.second in
-      let bits = vector_len S.shape in
-      let first_each : length firsts ≡ S.shape.servers - 1 =
-      length-map own.first (piece_vector S.shape) ∙ counted.first.count in
-      let second_each : length seconds ≡ S.shape.servers - 1 =
-      length-map own.second (piece_vector S.shape) ∙ counted.second.count in
-      let told = told-alike S.shape true j _ _ (λ less.
-      ap₂ (λ (s t : List ℕ). s ++ t)
-      (seed-at bits pair.0 (j - 1) first_seeds firsts (omega (arith, less, j_low, first_each))
-      ∙ sym (shown.first.seed less))
-      (seed-at bits pair.1 (j - 1) second_seeds seconds (omega (arith, less, j_low, second_each))
-      ∙ sym (shown.second.seed less))) in
-      λ i. record {
-        client = c;
-        turn = g;
-        epoch = epoch_at H g c;
-        first = (vector-at bits pair.0 (j - 1) first_seeds firsts ∙ sym shown.first.vector) i;
-        second = (vector-at bits pair.1 (j - 1) second_seeds seconds ∙ sym shown.second.vector) i;
-        seeds = told i;
-      }
+    module _ (H : History) (j : ℕ) (low : 1 ≤ h) (high : h ≤ S.shape.servers) (j_low : 1 ≤ j)
+        (j_high : j ≤ S.shape.servers) (differ : j ≢ h) where
+      -- a read over any epoch
+      pub read-seen : (g c e : ℕ) → g < turn_count S.shape → c < S.shape.clients →
+          frame_for S.shape (drawn u) g c e (pairs g c) j
+          ≡ record (shown_read S.shape H h (normal_for S h pairs u) j g c) { epoch = e }
+      unfolding frame_with shown_read fresh_seeds fresh_vectors v
+      read-seen g c e turn client =
+          let cell = read_cell S.shape u g c in
+          let pair = pairs g c in
+          let size = length-read_cell S.shape u g c whole turn client in
+          let own = cell_pieces S.shape cell in
+          let counted = both S.shape cell size in
+          let shown = subst (AreShown S.shape cell size h j pair own) (pieces_kept g c turn client)
+          (pieces-shown S.shape cell size h j pair low high j_low j_high differ) in
+          let firsts = map (piece_vector S.shape) own.first in
+          let seconds = map (piece_vector S.shape) own.second in
+          let first_seeds = map (piece_seed S.shape) own.first in
+          let second_seeds = map (piece_seed S.shape) own.second in
+          let bits = vector_len S.shape in
+          let first_each : length firsts ≡ S.shape.servers - 1 =
+          length-map own.first (piece_vector S.shape) ∙ counted.first.count in
+          let second_each : length seconds ≡ S.shape.servers - 1 =
+          length-map own.second (piece_vector S.shape) ∙ counted.second.count in
+          let told = told-alike S.shape true j _ _ (λ less.
+          ap₂ (λ (s t : List ℕ). s ++ t)
+          (seed-at bits pair.0 (j - 1) first_seeds firsts (omega (arith, less, j_low, first_each))
+          ∙ sym (shown.first.seed less))
+          (seed-at bits pair.1 (j - 1) second_seeds seconds (omega (arith, less, j_low, second_each))
+          ∙ sym (shown.second.seed less))) in
+          λ i. record {
+            client = c;
+            turn = g;
+            epoch = e;
+            first = (vector-at bits pair.0 (j - 1) first_seeds firsts ∙ sym shown.first.vector) i;
+            second = (vector-at bits pair.1 (j - 1) second_seeds seconds ∙ sym shown.second.vector) i;
+            seeds = told i;
+          }
 
-  -- whichever buckets are read
-  pub view-is : view_for S (drawn u) H pairs j ≡ cells_view S.shape H h (normal_for S h pairs u) j
-  unfolding cells_view v
-  view-is =
-      same-frames S.shape H legal (write_at S (words_of S.shape (drawn u)))
-      (λ g c. dummy g c (cell_write S.shape (write_cell S.shape v g c))) writes_seen
-      (λ g c. read_frame (read_for S.shape (drawn u) H (pairs g c) g c j) ∷ [])
-      (λ g c. read_frame (shown_read S.shape H h v j g c) ∷ [])
-      (λ g c turn client. ap (λ (f : ReadFrame). read_frame f ∷ []) (read_shown g c turn client))
+-- whichever buckets are read
+pub view-is : (S : Script) (H : History) (h j : ℕ) (pairs : Pairs) (u : List ℕ) →
+    IsLegal S.shape H → length u ≡ tape_len S.shape → 1 ≤ h → h ≤ S.shape.servers → 1 ≤ j →
+    j ≤ S.shape.servers → j ≢ h →
+    view_for S (drawn u) H pairs j ≡ cells_view S.shape H h (normal_for S h pairs u) j
+unfolding cells_view shown_read
+view-is S H h j pairs u legal whole low high j_low j_high differ =
+    let v = normal_for S h pairs u in
+    same-frames S.shape H legal (write_at S (words_of S.shape (drawn u)))
+    (λ g c. dummy g c (cell_write S.shape (write_cell S.shape v g c)))
+    (write-seen S h pairs u whole)
+    (λ g c. read_frame (read_for S.shape (drawn u) H (pairs g c) g c j) ∷ [])
+    (λ g c. read_frame (shown_read S.shape H h v j g c) ∷ [])
+    (λ g c turn client. ap (λ (f : ReadFrame). read_frame f ∷ [])
+    (read-seen S h pairs u whole H j low high j_low j_high differ g c (epoch_at H g c) turn client))

@@ -1,5 +1,6 @@
 -- That no server but one can tell two scripts of one shape apart by what it sees under one history.
-use Rattle.std.specs.Prelude.{◌≡◌, ◌≢◌, ℕ, ◌≤◌, List, length}
+use Rattle.std.specs.Prelude.{◌≡◌, ◌≢◌, ℕ, ◌≤◌, ◌^◌, Bool, List, length, count_by, All}
+use Rattle.std.specs.Str.{bytes_eq}
 use Rattle.tk_shape.specs.Lengths.{tape_len}
 use Rattle.tk_schedule.specs.declared.history.History.{History}
 use Rattle.tk_schedule.specs.Schedule.{IsLegal}
@@ -7,6 +8,8 @@ use Rattle.tk_script.specs.declared.script.Script.{Script}
 use Rattle.tk_words.specs.Words.{drawn}
 use Rattle.tk_report.specs.Exchange.{view}
 use Rattle.tk_privacy.specs.Privacy.{normal, mirror, cells_view}
+use Rattle.tk_privacy.specs.Counts.{all_lists, IsListBelow, count_tapes, JointView, joint_view}
+use Rattle.tk_privacy.specs.Counts.{joint_cells, is_view}
 
 -- what the laws range over: two scripts of one shape, a history, a hidden server and a tape
 pub record AreMirrored (A B : Script) (H : History) (h : ℕ) (u : List ℕ) : Type 0 where
@@ -35,3 +38,48 @@ MadeOfCells =
     (S : Script) (H : History) (h j : ℕ) (u : List ℕ) → AreMirrored S S H h u → 1 ≤ j →
     j ≤ S.shape.servers → j ≢ h →
     view S (drawn u) H j ≡ cells_view S.shape H h (normal S H h u) j
+
+-- ---- by counting
+
+-- what the counts range over: two scripts of one shape, a history and a hidden server
+pub record AreCompared (A B : Script) (H : History) (h : ℕ) : Type 0 where
+  pub one_shape : A.shape ≡ B.shape
+  pub legal : IsLegal A.shape H
+  pub hidden_low : 1 ≤ h
+  pub hidden_high : h ≤ A.shape.servers
+
+-- whatever all servers but the hidden one look for in what they see together, they find it over as
+-- many tapes of A as of B
+abbrev pub AsManyTapes : Type 0
+AsManyTapes =
+    (A B : Script) (H : History) (h : ℕ) (test : JointView → Bool) → AreCompared A B H h →
+    count_tapes (tape_len A.shape) (λ u. test (joint_view A H h u))
+    ≡ count_tapes (tape_len B.shape) (λ u. test (joint_view B H h u))
+
+-- so each thing that they may see they see over as many
+abbrev pub EachAsOften : Type 0
+EachAsOften =
+    (A B : Script) (H : History) (h : ℕ) (seen : JointView) → AreCompared A B H h →
+    count_tapes (tape_len A.shape) (λ u. is_view (joint_view A H h u) seen)
+    ≡ count_tapes (tape_len B.shape) (λ u. is_view (joint_view B H h u) seen)
+
+-- and over as many as where it is made of the cells of the tape itself, which names no script
+abbrev pub AsManyCells : Type 0
+AsManyCells =
+    (S : Script) (H : History) (h : ℕ) (test : JointView → Bool) → AreCompared S S H h →
+    count_tapes (tape_len S.shape) (λ u. test (joint_view S H h u))
+    ≡ count_tapes (tape_len S.shape) (λ v. test (joint_cells S.shape H h v))
+
+-- each list of n numbers below a bound is once among all of them
+abbrev pub EachOnce : Type 0
+EachOnce =
+    (bound n : ℕ) (xs : List ℕ) → IsListBelow bound n xs →
+    count_by (λ ys. bytes_eq ys xs) (all_lists bound n) ≡ 1
+
+-- and nothing else is
+abbrev pub NoneElse : Type 0
+NoneElse = (bound n : ℕ) → All (IsListBelow bound n) (all_lists bound n)
+
+-- so there are as many as this: 256 ^ n tapes of n bytes
+abbrev pub AllCounted : Type 0
+AllCounted = (bound n : ℕ) → length (all_lists bound n) ≡ bound ^ n

@@ -1,0 +1,11 @@
+use Rattle.tk_privacy.proofs.Counting.{each_once, none_else, all_counted}
+use Rattle.tk_privacy.proofs.laws.all_tapes.Goals as goal
+
+pub returns-clause-once : goal.returns-clause-once
+returns-clause-once c = each_once
+
+pub returns-clause-none_else : goal.returns-clause-none_else
+returns-clause-none_else c = none_else
+
+pub returns-clause-counted : goal.returns-clause-counted
+returns-clause-counted c = all_counted

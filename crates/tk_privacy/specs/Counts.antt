@@ -1,0 +1,58 @@
+-- All tapes of a length, and what all servers but one see together.
+use Rattle.std.specs.Prelude.{◌≡◌, ℕ, zero, suc, ◌<◌, ◌==◌, not, Bool, List, [], ◌∷◌, length, map}
+use Rattle.std.specs.Prelude.{filter, flat_map, count_by, All}
+use Rattle.std.specs.List.{range_with_len}
+use Rattle.std.specs.Cmp.Lexicographic.{pointwise}
+use Rattle.std.specs.Str.{bytes_eq}
+use Rattle.tk_shape.specs.declared.shape.Shape.{Shape}
+use Rattle.tk_schedule.specs.declared.history.History.{History}
+use Rattle.tk_script.specs.declared.script.Script.{Script}
+use Rattle.tk_words.specs.Words.{drawn}
+use Rattle.tk_report.specs.Exchange.{view}
+use Rattle.tk_privacy.specs.Privacy.{cells_view}
+
+-- ---- all tapes
+
+-- each of these lists with each number below a bound in front of it
+abbrev pub with_fronts : ℕ → List (List ℕ) → List (List ℕ)
+with_fronts bound lists =
+    flat_map (λ front. map (λ rest. front ∷ rest) lists) (range_with_len 0 bound)
+
+-- all lists of n numbers below a bound
+unfoldable pub all_lists : ℕ → ℕ → List (List ℕ)
+all_lists bound zero = [] ∷ []
+all_lists bound (suc n) = with_fronts bound (all_lists bound n)
+
+-- all tapes of n bytes
+abbrev pub all_tapes : ℕ → List (List ℕ)
+all_tapes n = all_lists 256 n
+
+-- a list of n numbers below a bound
+pub record IsListBelow (bound n : ℕ) (xs : List ℕ) : Type 0 where
+  pub counted : length xs ≡ n
+  pub below : All (λ x. x < bound) xs
+
+-- over how many tapes of n bytes a test passes
+abbrev pub count_tapes : ℕ → (List ℕ → Bool) → ℕ
+count_tapes n test = count_by test (all_tapes n)
+
+-- ---- what is seen together
+
+-- all servers but h, in their order
+abbrev pub all_but : Shape → ℕ → List ℕ
+all_but shape h = filter (λ j. not (j == h)) (range_with_len 1 shape.servers)
+
+-- the frames that each of them sees
+abbrev pub JointView : Type 0
+JointView = List (List (List ℕ))
+
+abbrev pub joint_view : Script → History → ℕ → List ℕ → JointView
+joint_view S H h u = map (view S (drawn u) H) (all_but S.shape h)
+
+-- the same made of the cells of a tape, without a script
+abbrev pub joint_cells : Shape → History → ℕ → List ℕ → JointView
+joint_cells shape H h v = map (cells_view shape H h v) (all_but shape h)
+
+-- whether two are the same, byte for byte
+abbrev pub is_view : JointView → JointView → Bool
+is_view = pointwise (pointwise bytes_eq)
