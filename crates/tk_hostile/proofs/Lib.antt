@@ -1,6 +1,11 @@
 pub mod GivenLaws
 pub mod Regained
 pub mod WrongLaws
+pub mod Attacks
+pub mod Sighted
+pub mod AttackLaws
+pub mod CountLaws
+pub mod AsWrong
 pub mod WalkLaws
 pub mod AskingLaws
 pub mod ReplyingLaws

@@ -14,7 +14,10 @@ mod viewing;
 mod walking;
 
 pub use following::wrong_logs;
-pub use laws::{one_to_one, same_view};
+pub use laws::{
+    as_many_tapes, chosen_alike, one_to_one, one_to_one_attacked, same_seen, same_view,
+    wrong_is_attack,
+};
 pub use mirroring::wrong_mirror;
 pub use replies::Replies;
 pub use tk_shape::Memory;
