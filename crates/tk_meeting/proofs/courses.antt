@@ -18,3 +18,4 @@ pub mod Serial
 pub mod Serially
 pub mod Gathered
 pub mod Together
+pub mod Counted

@@ -1,4 +1,3 @@
-pub mod Cells
 pub mod SameFrames
 pub mod Unsaid
 pub mod SameStreams

@@ -6,3 +6,4 @@ pub mod Delivery
 pub mod Hidden
 pub mod Scripts
 pub mod Pacing
+pub mod Counted

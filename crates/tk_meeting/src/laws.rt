@@ -1,10 +1,17 @@
 //! Why a group on several machines does what the serial run does, and looks the same to all servers but one.
+ghost use Rattle.tk_meeting.specs.Counted.{MeetingsAsOften};
 ghost use Rattle.tk_meeting.specs.Delivery.{MeetingsDeliver};
 ghost use Rattle.tk_meeting.specs.Hidden.{MeetingsLookAlike};
 ghost use Rattle.tk_meeting.specs.Laws.{MeetingsAreSerial};
 ghost use Rattle.tk_meeting.specs.OwnBooks.{OwnKeysServe};
 ghost use Rattle.tk_meeting.specs.Pacing.{MeetingsKeepPace};
 ghost use Rattle.tk_meeting.specs.Scripts.{MeetingsHaveScripts};
+
+/// Two groups in which the same happens but for what is said: whatever all servers but the hidden one look for at any
+/// time in what they see together, they find it over as many tapes of the one as of the other.
+pub fn meetings_as_often()
+    ensures { MeetingsAsOften }
+{}
 
 /// However packets are delayed, mixed and delivered: at any time what each server has of each client is a front of what
 /// the serial run has it see, what each member told is a front of what the report says, nobody refuses, and once all is
