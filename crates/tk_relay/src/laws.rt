@@ -1,4 +1,5 @@
 //! Why what the server in between sees of a read fits any two buckets, and why the client reads what it would have read.
+ghost use Rattle.tk_relay.specs.Leader.{TapGainsSight, TapGainsTheSame};
 ghost use Rattle.tk_relay.specs.Laws.{SameSight, MovedBack, MovedStay, RepliesJoin, HonestRepliesJoin};
 
 /// What the server in between sees of a read is the same for any two buckets, after a change of the last server's pads.
@@ -17,4 +18,11 @@ pub fn moved_back()
 pub fn replies_join()
     ensures blocks { RepliesJoin }
     ensures honest { HonestRepliesJoin }
+{}
+
+/// Of a relayed read of a run the tap of the server in between gains the sight of the read and nothing else, which is
+/// what it would gain of a read of any other buckets with the changed pads.
+pub fn tap_gains_sight()
+    ensures sight { TapGainsSight }
+    ensures same { TapGainsTheSame }
 {}
