@@ -42,3 +42,6 @@ pub mod TalkSteps
 pub mod BatchLaws
 pub mod AnsweredLaws
 pub mod OrderedPlaces
+pub mod ServingLaws
+pub mod KeepingLaws
+pub mod AnewLaws

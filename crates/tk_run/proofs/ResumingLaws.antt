@@ -27,20 +27,21 @@ at_mark s none =
     none≢some : {X : Type 0} {x : X} → None ≡ Some x → ⊥
     none≢some e = absurd cc
 
--- a server has gone on from a checkpoint of what it has applied
-abbrev pub GoesOn : Shape → List ℕ → Server → Server → Type 0
-GoesOn shape bytes old new =
-    (E : List Placed) (seen : List ℕ) → IsServer shape E seen old → EndsWithMark E → bytes ≡ saved shape E →
-    IsServer shape E seen new
+-- a server has gone on from what it was given, if that is the checkpoint of what it has applied
+abbrev pub GoesOn : Shape → (ℕ → List ℕ) → Server → Server → Type 0
+GoesOn shape gives old new =
+    (E : List Placed) (seen : List ℕ) → IsServer shape E seen old → EndsWithMark E →
+    ((j : ℕ) → gives j ≡ saved shape E) → IsServer shape E seen new
 
-pub all_go_on : (shape : Shape) (bytes : List ℕ) (i : ℕ) (old new : List Server) (E : List Placed)
-    (seen : ℕ → List ℕ) → length new ≤ i → ChangedUpTo (GoesOn shape bytes) i old new →
-    AreServers shape E seen old → EndsWithMark E → bytes ≡ saved shape E → AreServers shape E seen new
-all_go_on shape bytes i old new E seen past h are ends is =
+pub all_go_on : (shape : Shape) (gives : ℕ → List ℕ) (i : ℕ) (old new : List Server) (E : List Placed)
+    (seen : ℕ → List ℕ) → length new ≤ i → ChangedUpTo (GoesOn shape gives) i old new →
+    AreServers shape E seen old → EndsWithMark E → ((j : ℕ) → gives j ≡ saved shape E) →
+    AreServers shape E seen new
+all_go_on shape gives i old new E seen past h are ends given =
     let same = h.counted in
     record {
       counted = same ∙ are.counted;
       each = λ k d within.
           let low : k < length old = omega (arith, within, same) in
-          h.done k d (omega (arith, within, past)) low E (seen (k + 1)) (are.each k d low) ends is;
+          h.done k d (omega (arith, within, past)) low E (seen (k + 1)) (are.each k d low) ends given;
     }

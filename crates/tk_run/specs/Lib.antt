@@ -9,3 +9,7 @@ pub mod Courses
 pub mod Reading
 pub mod Answering
 pub mod Threads
+pub mod Serving
+pub mod Keeping
+pub mod Ranging
+pub mod Anew

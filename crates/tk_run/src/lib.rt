@@ -11,6 +11,8 @@ mod course;
 mod crew;
 mod desks;
 mod frames;
+mod keeper;
+mod laws;
 mod pinned_write;
 mod ranging;
 mod replying;
@@ -31,6 +33,8 @@ mod ticks;
 mod turn_reads;
 mod turns;
 
+pub use keeper::{Keeper, Shelf};
+pub use laws::{honest_servers, servers_alike};
 pub use run_error::RunError;
-pub use serially::{resumed, serial};
+pub use serially::{resumed, resumed_by, serial};
 pub use threaded::threads;

@@ -34,6 +34,7 @@ impl Server {
     ghost use Rattle.tk_checkpoint.specs.Saved.{saved};
     ghost use Rattle.tk_run.specs.Servers.{IsServer, MayTake, MayAnswer, AreReads, answered};
     ghost use Rattle.tk_run.specs.Rows.{in_pairs};
+    ghost use Rattle.tk_run.specs.Keeping.{HasBegunAnew};
 
     /// A server before any entry.
     pub(crate) fn open(alloc: Global, shape: &Shape) -> Result<Server, Memory>
@@ -103,10 +104,11 @@ impl Server {
         Ok(out)
     }
 
-    /// Its replica is made anew, from a checkpoint of what it has applied. A checkpoint has no count
+    /// Its replica is made anew, of what these bytes have and nothing else. A checkpoint has no count
     /// of displaced writes, so that the server's own goes on.
     pub(crate) fn go_on(&mut self, alloc: Global, shape: &Shape, bytes: &[u8]) -> Result<(), Memory>
-        ensures { (E : List Placed) (seen : List ℕ) → IsServer shape.now E seen self.old
+        ensures anew { OnOk result (HasBegunAnew shape.now bytes.now self.new) }
+        ensures stands { (E : List Placed) (seen : List ℕ) → IsServer shape.now E seen self.old
             → EndsWithMark E → bytes.now ≡ saved shape.now E
             → OnOk result (IsServer shape.now E seen self.new) }
     {

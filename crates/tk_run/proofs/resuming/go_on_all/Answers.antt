@@ -1,19 +1,48 @@
--- Each server goes on, and no other changes meanwhile.
-use Rattle.std.proofs.Common.{arith}
+-- Each server begins anew from what it is given, and no other changes meanwhile.
+use Rattle.std.proofs.Common.{◌≡◌, ◌∙◌, ◌<◌, ◌+◌, ℕ, List, arith, length, subst}
+use Rattle.tk_run.specs.Keeping.{HasBegunAnew}
 use Rattle.tk_run.proofs.Changes.{changed-none, changed-next}
 use Rattle.tk_run.proofs.ResumingLaws.{GoesOn, all_go_on}
+use Rattle.tk_report.proofs.Offers.{split-none, split-next, split-all}
 use Rattle.tk_run.proofs.resuming.go_on_all.Goals as goal
 
-pub loop-server-init : goal.loop-server-init
-loop-server-init c = changed-none (GoesOn c.args.shape.now c.args.bytes.now) c.args.servers.now
+pub beginning-init : goal.beginning-init
+beginning-init g c =
+    record {
+      changed = changed-none (GoesOn c.args.shape.now (g.K.Keeper.gives c.args.keeper.now)) c.args.servers.now;
+      anew = split-none (λ k d within. tt);
+    }
 
-pub loop-server-preserved : goal.loop-server-preserved
-loop-server-preserved c =
-    changed-next (GoesOn c.args.shape.now c.args.bytes.now) c.loop-server.server-index c.args.servers.now
-    c.loop-server.servers c.go_on.new.self c.server-item.result
-    c.loop-server-test.true c.in_ok-go_on.ensures c.loop-server.invariant
+pub beginning-preserved : goal.beginning-preserved
+beginning-preserved g c =
+    let gives = g.K.Keeper.gives c.args.keeper.now in
+    let shape = c.args.shape.now in
+    let i = c.beginning.i in
+    let servers = c.beginning.servers in
+    let so_far = c.beginning.invariant in
+    let low : i < length servers = omega (arith, c.beginning-test.true, so_far.changed.counted) in
+    let within : i < length c.args.servers.now = omega (arith, low, so_far.changed.counted) in
+    let given = c.as_slice.ensures.value ∙ c.in_ok-bytes.ensures in
+    record {
+      changed =
+          changed-next (GoesOn shape gives) i c.args.servers.now servers c.go_on.new.self
+          c.index-servers-i.result within
+          (λ E seen is ends all. c.in_ok-go_on.ensures.stands E seen is ends (given ∙ all (i + 1)))
+          so_far.changed;
+      anew =
+          split-next c.go_on.new.self so_far.anew low
+          (subst (λ (bytes : List ℕ). HasBegunAnew shape bytes c.go_on.new.self) given
+          c.in_ok-go_on.ensures.anew);
+    }
 
-pub returns : goal.returns
-returns c = λ E seen are ends is.
-    all_go_on c.args.shape.now c.args.bytes.now c.loop-server.server-index c.args.servers.now c.loop-server.servers
-    E seen (omega (arith, c.loop-server-test.false)) c.loop-server.invariant are ends is
+pub returns-clause-anew : goal.returns-clause-anew
+returns-clause-anew g c =
+    let so_far = c.beginning.invariant in
+    split-all so_far.anew (omega (arith, c.beginning-test.false, so_far.changed.counted))
+
+pub returns-clause-stand : goal.returns-clause-stand
+returns-clause-stand g c E seen are ends given =
+    let so_far = c.beginning.invariant in
+    all_go_on c.args.shape.now (g.K.Keeper.gives c.args.keeper.now) c.beginning.i c.args.servers.now
+    c.beginning.servers E seen (omega (arith, c.beginning-test.false, so_far.changed.counted))
+    so_far.changed are ends given

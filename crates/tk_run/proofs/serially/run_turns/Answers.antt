@@ -1,5 +1,6 @@
 -- The run of the serial history, which the taps have fronts of where it ends early.
-use Rattle.std.proofs.Common.{ℕ, subst}
+use Rattle.std.proofs.Common.{◌≡◌, ◌++◌, ℕ, subst}
+use Rattle.tk_run.specs.Keeping.{kept_up_to, saved_before}
 use Rattle.tk_words.specs.Words.{words_of}
 use Rattle.tk_report.specs.Outcomes.{IsLeftBy}
 use Rattle.tk_report.specs.Turns.{placed_before}
@@ -77,3 +78,12 @@ returns-clause-left g c =
       clients = c.in_ok-run.ensures.run.clients;
       displaced = c.displaced-displaced.ensures S.shape E nothing_seen c.in_ok-run.ensures.run.servers;
     }))
+
+pub returns-clause-kept : goal.returns-clause-kept
+returns-clause-kept g c =
+    let S = c.args.script.now in
+    let book = g.D.Draws.book c.args.draws.now in
+    subst (λ (H : History). g.K.Keeper.kept c.take_turns.new.keeper
+    ≡ g.K.Keeper.kept c.args.keeper.now
+    ++ kept_up_to c.args.due (saved_before S book H) (turn_count S.shape))
+    c.in_ok-history.ensures.serial c.in_ok-run.ensures.kept

@@ -1,5 +1,7 @@
 -- Turn after turn the taps gain what the servers see.
-use Rattle.std.proofs.Common.{◌≡◌, ◌∙◌, arith, refl, subst, le_trans}
+use Rattle.std.proofs.Common.{◌≡◌, ◌∙◌, ◌+◌, ◌++◌, ℕ, List, ap, arith, refl, subst, le_trans, append_assoc}
+use Rattle.tk_run.specs.Keeping.{kept_at, kept_up_to, saved_before}
+use Rattle.tk_run.proofs.KeepingLaws.{kept-next}
 use Rattle.tk_shape.specs.Lengths.{turn_count}
 use Rattle.tk_run.specs.Turns.{IsRunBefore}
 use Rattle.tk_run.specs.Servers.{nothing_seen}
@@ -13,6 +15,7 @@ turns-init g c =
     let book = g.D.Draws.book c.args.plan.now.draws.now in
     let H = c.args.plan.now.history.now in
     record {
+      kept = λ before is. is;
       run = c.requires.run;
       taps = taps-first S book H (g.T.Taps.tap c.args.taps.now);
       others = λ j out. refl;
@@ -44,7 +47,16 @@ turns-preserved g c =
     let tap = g.T.Taps.tap in
     let is = c.turns.invariant in
     let took = c.in_ok-take_turn.ensures in
+    let at = saved_before S (g.D.Draws.book c.args.plan.now.draws.now) c.args.plan.now.history.now in
+    let due = c.args.due in
     record {
+      kept = λ before so.
+          took.kept
+          ∙ ap (λ (xs : List (List ℕ)). xs ++ kept_at due (c.turns.turn + 1) (at (c.turns.turn + 1)))
+          (is.kept before so)
+          ∙ append_assoc before (kept_up_to due at c.turns.turn)
+          (kept_at due (c.turns.turn + 1) (at (c.turns.turn + 1)))
+          ∙ ap (λ (xs : List (List ℕ)). before ++ xs) (kept-next due at c.turns.turn);
       run = took.run;
       taps = taps-next S (g.D.Draws.book c.args.plan.now.draws.now) c.args.plan.now.history.now
           c.turns.turn
@@ -61,3 +73,11 @@ returns-clause-run g c =
     let all : c.turns.turn ≡ turn_count S.shape = omega arith in
     subst (λ n. IsRunBefore S book c.args.plan.now.history.now n nothing_seen c.turns.run) all
     c.turns.invariant.run
+
+pub returns-clause-kept : goal.returns-clause-kept
+returns-clause-kept g c before is =
+    let S = c.args.plan.now.script.now in
+    let at = saved_before S (g.D.Draws.book c.args.plan.now.draws.now) c.args.plan.now.history.now in
+    let all : c.turns.turn ≡ turn_count S.shape = omega arith in
+    subst (λ n. g.K.Keeper.kept c.turns.keeper ≡ before ++ kept_up_to c.args.due at n) all
+    (c.turns.invariant.kept before is)

@@ -62,7 +62,11 @@ go_on_before-requires g c =
     in
     let back = ap length (with_items_is servers given counted) in
     let lent = ap length c.as_mut_slice.ensures.value in
-    omega (arith, low, back, lent, c.give_all.auto.servers, c.in_ok-meet.ensures.run.servers.counted)
+    let high = S.shape.in_range.servers_high in
+    let same = c.in_ok-meet.ensures.run.servers.counted in (
+      omega (arith, low, back, lent, c.give_all.auto.servers, same),
+      omega (arith, high, back, lent, c.give_all.auto.servers, same),
+    )
 
 pub returns-clause-run : goal.returns-clause-run
 returns-clause-run g c =
@@ -85,6 +89,26 @@ returns-clause-run g c =
     record {
       said = met.said;
       clients = met.clients;
-      servers = c.in_ok-go_on_before.ensures E nothing_seen
+      servers = c.in_ok-go_on_before.ensures.servers E nothing_seen c.requires.gives_back
           (subst (AreServers S.shape E nothing_seen) (sym (with_items_is servers given counted)) gave);
     }
+
+pub returns-clause-kept : goal.returns-clause-kept
+returns-clause-kept g c =
+    let S = c.args.plan.now.script.now in
+    let book = g.D.Draws.book c.args.plan.now.draws.now in
+    let H = c.args.plan.now.history.now in
+    let E = placed_before S (words_of S.shape book) H (c.args.turn + 1) in
+    let seen = turn_seen S book H c.args.turn in
+    let servers = c.meet.new.run.servers.list in
+    let given = c.give_all.new.servers in
+    let counted : length given ≡ servers.len =
+    omega (arith, c.give_all.auto.servers, c.as_mut_slice.ensures.len)
+    in
+    let gave =
+    c.in_ok-give_all.ensures.servers S.shape E seen
+    (subst (AreServers S.shape E seen)
+    (sym c.as_mut_slice.ensures.value) c.in_ok-meet.ensures.run.servers)
+    in
+    c.in_ok-go_on_before.ensures.kept E nothing_seen
+    (subst (AreServers S.shape E nothing_seen) (sym (with_items_is servers given counted)) gave)

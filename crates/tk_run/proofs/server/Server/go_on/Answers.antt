@@ -2,8 +2,8 @@
 use Rattle.std.proofs.Common.{◌-◌, ◌≤◌, ◌∙◌, arith}
 use Rattle.tk_run.proofs.server.Server.go_on.Goals as goal
 
-pub returns : goal.returns
-returns c = λ E seen is ends saved.
+pub returns-clause-stands : goal.returns-clause-stands
+returns-clause-stands c E seen is ends saved =
     let stands = c.in-Ok.ensures.stands E is.state.order ends saved in
     record {
       state = stands;
