@@ -11,5 +11,4 @@ pub mod Answering
 pub mod Threads
 pub mod Serving
 pub mod Keeping
-pub mod Ranging
 pub mod Anew

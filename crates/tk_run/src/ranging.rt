@@ -7,17 +7,16 @@ ghost use Rattle.tk_frames.specs.declared.entry.Placed.{Placed};
 ghost use Rattle.tk_replica.specs.Replies.{reply_bytes};
 ghost use Rattle.tk_cluster.specs.Refusals.{IsAsked};
 ghost use Rattle.tk_cluster.specs.Sets.{Stands};
-ghost use Rattle.tk_run.specs.Ranging.{in_shards};
 
 use crate::crew::Crew;
 use crate::replying::wanting;
-use std::alloc::{AllocGlobal, Global};
+use std::alloc::AllocGlobal;
 use std::thread::Threads;
 use tk_answer::Blocks;
 use tk_cluster::EpochSet;
 use tk_replica::replies;
 use tk_shape::{Bytes, Memory};
-use tk_shards::{Division, ShardSet};
+use tk_shards::{Division, answer_in_ranges};
 use tk_table::Snapshot;
 
 /// What a server replies to reads of a set's epoch, over the ranges of its blocks.
@@ -42,8 +41,7 @@ pub(crate) fn batch_in_ranges<R: Threads + Sync + AllocGlobal>(
     replies(alloc, askers.as_slice(), sums)
 }
 
-/// For each of the vectors the sum of the blocks that it chooses, each range's by a worker of its own
-/// over bytes of its own.
+/// For each of the vectors the sum of the blocks that it chooses, made range by range.
 fn sums_in_ranges<R: Threads + Sync + AllocGlobal>(
     rt: &R,
     blocks: &Snapshot,
@@ -54,15 +52,6 @@ fn sums_in_ranges<R: Threads + Sync + AllocGlobal>(
     ensures { IfOk result (λ sums. sums.items
         ≡ map (chosen_sum blocks.now.width blocks.now.blocks) vectors.now) }
 {
-    let shards = shards_of(rt.alloc(), blocks, crew)?;
-    shards.answer_all(rt, vectors)
-}
-
-/// The blocks in the crew's ranges.
-fn shards_of(alloc: Global, blocks: &Snapshot, crew: Crew) -> Result<ShardSet, Memory>
-    ensures { IfOk result (λ s.
-        s ≡ in_shards blocks.now.width blocks.now.blocks crew.shards) }
-{
-    let division = Division::even(alloc, blocks.count(), crew.shards)?;
-    ShardSet::open(alloc, blocks, division)
+    let division = Division::even(rt.alloc(), blocks.count(), crew.shards)?;
+    answer_in_ranges(rt, blocks, &division, vectors, crew.workers)
 }
