@@ -23,4 +23,4 @@ pub mod Parting
 pub mod Gathered
 pub mod AnsweredReads
 pub mod Places
-pub mod LeaderLaws
+pub mod RelayedSights

@@ -11,4 +11,4 @@ pub mod Relayed
 pub mod Reads
 pub mod Replicas
 pub mod Running
-pub mod Leader
+pub mod RelayedSights

@@ -1,5 +1,5 @@
 //! Why what the server in between sees of a read fits any two buckets, and why the client reads what it would have read.
-ghost use Rattle.tk_relay.specs.Leader.{TapGainsSight, TapGainsTheSame};
+ghost use Rattle.tk_relay.specs.RelayedSights.{TapGainsSight, TapGainsTheSame};
 ghost use Rattle.tk_relay.specs.Laws.{SameSight, MovedBack, MovedStay, RepliesJoin, HonestRepliesJoin};
 
 /// What the server in between sees of a read is the same for any two buckets, after a change of the last server's pads.

@@ -5,7 +5,7 @@ use std::test::Fail;
 use tk_frames::{FrameError, Name};
 use tk_relay::{
     Part, decode_masked_reply, decode_part, encode_masked_reply, encode_part, moved_back,
-    replies_join, same_sight, split,
+    replies_join, same_sight, split, tap_gains_sight,
 };
 use tk_shape::{Bytes, Shape};
 
@@ -189,4 +189,5 @@ fn laws_of_relayed_reads_can_be_called(_rt: HostRuntime) {
     same_sight();
     moved_back();
     replies_join();
+    tap_gains_sight();
 }

@@ -1,4 +1,4 @@
-use Rattle.tk_relay.proofs.LeaderLaws.{tap-gains-sight, tap-gains-the-same}
+use Rattle.tk_relay.proofs.RelayedSights.{tap-gains-sight, tap-gains-the-same}
 use Rattle.tk_relay.proofs.laws.tap_gains_sight.Goals as goal
 
 pub returns-clause-sight : goal.returns-clause-sight

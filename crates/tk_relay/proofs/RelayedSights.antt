@@ -11,7 +11,7 @@ use Rattle.tk_client.proofs.Offers.{fresh-whole, pair-in_range}
 use Rattle.tk_report.specs.Exchange.{read_at, read_pair}
 use Rattle.tk_report.specs.Report.{read_over, target_at}
 use Rattle.tk_report.proofs.Offers.{epochs-ordered, epochs-storable}
-use Rattle.tk_relay.specs.Leader.{reading_at, buckets_read, IsReadOf, TapGainsSight, TapGainsTheSame}
+use Rattle.tk_relay.specs.RelayedSights.{reading_at, buckets_read, IsReadOf, TapGainsSight, TapGainsTheSame}
 use Rattle.tk_relay.specs.Relayed.{blocks_read, frames_read, pads_read, relayed_read, sight_frames}
 use Rattle.tk_relay.specs.Sights.{frames_for, sight, AreBlocks, AreBuckets}
 use Rattle.tk_relay.proofs.Joins.{blocks-whole}
