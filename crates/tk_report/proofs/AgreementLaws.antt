@@ -170,7 +170,8 @@ flat_map-agree {A} f h a (suc n) same =
     ap₂ (λ (x y : List A). x ++ y) (same a (omega arith) (omega arith))
     (flat_map-agree f h (a + 1) n (λ k low high. same k (omega (arith, low)) (omega (arith, high))))
 
-turns-agree : (S : Script) (b : WordBook) (H K : History) (g : ℕ)
+-- what is seen of them, where reads show the same
+pub turns-agree : (S : Script) (b : WordBook) (H K : History) (g : ℕ)
     (reads others : ℕ → ℕ → List (List ℕ)) → SameOrders H K g →
     ((k c : ℕ) → k < g → c < S.shape.clients → reads k c ≡ others k c) →
     frames_before S.shape H (write_at S (words_of S.shape b)) reads g

@@ -15,6 +15,7 @@ use Rattle.tk_script.specs.SoundScript.{is_role, is_ascending}
 use Rattle.tk_script.specs.Sent.{writer_of, unsent_count}
 use Rattle.std.proofs.lemmas.Bool.{and_parts as parts}
 use Rattle.tk_words.specs.Words.{BookWords}
+use Rattle.tk_client.specs.declared.got.Got.{Got}
 use Rattle.tk_client.specs.declared.written.Written.{Written}
 use Rattle.tk_client.specs.declared.target.Target.{Target}
 use Rattle.tk_client.specs.Reader.{Follow, Reader, new_follow, untried, at_epoch}
@@ -212,26 +213,37 @@ unsent-ended S w H clients c are low =
     ∙ ap (λ (k : ClientState). length k.writing.waiting) (are.each c last within)
     ∙ unsent_waits S c
 
-pub ends-text : EndsReport
-unfolding report_text report_of
-ends-text S w H clients are =
+-- reports whose clients got the same and have as many texts left
+pub reports-agree : (S : Script) (H : History) (got others : ℕ → ℕ → List Got)
+    (unsent left : ℕ → ℕ) → ((c log : ℕ) → c < S.shape.clients → got c log ≡ others c log) →
+    ((c : ℕ) → c < S.shape.clients → unsent c ≡ left c) →
+    report_text S.shape S.roles H got unsent ≡ report_text S.shape S.roles H others left
+unfolding report_text
+reports-agree S H got others unsent left same_got same_left =
     let head = line (codes "report" ∷ []) ++ history_lines S.shape H in
     let end = line (codes "end" ∷ []) in
     let logs = flat_map-agree
-    (λ log. flat_map (λ c. log_lines log c (got_by clients c log)) (role_in S.roles log).followers)
-    (λ log. flat_map (λ c. log_lines log c (got_of S w H c log)) (role_in S.roles log).followers)
+    (λ log. flat_map (λ c. log_lines log c (got c log)) (role_in S.roles log).followers)
+    (λ log. flat_map (λ c. log_lines log c (others c log)) (role_in S.roles log).followers)
     0 S.shape.logs
     (λ log low high.
-    flat_map-same (λ c. log_lines log c (got_by clients c log))
-    (λ c. log_lines log c (got_of S w H c log)) (role_in S.roles log).followers
-    (each-told (λ c. nat_lt c S.shape.clients)
-    (λ c. log_lines log c (got_by clients c log) ≡ log_lines log c (got_of S w H c log))
+    flat_map-same (λ c. log_lines log c (got c log)) (λ c. log_lines log c (others c log))
     (role_in S.roles log).followers
-    (λ c t. ap (log_lines log c) (got-ended S w H clients log c are (ltb-true c S.shape.clients t)))
+    (each-told (λ c. nat_lt c S.shape.clients)
+    (λ c. log_lines log c (got c log) ≡ log_lines log c (others c log))
+    (role_in S.roles log).followers
+    (λ c t. ap (log_lines log c) (same_got c log (ltb-true c S.shape.clients t)))
     (followers-in S.shape S.roles log S.sound.roles_sound)))
     in
-    let unsent = flat_map-agree (λ c. unsent_line c (unsent_by clients c))
-    (λ c. unsent_line c (unsent_count S c)) 0 S.shape.clients
-    (λ c low high. ap (unsent_line c) (unsent-ended S w H clients c are (omega (arith, high))))
+    let counts = flat_map-agree (λ c. unsent_line c (unsent c)) (λ c. unsent_line c (left c)) 0
+    S.shape.clients
+    (λ c low high. ap (unsent_line c) (same_left c (omega (arith, high))))
     in
-    ap₂ (λ (a b : List ℕ). head ++ a ++ b ++ end) logs unsent
+    ap₂ (λ (a b : List ℕ). head ++ a ++ b ++ end) logs counts
+
+pub ends-text : EndsReport
+unfolding report_of
+ends-text S w H clients are =
+    reports-agree S H (got_by clients) (got_of S w H) (unsent_by clients) (unsent_count S)
+    (λ c log low. got-ended S w H clients log c are low)
+    (λ c low. unsent-ended S w H clients c are low)

@@ -22,10 +22,11 @@ pub use Rattle.tk_report.proofs.QueueLaws.{queues-send}
 pub use Rattle.tk_report.proofs.AgreementLaws.{epoch-made, readers-agree, reads-agree, frames-agree}
 pub use Rattle.tk_report.proofs.AgreementLaws.{views-agree, alike-after_turn, alike-where_open}
 pub use Rattle.tk_report.proofs.AgreementLaws.{alike-where_old, fronts-agree, flat_map-agree}
+pub use Rattle.tk_report.proofs.AgreementLaws.{turns-agree}
 pub use Rattle.tk_report.proofs.LaidOutLaws.{layout-gives-lookup, bytes-give-lookup}
 -- the end of a run, and its report
 pub use Rattle.tk_report.proofs.LeavingLaws.{ends-leave, ends-text, writing-logs, reader-logs}
-pub use Rattle.tk_report.proofs.LeavingLaws.{followers-in, got-ended}
+pub use Rattle.tk_report.proofs.LeavingLaws.{followers-in, got-ended, reports-agree}
 pub use Rattle.tk_report.proofs.SaidLaws.{ends-unsent, ends-count_said}
 pub use Rattle.tk_report.proofs.ShowsLaws.{reports-show}
 pub use Rattle.tk_report.proofs.OneHistoryLaws.{shows-one}

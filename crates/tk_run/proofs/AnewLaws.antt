@@ -27,13 +27,13 @@ use Rattle.tk_report.specs.Exchange.{frames_before, turn_frames}
 use Rattle.tk_report.specs.Report.{role_in, line, log_lines, unsent_line, history_lines, report_text}
 use Rattle.tk_report.specs.Report.{read_over}
 use Rattle.tk_report.specs.Turns.{placed_before}
-use Rattle.tk_report.proofs.Offers.{flat_map-agree, followers-in}
+use Rattle.tk_report.proofs.Offers.{turns-agree, reports-agree}
 use Rattle.tk_run.specs.Serving.{Serving, honest, reader_under, reader_after, frame_under, read_replied}
 use Rattle.tk_run.specs.Serving.{got_under}
 use Rattle.tk_run.specs.Anew.{Alike, SameRun, AlikeRuns, held_anew, anew, AnewFromOwn}
 use Rattle.tk_run.specs.Anew.{in_ranges, ranged, RangedFromOwn}
 use Rattle.tk_run.proofs.ReadingLaws.{all-made}
-use Rattle.tk_run.proofs.ServingLaws.{honest-exchange, honest-report, each-told}
+use Rattle.tk_run.proofs.ServingLaws.{honest-exchange, honest-report}
 
 -- a client's read under what it is told and replied
 module _ (S : Script) (b : WordBook) (H : History) (g c : ℕ) where
@@ -59,54 +59,32 @@ module _ (S : Script) (b : WordBook) (H : History) (V W : Serving) (alike : Alik
   same-readers c zero client_in within = refl
   same-readers c (suc g) client_in within =
       let turn_in : g < turn_count S.shape = omega (arith, within) in
-      ap₂ (λ (shows : ℕ → ℕ → Bool) (reply : ℕ → ReadFrame → ReplyFrame).
-      after S b H g c shows reply (reader_under S b H V c g))
-      (alike.shows g c turn_in client_in) (alike.reply g c turn_in client_in)
-      ∙ ap (after S b H g c (W.shows g c) (W.reply g c))
-      (same-readers c g client_in (omega (arith, within)))
+      let shows = alike.shows g c turn_in client_in in
+      let reply = alike.reply g c turn_in client_in in
+      let reader = same-readers c g client_in (omega (arith, within)) in
+      λ i. after S b H g c (shows i) (reply i) (reader i)
 
   same-read : (g c j : ℕ) → g < turn_count S.shape → c < S.shape.clients →
       read_replied S b H V j g c ≡ read_replied S b H W j g c
   same-read g c j turn_in client_in =
-      ap₂ (λ (shows : ℕ → ℕ → Bool) (reply : ℕ → ReadFrame → ReplyFrame).
-      replied S b H g c shows reply (reader_under S b H V c g) j)
-      (alike.shows g c turn_in client_in) (alike.reply g c turn_in client_in)
-      ∙ ap (λ (r : Reader). replied S b H g c (W.shows g c) (W.reply g c) r j)
-      (same-readers c g client_in (omega (arith, turn_in)))
+      let shows = alike.shows g c turn_in client_in in
+      let reply = alike.reply g c turn_in client_in in
+      let reader = same-readers c g client_in (omega (arith, turn_in)) in
+      λ i. replied S b H g c (shows i) (reply i) (reader i) j
 
 pub alike-runs : AlikeRuns
-unfolding frames_before report_text
 alike-runs S b H V W alike =
-    let write = write_at S (words_of S.shape b) in
-    let head = line (codes "report" ∷ []) ++ history_lines S.shape H in
-    let end = line (codes "end" ∷ []) in
-    let got : (c log : ℕ) → c < S.shape.clients → got_under S b H V c log ≡ got_under S b H W c log =
-    λ c log client_in.
-    ap (λ (r : Reader). got_in r.follows log)
-    (same-readers S b H V W alike c (turn_count S.shape) client_in (omega arith))
-    in
+    let turns = turn_count S.shape in
     record {
       exchange = λ j.
-          flat_map-agree (turn_frames S.shape H write (read_replied S b H V j))
-          (turn_frames S.shape H write (read_replied S b H W j)) 0 (turn_count S.shape)
-          (λ g _ turn_in.
-          ap (λ (reads : List (List ℕ)). map placed_frame (entries_at write H g) ++ reads)
-          (flat_map-agree (read_replied S b H V j g) (read_replied S b H W j g) 0 S.shape.clients
-          (λ c _ client_in.
-          same-read S b H V W alike g c j (omega (arith, turn_in)) (omega (arith, client_in)))));
+          turns-agree S b H H turns (read_replied S b H V j) (read_replied S b H W j) (λ k low. refl)
+          (λ g c turn_in client_in. same-read S b H V W alike g c j turn_in client_in);
       report =
-          ap (λ (x : List ℕ). head ++ x
-          ++ flat_map (λ c. unsent_line c (unsent_count S c)) (range_with_len 0 S.shape.clients) ++ end)
-          (flat_map-agree
-          (λ log. flat_map (λ c. log_lines log c (got_under S b H V c log)) (role_in S.roles log).followers)
-          (λ log. flat_map (λ c. log_lines log c (got_under S b H W c log)) (role_in S.roles log).followers)
-          0 S.shape.logs
-          (λ log low high.
-          each-told (λ c. nat_lt c S.shape.clients)
-          (λ c. log_lines log c (got_under S b H V c log)) (λ c. log_lines log c (got_under S b H W c log))
-          (role_in S.roles log).followers
-          (λ c t. ap (log_lines log c) (got c log (ltb-true c S.shape.clients t)))
-          (followers-in S.shape S.roles log S.sound.roles_sound)));
+          reports-agree S H (got_under S b H V) (got_under S b H W) (unsent_count S) (unsent_count S)
+          (λ c log client_in.
+          ap (λ (r : Reader). got_in r.follows log)
+          (same-readers S b H V W alike c turns client_in (omega arith)))
+          (λ c client_in. refl);
     }
 
 -- ---- servers that begin anew

@@ -15,12 +15,12 @@ use Rattle.tk_checkpoint.specs.Saved.{saved}
 use Rattle.tk_report.specs.Entries.{entries_before}
 use Rattle.tk_run.specs.Keeping.{kept_at, kept_up_to, saved_before}
 
--- what two tests keep
-abbrev both : Bool → Bool → List ℕ → List ℕ → List (List ℕ)
-both before here a b = cond before (a ∷ []) [] ++ cond here (b ∷ []) []
-
+-- what a test keeps, and what two tests keep
 abbrev one : Bool → List ℕ → List (List ℕ)
 one test a = cond test (a ∷ []) []
+
+abbrev both : Bool → Bool → List ℕ → List ℕ → List (List ℕ)
+both before here a b = one before a ++ one here b
 
 pub kept-first : (due : Option ℕ) (at : ℕ → List ℕ) → kept_at due 0 (at 0) ≡ kept_up_to due at 0
 kept-first None at = refl

@@ -23,7 +23,7 @@ use Rattle.tk_report.specs.Entries.{write_at, entries_at}
 use Rattle.tk_report.specs.Exchange.{read_answered, read_at, read_pair, frames_before, turn_frames, with_reply}
 use Rattle.tk_report.specs.Report.{answered, read_over, reader_before, target_at, role_in, line}
 use Rattle.tk_report.specs.Report.{log_lines, unsent_line, history_lines, got_of, report_of, report_text}
-use Rattle.tk_report.proofs.Offers.{before-next, flat_map-agree, followers-in}
+use Rattle.tk_report.proofs.Offers.{before-next, turns-agree, reports-agree}
 use Rattle.tk_run.specs.Serving.{honest, frame_under, replies_under, reader_under, reader_after}
 use Rattle.tk_run.specs.Serving.{read_replied, got_under}
 use Rattle.tk_run.specs.Serving.{HonestReaders, HonestExchange, HonestReport}
@@ -96,51 +96,18 @@ read-same S b H g c j serves legal turn_in client_in =
     (honest-readers S b H c g serves legal client_in (omega (arith, turn_in)))
 
 pub honest-exchange : HonestExchange
-unfolding frames_before
 honest-exchange S b H j serves legal =
-    let w = words_of S.shape b in
-    let write = write_at S w in
-    let own = read_replied S b H (honest S w H) j in
-    let all = read_answered S b H j in
-    flat_map-agree (turn_frames S.shape H write own) (turn_frames S.shape H write all) 0
-    (turn_count S.shape)
-    (λ g _ turn_in.
-    ap (λ (reads : List (List ℕ)). map placed_frame (entries_at write H g) ++ reads)
-    (flat_map-agree (own g) (all g) 0 S.shape.clients
-    (λ c _ client_in.
-    read-same S b H g c j serves legal (omega (arith, turn_in)) (omega (arith, client_in)))))
-
--- what all pass has what the test gives
-pub each-told : (p : ℕ → Bool) (f h : ℕ → List ℕ) (xs : List ℕ) →
-    ((c : ℕ) → p c ≡ true → f c ≡ h c) → list_all p xs ≡ true → flat_map f xs ≡ flat_map h xs
-each-told p f h [] same all = refl
-each-told p f h (x ∷ xs) same all =
-    let both = parts (p x) (list_all p xs) all in
-    ap₂ (λ (a b : List ℕ). a ++ b) (same x both.0) (each-told p f h xs same both.1)
+    turns-agree S b H H (turn_count S.shape) (read_replied S b H (honest S (words_of S.shape b) H) j)
+    (read_answered S b H j) (λ k low. refl)
+    (λ g c turn_in client_in. read-same S b H g c j serves legal turn_in client_in)
 
 pub honest-report : HonestReport
-unfolding report_text report_of
+unfolding report_of
 honest-report S b H serves legal =
     let w = words_of S.shape b in
-    let V = honest S w H in
-    let head = line (codes "report" ∷ []) ++ history_lines S.shape H in
-    let end = line (codes "end" ∷ []) in
-    let got : (c log : ℕ) → c < S.shape.clients → got_under S b H V c log ≡ got_of S w H c log =
-    λ c log client_in.
+    reports-agree S H (got_under S b H (honest S w H)) (got_of S w H) (unsent_count S)
+    (unsent_count S)
+    (λ c log client_in.
     ap (λ (r : Reader). got_in r.follows log)
-    (honest-readers S b H c (turn_count S.shape) serves legal client_in (omega arith))
-    in
-    let logs = flat_map-agree
-    (λ log. flat_map (λ c. log_lines log c (got_under S b H V c log)) (role_in S.roles log).followers)
-    (λ log. flat_map (λ c. log_lines log c (got_of S w H c log)) (role_in S.roles log).followers)
-    0 S.shape.logs
-    (λ log low high.
-    each-told (λ c. nat_lt c S.shape.clients)
-    (λ c. log_lines log c (got_under S b H V c log)) (λ c. log_lines log c (got_of S w H c log))
-    (role_in S.roles log).followers
-    (λ c t. ap (log_lines log c) (got c log (ltb-true c S.shape.clients t)))
-    (followers-in S.shape S.roles log S.sound.roles_sound))
-    in
-    ap (λ (x : List ℕ). head ++ x
-    ++ flat_map (λ c. unsent_line c (unsent_count S c)) (range_with_len 0 S.shape.clients) ++ end)
-    logs
+    (honest-readers S b H c (turn_count S.shape) serves legal client_in (omega arith)))
+    (λ c client_in. refl)

@@ -19,7 +19,7 @@ use Rattle.tk_shards.specs.Shards.{Sharded}
 use Rattle.tk_report.specs.Exchange.{exchange}
 use Rattle.tk_report.specs.Report.{read_over, report}
 use Rattle.tk_report.specs.Turns.{placed_before}
-use Rattle.tk_run.specs.Serving.{Serving, exchange_under, report_under}
+use Rattle.tk_run.specs.Serving.{Serving, honest, exchange_under, report_under}
 
 -- ---- servers that are alike where it counts
 
@@ -76,8 +76,7 @@ in_ranges shape R ranges =
 
 abbrev pub ranged : Script → BookWords → History → List (ℕ × ℕ) → Summing → Serving
 ranged S w H ranges sum =
-    record {
-      shows = λ g c log s. is_shown S.shape (read_over S w H g c) (w.hits log s);
+    record (honest S w H) {
       reply = λ g c j r. let set = in_ranges S.shape (read_over S w H g c) ranges in
           record (reply_to S.shape (read_over S w H g c) r) {
             first = sum set r.first;
