@@ -4,6 +4,8 @@ use Rattle.tk_shape.specs.declared.shape.Shape.{Shape}
 use Rattle.tk_shape.specs.Lengths.{turn_count, tape_len}
 use Rattle.tk_script.specs.declared.script.Script.{Script}
 use Rattle.tk_words.specs.Words.{drawn}
+use Rattle.tk_counts.specs.Counts.{IsUndoneBy}
+use Rattle.tk_counts.proofs.Offers.{AreBytes, shown-as_often}
 use Rattle.tk_privacy.specs.Privacy.{regained}
 use Rattle.tk_privacy.specs.Counts.{count_tapes}
 use Rattle.tk_privacy.proofs.Offers as privacy
@@ -30,7 +32,7 @@ turned A B h adversary are =
 
 -- a mirrored tape is one of bytes
 bytes-mirror : (A B : Script) (h : ℕ) (adversary : Adversary) (moves : ℕ) (u : List ℕ) →
-    privacy.AreBytes u → privacy.AreBytes (attack_mirror A B h adversary moves u)
+    AreBytes u → AreBytes (attack_mirror A B h adversary moves u)
 unfolding attack_normal attack_unnormal
 bytes-mirror A B h adversary moves u are =
     let shown : List ℕ = attack_normal A h adversary moves u in
@@ -41,10 +43,10 @@ bytes-mirror A B h adversary moves u are =
 -- and mirrored back it is the first
 mirror-undone : (A B : Script) (h : ℕ) (adversary : Adversary) (moves n : ℕ) →
     AreTargets A B h adversary → n ≡ tape_len A.shape →
-    privacy.IsUndoneBy n (attack_mirror A B h adversary moves) (attack_mirror B A h adversary moves)
+    IsUndoneBy 256 n (attack_mirror A B h adversary moves) (attack_mirror B A h adversary moves)
 mirror-undone A B h adversary moves n are whole =
     record {
-      tape = λ u tape.
+      stays = λ u tape.
           let at : AreAttacked A B h adversary u =
           record { targets = are; tape = tape.counted ∙ whole }
           in
@@ -61,7 +63,7 @@ pub as_many_tapes : AsManyTapes
 as_many_tapes A B h adversary moves test are =
     let same : A.shape ≡ B.shape = are.one_shape in
     let n = tape_len A.shape in
-    privacy.as-many n (attack_mirror A B h adversary moves) (attack_mirror B A h adversary moves)
+    shown-as_often 256 n (attack_mirror A B h adversary moves) (attack_mirror B A h adversary moves)
     (mirror-undone A B h adversary moves n are refl)
     (mirror-undone B A h adversary moves n (turned A B h adversary are) (ap tape_len same))
     (λ u. seen_by A (drawn u) h adversary moves) (λ u. seen_by B (drawn u) h adversary moves)

@@ -1,26 +1,22 @@
 -- A changed tape is bytes where the tape is.
-use Rattle.std.proofs.Common.{◌≡◌, ℕ, zero, suc, ◌+◌, ◌-◌, ◌*◌, ◌/◌, ◌%◌, ◌^◌, ◌<◌}
-use Rattle.std.proofs.Common.{Bool, true, false, cond, List, [], ◌∷◌, ◌++◌, length, map, take, drop}
-use Rattle.std.proofs.Common.{replicate, refl, sym, subst, arith, inl, inr, Option, Some, None}
-use Rattle.std.proofs.Common.{ltb-true}
-use Rattle.std.specs.Prelude.{flat_map, slice_index_or, nat_lt, IsTrue}
-use Rattle.std.specs.List.{All, range_with_len, concat, list_all}
+use Rattle.std.proofs.Common.{◌≡◌, ℕ, ◌+◌, ◌-◌, ◌*◌, ◌/◌, ◌%◌, ◌<◌, Bool, true, false, cond, List, []}
+use Rattle.std.proofs.Common.{◌∷◌, ◌++◌, length, map, take, drop, replicate, refl, sym, subst, arith}
+use Rattle.std.proofs.Common.{inl, inr, Option, Some, None, ltb-true}
+use Rattle.std.specs.Prelude.{slice_index_or, nat_lt, IsTrue}
+use Rattle.std.specs.List.{range_with_len, concat, list_all}
 use Rattle.std.specs.Str.{is_utf8, IsUtf8, encode_utf8_all, all_scalars}
 use Rattle.std.specs.Char.{encode_utf8}
-use Rattle.std.proofs.Math.Pow.{pow-lt}
 use Rattle.std.proofs.Math.Utf8.{scalar, next, scalar_cases}
-use Rattle.std.proofs.lemmas.Bool.{and_parts, cases_lt}
-use Rattle.std.proofs.lemmas.Nat.{xor_lt}
+use Rattle.std.proofs.lemmas.Bool.{and_parts}
 use Rattle.std.proofs.lemmas.Str.{IsUtf8-from_is_utf8}
-use Rattle.std.proofs.lemmas.List.{get_or_past}
-use Rattle.std.proofs.lemmas.List.Elements.{All-nil, All-cons, All-head, All-tail, All-append}
-use Rattle.std.proofs.lemmas.List.Elements.{All-take, All-drop, All-set, All-replicate, All-map}
-use Rattle.std.proofs.lemmas.List.Elements.{All-weaker}
+use Rattle.std.proofs.lemmas.List.Elements.{All-set, All-map, All-weaker}
+use Rattle.tk_counts.proofs.Offers.{AreBytes, no_bytes, byte-cons, bytes-append, bytes-take}
+use Rattle.tk_counts.proofs.Offers.{bytes-drop, bytes-zeros, bytes-flat_map, bytes-xor}
+use Rattle.tk_counts.proofs.Offers.{AllBytes, bytes-concat, bytes-pieces, bytes-at, bytes-last_share}
 use Rattle.tk_shape.specs.declared.shape.Shape.{Shape}
 use Rattle.tk_shape.specs.Lengths.{turn_count, cell_len, read_cell_len, vector_len, seed_len, piece_len}
-use Rattle.tk_kernel.specs.Xor.{xor_bytes, xor_all}
-use Rattle.tk_kernel.specs.Pieces.{pieces}
-use Rattle.tk_bits.specs.Shares.{unit_vector, last_share}
+use Rattle.tk_kernel.specs.Xor.{xor_bytes}
+use Rattle.tk_bits.specs.Shares.{last_share}
 use Rattle.tk_seal.specs.Texts.{is_printable, is_allowed}
 use Rattle.tk_seal.specs.Seal.{plain}
 use Rattle.tk_script.specs.declared.script.Script.{Script}
@@ -34,85 +30,6 @@ use Rattle.tk_privacy.specs.Privacy.{cells, tape_of, masked_cell, shown_write_ce
 use Rattle.tk_privacy.specs.Privacy.{hidden_write_cell, hidden_keyed_cell, with_vector, with_hidden}
 use Rattle.tk_privacy.specs.Privacy.{changed_read, shown_read_cell, Pairs, read_cell_for, normal_for}
 use Rattle.tk_privacy.specs.Privacy.{regained, with_reads_for, unnormal_for}
-
-abbrev pub AreBytes : List ℕ → Type 0
-AreBytes xs = All (λ x. x < 256) xs
-
-abbrev AllBytes : List (List ℕ) → Type 0
-AllBytes xss = All AreBytes xss
-
--- ---- lists of bytes
-
-no_bytes : AreBytes []
-no_bytes = All-nil (λ x. x < 256)
-
-byte-cons : (x : ℕ) (xs : List ℕ) → x < 256 → AreBytes xs → AreBytes (x ∷ xs)
-byte-cons = All-cons (λ x. x < 256)
-
-bytes-append : (xs ys : List ℕ) → AreBytes xs → AreBytes ys → AreBytes (xs ++ ys)
-bytes-append = All-append (λ x. x < 256)
-
-bytes-take : (n : ℕ) (xs : List ℕ) → AreBytes xs → AreBytes (take n xs)
-bytes-take = All-take (λ x. x < 256)
-
-bytes-drop : (n : ℕ) (xs : List ℕ) → AreBytes xs → AreBytes (drop n xs)
-bytes-drop = All-drop (λ x. x < 256)
-
-bytes-zeros : (n : ℕ) → AreBytes (replicate n 0)
-bytes-zeros n = All-replicate (λ x. x < 256) n 0 (omega arith)
-
-bytes-flat_map : {X : Type 0} (f : X → List ℕ) → ((x : X) → AreBytes (f x)) → (xs : List X) →
-    AreBytes (flat_map f xs)
-bytes-flat_map f each [] = All-nil (λ x. x < 256)
-bytes-flat_map f each (x ∷ xs) =
-    bytes-append (f x) (flat_map f xs) (each x) (bytes-flat_map f each xs)
-
-bytes-concat : (xss : List (List ℕ)) → AllBytes xss → AreBytes (concat xss)
-bytes-concat [] all = All-nil (λ x. x < 256)
-bytes-concat (xs ∷ xss) all =
-    bytes-append xs (concat xss) (All-head AreBytes xs xss all)
-    (bytes-concat xss (All-tail AreBytes xs xss all))
-
-bytes-pieces : (size count : ℕ) (xs : List ℕ) → AreBytes xs → AllBytes (pieces size count xs)
-bytes-pieces size zero xs are = All-nil AreBytes
-bytes-pieces size (suc count) xs are =
-    All-cons AreBytes (take size xs) (pieces size count (drop size xs)) (bytes-take size xs are)
-    (bytes-pieces size count (drop size xs) (bytes-drop size xs are))
-
--- one of some lists, or the empty one
-bytes-at : (xss : List (List ℕ)) (k : ℕ) → AllBytes xss → AreBytes (slice_index_or xss k [])
-bytes-at xss k all = elim (cases_lt k (length xss)) [
-  | inl within ↦ all k [] within
-  | inr past ↦
-      subst AreBytes (sym (get_or_past xss k [] past)) (All-nil (λ x. x < 256))
-]
-
--- ---- sums
-
-bytes-xor : (xs ys : List ℕ) → AreBytes xs → AreBytes ys → AreBytes (xor_bytes xs ys)
-bytes-xor [] ys are these = All-nil (λ x. x < 256)
-bytes-xor (x ∷ xs) [] are these = All-nil (λ x. x < 256)
-bytes-xor (x ∷ xs) (y ∷ ys) are these =
-    All-cons (λ x. x < 256) (Rattle.std.specs.Prelude.bit_xor x y) (xor_bytes xs ys)
-    (xor_lt 8 x y (All-head (λ x. x < 256) x xs are) (All-head (λ x. x < 256) y ys these))
-    (bytes-xor xs ys (All-tail (λ x. x < 256) x xs are) (All-tail (λ x. x < 256) y ys these))
-
-bytes-xor_all : (size : ℕ) (vs : List (List ℕ)) → AllBytes vs → AreBytes (xor_all size vs)
-bytes-xor_all size [] all = bytes-zeros size
-bytes-xor_all size (v ∷ vs) all =
-    bytes-xor v (xor_all size vs) (All-head AreBytes v vs all)
-    (bytes-xor_all size vs (All-tail AreBytes v vs all))
-
-bytes-unit_vector : (size i : ℕ) → AreBytes (unit_vector size i)
-bytes-unit_vector size i =
-    All-set (λ x. x < 256) (replicate size 0) (i / 8) (2 ^ (i % 8))
-    (pow-lt {i = i % 8} {j = 8} (omega arith)) (bytes-zeros size)
-
-bytes-last_share : (size i : ℕ) (vs : List (List ℕ)) → AllBytes vs →
-    AreBytes (last_share size i vs)
-bytes-last_share size i vs all =
-    bytes-xor (unit_vector size i) (xor_all size vs) (bytes-unit_vector size i)
-    (bytes-xor_all size vs all)
 
 -- ---- texts
 
@@ -142,7 +59,7 @@ bytes-encode c low = by (nat_lt c 128) (nat_lt c 2048) (nat_lt c 65536) refl ref
         (byte-cons (next (c / 64)) (next c ∷ []) (omega arith) (last c)))
 
 bytes-encodes : (cs : List ℕ) → all_scalars cs ≡ true → AreBytes (encode_utf8_all cs)
-bytes-encodes [] are = All-nil (λ x. x < 256)
+bytes-encodes [] are = no_bytes
 bytes-encodes (c ∷ cs) are =
     let parts = and_parts (scalar c) (all_scalars cs) are in
     let low : c < 1114112 = elim (scalar_cases c parts.0) [

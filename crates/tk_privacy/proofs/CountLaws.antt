@@ -11,11 +11,12 @@ use Rattle.tk_schedule.specs.Schedule.{IsLegal}
 use Rattle.tk_script.specs.declared.script.Script.{Script}
 use Rattle.tk_words.specs.Words.{drawn}
 use Rattle.tk_report.specs.Exchange.{view}
+use Rattle.tk_counts.specs.Counts.{IsListBelow, IsUndoneBy}
+use Rattle.tk_counts.proofs.Offers.{shown-as_often}
 use Rattle.tk_privacy.specs.Privacy.{regained, normal, unnormal, mirror, pairs_read, cells_view}
-use Rattle.tk_privacy.specs.Counts.{IsListBelow, count_tapes, all_but, joint_view, joint_cells, is_view}
+use Rattle.tk_privacy.specs.Counts.{count_tapes, all_but, joint_view, joint_cells, is_view}
 use Rattle.tk_privacy.specs.Laws.{AreMirrored, AreCompared, AsManyTapes, EachAsOften, AsManyCells}
 use Rattle.tk_privacy.proofs.ByteCells.{bytes-normal_for, bytes-unnormal_for}
-use Rattle.tk_privacy.proofs.Counting.{IsUndoneBy, as-many}
 use Rattle.tk_privacy.proofs.PrivacyLaws.{length-normal, length-unnormal, unnormal-normal}
 use Rattle.tk_privacy.proofs.PrivacyLaws.{normal-unnormal, made_of_cells, one_to_one}
 
@@ -75,11 +76,11 @@ at-tape A B H h u is whole =
 
 -- a mirrored tape is one of bytes, and mirrored back it is the first
 pub mirror-undone : (A B : Script) (H : History) (h n : ℕ) → AreCompared A B H h →
-    n ≡ tape_len A.shape → IsUndoneBy n (mirror A B H h) (mirror B A H h)
+    n ≡ tape_len A.shape → IsUndoneBy 256 n (mirror A B H h) (mirror B A H h)
 unfolding normal unnormal
 mirror-undone A B H h n is same =
     record {
-      tape = λ u tape.
+      stays = λ u tape.
           let at = at-tape A B H h u is (tape.counted ∙ same) in
           let shown : List ℕ = normal A H h u in
           record {
@@ -92,22 +93,22 @@ mirror-undone A B H h n is same =
     }
 
 module _ (S : Script) (H : History) (h : ℕ) (is : AreCompared S S H h) where
-  there : IsUndoneBy (tape_len S.shape) (normal S H h) (unnormal S H h)
+  there : IsUndoneBy 256 (tape_len S.shape) (normal S H h) (unnormal S H h)
   unfolding normal
   there =
       record {
-        tape = λ u tape. record {
+        stays = λ u tape. record {
           counted = length-normal S H h u tape.counted;
           below = bytes-normal_for S u tape.below h (pairs_read S (drawn u) H);
         };
         back = λ u tape. unnormal-normal S H h is.hidden_low u tape.counted;
       }
 
-  back : IsUndoneBy (tape_len S.shape) (unnormal S H h) (normal S H h)
+  back : IsUndoneBy 256 (tape_len S.shape) (unnormal S H h) (normal S H h)
   unfolding unnormal
   back =
       record {
-        tape = λ v tape. record {
+        stays = λ v tape. record {
           counted = length-unnormal S H h is.hidden_low v tape.counted;
           below = bytes-unnormal_for S v tape.below h (pairs_read S (drawn (regained S v)) H);
         };
@@ -128,7 +129,7 @@ module _ (S : Script) (H : History) (h : ℕ) (is : AreCompared S S H h) where
 
 pub as_many_cells : AsManyCells
 as_many_cells S H h test is =
-    as-many (tape_len S.shape) (normal S H h) (unnormal S H h) (there S H h is) (back S H h is)
+    shown-as_often 256 (tape_len S.shape) (normal S H h) (unnormal S H h) (there S H h is) (back S H h is)
     (joint_view S H h) (joint_cells S.shape H h) (joint S H h is) test
 
 pub as_many_tapes : AsManyTapes

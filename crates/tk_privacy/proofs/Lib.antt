@@ -6,7 +6,6 @@ pub mod Changes
 pub mod Seen
 pub mod Offers
 pub mod PrivacyLaws
-pub mod Counting
 pub mod ByteCells
 pub mod CountLaws
 pub mod Computing

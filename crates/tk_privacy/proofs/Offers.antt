@@ -27,7 +27,6 @@ pub use Rattle.tk_privacy.proofs.Changes.{sent_len}
 pub use Rattle.tk_privacy.proofs.Masks.{cell_write-masked}
 pub use Rattle.tk_privacy.proofs.ReadCells.{AreShown, pieces-shown}
 pub use Rattle.tk_privacy.proofs.PrivacyLaws.{length-mirror, same-normal}
--- the tapes of a length, and what shows of as many of them
-pub use Rattle.tk_privacy.proofs.Counting.{IsUndoneBy, as-many}
+-- what is seen over as many tapes
 pub use Rattle.tk_privacy.proofs.CountLaws.{others-same, turned, at-tape, mirror-undone}
-pub use Rattle.tk_privacy.proofs.ByteCells.{AreBytes, bytes-normal_for, bytes-unnormal_for}
+pub use Rattle.tk_privacy.proofs.ByteCells.{bytes-normal_for, bytes-unnormal_for}

@@ -1,6 +1,5 @@
--- All tapes of a length, and what all servers but one see together.
-use Rattle.std.specs.Prelude.{◌≡◌, ℕ, zero, suc, ◌<◌, ◌==◌, not, Bool, List, [], ◌∷◌, length, map}
-use Rattle.std.specs.Prelude.{filter, flat_map, count_by, All}
+-- Counts over all tapes of a length, and what all servers but one see together.
+use Rattle.std.specs.Prelude.{ℕ, ◌==◌, not, Bool, List, map, filter}
 use Rattle.std.specs.List.{range_with_len}
 use Rattle.std.specs.Cmp.Lexicographic.{pointwise}
 use Rattle.std.specs.Str.{bytes_eq}
@@ -9,32 +8,12 @@ use Rattle.tk_schedule.specs.declared.history.History.{History}
 use Rattle.tk_script.specs.declared.script.Script.{Script}
 use Rattle.tk_words.specs.Words.{drawn}
 use Rattle.tk_report.specs.Exchange.{view}
+use Rattle.tk_counts.specs.Counts.{count_lists}
 use Rattle.tk_privacy.specs.Privacy.{cells_view}
 
--- ---- all tapes
-
--- each of these lists with each number below a bound in front of it
-abbrev pub with_fronts : ℕ → List (List ℕ) → List (List ℕ)
-with_fronts bound lists =
-    flat_map (λ front. map (λ rest. front ∷ rest) lists) (range_with_len 0 bound)
-
--- all lists of n numbers below a bound
-unfoldable pub all_lists : ℕ → ℕ → List (List ℕ)
-all_lists bound zero = [] ∷ []
-all_lists bound (suc n) = with_fronts bound (all_lists bound n)
-
--- all tapes of n bytes
-abbrev pub all_tapes : ℕ → List (List ℕ)
-all_tapes n = all_lists 256 n
-
--- a list of n numbers below a bound
-pub record IsListBelow (bound n : ℕ) (xs : List ℕ) : Type 0 where
-  pub counted : length xs ≡ n
-  pub below : All (λ x. x < bound) xs
-
--- over how many tapes of n bytes a test passes
+-- over how many tapes of n bytes a test passes, of which each is tried once
 abbrev pub count_tapes : ℕ → (List ℕ → Bool) → ℕ
-count_tapes n test = count_by test (all_tapes n)
+count_tapes n test = count_lists 256 n test
 
 -- ---- what is seen together
 

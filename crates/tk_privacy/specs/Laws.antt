@@ -1,6 +1,5 @@
 -- That no server but one can tell two scripts of one shape apart by what it sees under one history.
-use Rattle.std.specs.Prelude.{◌≡◌, ◌≢◌, ℕ, ◌≤◌, ◌^◌, Bool, List, length, count_by, All}
-use Rattle.std.specs.Str.{bytes_eq}
+use Rattle.std.specs.Prelude.{◌≡◌, ◌≢◌, ℕ, ◌≤◌, Bool, List, length}
 use Rattle.tk_shape.specs.Lengths.{tape_len}
 use Rattle.tk_schedule.specs.declared.history.History.{History}
 use Rattle.tk_schedule.specs.Schedule.{IsLegal}
@@ -8,8 +7,7 @@ use Rattle.tk_script.specs.declared.script.Script.{Script}
 use Rattle.tk_words.specs.Words.{drawn}
 use Rattle.tk_report.specs.Exchange.{view}
 use Rattle.tk_privacy.specs.Privacy.{normal, mirror, cells_view}
-use Rattle.tk_privacy.specs.Counts.{all_lists, IsListBelow, count_tapes, JointView, joint_view}
-use Rattle.tk_privacy.specs.Counts.{joint_cells, is_view}
+use Rattle.tk_privacy.specs.Counts.{count_tapes, JointView, joint_view, joint_cells, is_view}
 
 -- what the laws range over: two scripts of one shape, a history, a hidden server and a tape
 pub record AreMirrored (A B : Script) (H : History) (h : ℕ) (u : List ℕ) : Type 0 where
@@ -69,17 +67,3 @@ AsManyCells =
     (S : Script) (H : History) (h : ℕ) (test : JointView → Bool) → AreCompared S S H h →
     count_tapes (tape_len S.shape) (λ u. test (joint_view S H h u))
     ≡ count_tapes (tape_len S.shape) (λ v. test (joint_cells S.shape H h v))
-
--- each list of n numbers below a bound is once among all of them
-abbrev pub EachOnce : Type 0
-EachOnce =
-    (bound n : ℕ) (xs : List ℕ) → IsListBelow bound n xs →
-    count_by (λ ys. bytes_eq ys xs) (all_lists bound n) ≡ 1
-
--- and nothing else is
-abbrev pub NoneElse : Type 0
-NoneElse = (bound n : ℕ) → All (IsListBelow bound n) (all_lists bound n)
-
--- so there are as many as this: 256 ^ n tapes of n bytes
-abbrev pub AllCounted : Type 0
-AllCounted = (bound n : ℕ) → length (all_lists bound n) ≡ bound ^ n

@@ -6,6 +6,7 @@ use Rattle.tk_shape.specs.declared.shape.Shape.{Shape}
 use Rattle.tk_shape.specs.Lengths.{tape_len}
 use Rattle.tk_schedule.specs.declared.history.History.{History}
 use Rattle.tk_schedule.specs.Schedule.{serial_history}
+use Rattle.tk_counts.proofs.Offers.{shown-as_often}
 use Rattle.tk_privacy.specs.Privacy.{mirror}
 use Rattle.tk_privacy.specs.Counts.{count_tapes}
 use Rattle.tk_privacy.proofs.Offers as privacy
@@ -40,7 +41,7 @@ meetings-as-often A B h is books others keys other_keys events more tells other_
     let H : History = serial_history A.shape in
     let n : ℕ = tape_len A.shape in
     let lengths : n ≡ tape_len B.shape = ap tape_len is.one_shape in
-    privacy.as-many n (mirror A B H h) (mirror B A H h) (privacy.mirror-undone A B H h n is refl)
+    shown-as_often 256 n (mirror A B H h) (mirror B A H h) (privacy.mirror-undone A B H h n is refl)
     (privacy.mirror-undone B A H h n (privacy.turned A B H h is) lengths)
     (λ u. all_seen A.shape h (met A (books u) events))
     (λ v. all_seen B.shape h (met B (others v) other_events))

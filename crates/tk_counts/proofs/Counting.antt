@@ -1,4 +1,4 @@
--- Sums over lists in which each element stands once.
+-- Sums over lists in which each element stands once, and so over all lists of a length.
 use Rattle.std.proofs.Common.{◌≡◌, ℕ, zero, suc, ◌+◌, ◌*◌, ◌^◌, ◌<◌, ◌≤◌, Bool, true, false, cond}
 use Rattle.std.proofs.Common.{List, [], ◌∷◌, length, map, refl, ap, ap₂, sym, ◌∙◌, arith}
 use Rattle.std.proofs.Common.{subst, eqb-true}
@@ -14,8 +14,8 @@ use Rattle.std.proofs.lemmas.List.{length-map}
 use Rattle.std.proofs.lemmas.List.Concat.{length-flat_map}
 use Rattle.std.proofs.Math.Nat.{mul_comm, pow-zero, pow-suc}
 use Rattle.std.proofs.lemmas.Slice.Eq.{bytes_eq-Decides}
-use Rattle.tk_privacy.specs.Counts.{all_lists, IsListBelow, count_tapes, all_tapes}
-use Rattle.tk_privacy.specs.Laws.{EachOnce, NoneElse, AllCounted}
+use Rattle.tk_counts.specs.Counts.{all_lists, IsListBelow, count_lists, IsUndoneBy}
+use Rattle.tk_counts.specs.Laws.{EachOnce, NoneElse, AllCounted, AsMany}
 
 -- ---- sums
 
@@ -245,23 +245,23 @@ all_counted bound (suc n) =
     ∙ mul_comm bound (bound ^ n)
     ∙ sym (pow-suc bound n)
 
--- ---- the tapes of a length
+-- ---- changes of them
 
--- a function on them that another one undoes
-pub record IsUndoneBy (n : ℕ) (f g : List ℕ → List ℕ) : Type 0 where
-  pub tape : (u : List ℕ) → IsListBelow 256 n u → IsListBelow 256 n (f u)
-  pub back : (u : List ℕ) → IsListBelow 256 n u → g (f u) ≡ u
+pub as_many : AsMany
+as_many bound n f g there back test =
+    sum_by-one_to_one bytes_eq bytes_eq-Decides (IsListBelow bound n) (all_lists bound n)
+    (none_else bound n) (each_once bound n) f g there.stays back.stays there.back back.back
+    (λ xs. cond (test xs) 1 0)
 
--- where one thing shows of a tape what another shows of the changed tape, they show as often what
+-- where one thing shows of a list what another shows of the changed list, they show as often what
 -- passes a test
-pub as-many : {X : Type 0} (n : ℕ) (f g : List ℕ → List ℕ) → IsUndoneBy n f g → IsUndoneBy n g f →
-    (one other : List ℕ → X) →
-    ((u : List ℕ) → IsListBelow 256 n u → one u ≡ other (f u)) → (test : X → Bool) →
-    count_tapes n (λ u. test (one u)) ≡ count_tapes n (λ v. test (other v))
-as-many n f g there back one other shows test =
-    sum_by-same (IsListBelow 256 n) (λ u. cond (test (one u)) 1 0)
-    (λ u. cond (test (other (f u))) 1 0)
-    (λ u is. ap {B = ℕ} (λ x. cond (test x) 1 0) (shows u is)) (all_tapes n) (none_else 256 n)
-    ∙ sum_by-one_to_one bytes_eq bytes_eq-Decides (IsListBelow 256 n) (all_tapes n)
-    (none_else 256 n) (each_once 256 n) f g there.tape back.tape there.back back.back
-    (λ v. cond (test (other v)) 1 0)
+pub shown-as_often : {X : Type 0} (bound n : ℕ) (f g : List ℕ → List ℕ) → IsUndoneBy bound n f g →
+    IsUndoneBy bound n g f → (one other : List ℕ → X) →
+    ((xs : List ℕ) → IsListBelow bound n xs → one xs ≡ other (f xs)) → (test : X → Bool) →
+    count_lists bound n (λ xs. test (one xs)) ≡ count_lists bound n (λ xs. test (other xs))
+shown-as_often bound n f g there back one other shows test =
+    sum_by-same (IsListBelow bound n) (λ xs. cond (test (one xs)) 1 0)
+    (λ xs. cond (test (other (f xs))) 1 0)
+    (λ xs is. ap {B = ℕ} (λ x. cond (test x) 1 0) (shows xs is)) (all_lists bound n)
+    (none_else bound n)
+    ∙ as_many bound n f g there back (λ xs. test (other xs))

@@ -1,5 +1,5 @@
-use Rattle.tk_privacy.proofs.Counting.{each_once, none_else, all_counted}
-use Rattle.tk_privacy.proofs.laws.all_tapes.Goals as goal
+use Rattle.tk_counts.proofs.Counting.{each_once, none_else, all_counted}
+use Rattle.tk_counts.proofs.laws.all_lists.Goals as goal
 
 pub returns-clause-once : goal.returns-clause-once
 returns-clause-once c = each_once

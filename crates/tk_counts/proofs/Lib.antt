@@ -1,0 +1,4 @@
+pub mod Counting
+pub mod Bytes
+pub mod Offers
+pub mod examples
