@@ -7,6 +7,8 @@ pub mod PartLaws
 pub mod BundleLaws
 pub mod Asking
 pub mod Sights
+pub mod PadBytes
+pub mod CountLaws
 pub mod Joins
 pub mod GatheringLaws
 pub mod UnmaskLaws

@@ -7,6 +7,7 @@ pub mod Refusals
 pub mod Replies
 pub mod Sights
 pub mod Laws
+pub mod Counts
 pub mod Relayed
 pub mod Reads
 pub mod Replicas

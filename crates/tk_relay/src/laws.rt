@@ -1,4 +1,5 @@
 //! Why what the server in between sees of a read fits any two buckets, and why the client reads what it would have read.
+ghost use Rattle.tk_relay.specs.Counts.{AsManyPads, PadsAreCut, PadsAreSpelled};
 ghost use Rattle.tk_relay.specs.RelayedSights.{TapGainsSight, TapGainsTheSame};
 ghost use Rattle.tk_relay.specs.Laws.{SameSight, MovedBack, MovedStay, RepliesJoin, HonestRepliesJoin};
 
@@ -12,6 +13,17 @@ pub fn same_sight()
 pub fn moved_back()
     ensures back { MovedBack }
     ensures stay { MovedStay }
+{}
+
+/// Pads that are bytes are cut from one list of so many bytes, and each such list is cut into such pads.
+pub fn pads_are_bytes()
+    ensures cut { PadsAreCut }
+    ensures spelled { PadsAreSpelled }
+{}
+
+/// So the server in between sees the same things of reads of any two buckets over as many pads.
+pub fn as_many_pads()
+    ensures { AsManyPads }
 {}
 
 /// The replies made of the one reply join to the blocks that those of all servers join to.

@@ -4,8 +4,8 @@ use std::alloc::Global;
 use std::test::Fail;
 use tk_frames::{FrameError, Name};
 use tk_relay::{
-    Part, decode_masked_reply, decode_part, encode_masked_reply, encode_part, moved_back,
-    replies_join, same_sight, split, tap_gains_sight,
+    Part, as_many_pads, decode_masked_reply, decode_part, encode_masked_reply, encode_part,
+    moved_back, pads_are_bytes, replies_join, same_sight, split, tap_gains_sight,
 };
 use tk_shape::{Bytes, Shape};
 
@@ -188,6 +188,8 @@ fn parts_come_back_from_their_frames(rt: HostRuntime) -> Result<(), Fail> {
 fn laws_of_relayed_reads_can_be_called(_rt: HostRuntime) {
     same_sight();
     moved_back();
+    pads_are_bytes();
+    as_many_pads();
     replies_join();
     tap_gains_sight();
 }
