@@ -5,7 +5,7 @@ pub mod Attacks
 pub mod Sighted
 pub mod AttackLaws
 pub mod CountLaws
-pub mod AsWrong
+pub mod ActingLaws
 pub mod WalkLaws
 pub mod AskingLaws
 pub mod ReplyingLaws
