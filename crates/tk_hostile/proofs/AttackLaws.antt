@@ -8,15 +8,17 @@ use Rattle.tk_shape.specs.Lengths.{turn_count, tape_len}
 use Rattle.tk_script.specs.declared.script.Script.{Script}
 use Rattle.tk_script.specs.Sent.{sent_as, writer_of}
 use Rattle.tk_words.specs.Words.{BookWords, drawn, words_of}
-use Rattle.tk_words.specs.Words.{fresh_seeds, fresh_vectors, keyed_cell, cell_pair, cell_hits, cell_pad}
-use Rattle.tk_words.specs.Words.{cell_tag, pair_of, hits_of, pad_of, tag_of}
+use Rattle.tk_words.specs.Words.{keyed_cell, cell_pair, cell_hits, cell_pad, cell_tag}
+use Rattle.tk_words.specs.Words.{pair_of, hits_of, pad_of, tag_of}
 use Rattle.tk_client.specs.Asked.{frame_for}
 use Rattle.tk_privacy.specs.Privacy.{Pairs, normal_for, regained, unnormal_for, hidden_keyed_cell}
 use Rattle.tk_privacy.proofs.Offers as privacy
 use Rattle.tk_hostile.specs.Attack.{Adversary, KeyWords, Keys, Seen, keys_of, attacked, under_attack}
-use Rattle.tk_hostile.specs.Attack.{frames_from, frames_regained, attack_regained, attack_normal, attack_unnormal}
-use Rattle.tk_hostile.specs.Attack.{attack_mirror, seen_by}
+use Rattle.tk_hostile.specs.Wrong.{read_regained}
+use Rattle.tk_hostile.specs.Attack.{attack_regained, attack_normal, attack_unnormal, attack_mirror}
+use Rattle.tk_hostile.specs.Attack.{seen_by}
 use Rattle.tk_hostile.specs.Laws.{AreAttacked, SameSeen, OneToOneAttacked, ChosenAlike}
+use Rattle.tk_hostile.proofs.Regained.{read-back, read-again}
 use Rattle.tk_hostile.proofs.Attacks.{cond-same, pairs-same}
 use Rattle.tk_hostile.proofs.Sighted.{shown, seen-is}
 
@@ -33,21 +35,18 @@ module _ (S : Script) (h : ℕ) (low : 1 ≤ h) (adversary : Adversary) (n : ℕ
     frames-back : (g c e j : ℕ) → g < turn_count S.shape → c < S.shape.clients →
         frame_for S.shape (drawn u) g c e
         ((under_attack S (drawn u) h adversary n).pairs g c) j
-        ≡ frames_regained S.shape h r g c e
+        ≡ read_regained S.shape h r g c e
         ((under_attack S (drawn u) h adversary n).pairs g c) j
-    unfolding pairs r fresh_seeds fresh_vectors
-    frames-back g c e j turn client =
-        let pair = (under_attack S (drawn u) h adversary n).pairs g c in
-        ap (λ (cell : List ℕ). frames_from S.shape cell g c e pair j)
-        (sym (privacy.reads-regained S h low pairs u whole g c turn client))
+    unfolding pairs r
+    frames-back = read-back S h low (under_attack S (drawn u) h adversary n).pairs u whole
 
     pairs-back : (attack_regained S h adversary n r).pairs ≡ pairs
     unfolding pairs r
     pairs-back =
-        ap (λ (w : BookWords). (attacked S w h adversary (frames_regained S.shape h r) n).pairs)
+        ap (λ (w : BookWords). (attacked S w h adversary (read_regained S.shape h r) n).pairs)
         (privacy.words-regained S h low pairs u whole)
         ∙ sym (pairs-same S (words_of S.shape (drawn u)) h adversary (frame_for S.shape (drawn u))
-        (frames_regained S.shape h r) n frames-back)
+        (read_regained S.shape h r) n frames-back)
 
     pub unnormal-normal : attack_unnormal S h adversary n (attack_normal S h adversary n u) ≡ u
     unfolding attack_unnormal attack_normal pairs r
@@ -65,15 +64,13 @@ module _ (S : Script) (h : ℕ) (low : 1 ≤ h) (adversary : Adversary) (n : ℕ
     undone = unnormal_for S h found z
 
     frames-again : (g c e j : ℕ) → g < turn_count S.shape → c < S.shape.clients →
-        frames_regained S.shape h (regained S z) g c e
+        read_regained S.shape h (regained S z) g c e
         ((attack_regained S h adversary n (regained S z)).pairs g c) j
         ≡ frame_for S.shape (drawn undone) g c e
         ((attack_regained S h adversary n (regained S z)).pairs g c) j
-    unfolding found undone fresh_seeds fresh_vectors
-    frames-again g c e j turn client =
-        let pair = (attack_regained S h adversary n (regained S z)).pairs g c in
-        ap (λ (cell : List ℕ). frames_from S.shape cell g c e pair j)
-        (sym (privacy.reads-undone S h low found z whole g c turn client))
+    unfolding found undone
+    frames-again =
+        read-again S h low (attack_regained S h adversary n (regained S z)).pairs z whole
 
     pairs-again : (under_attack S (drawn undone) h adversary n).pairs ≡ found
     unfolding found undone
@@ -81,7 +78,7 @@ module _ (S : Script) (h : ℕ) (low : 1 ≤ h) (adversary : Adversary) (n : ℕ
         ap (λ (w : BookWords). (attacked S w h adversary (frame_for S.shape (drawn undone)) n).pairs)
         (privacy.words-undone S h low found z whole)
         ∙ sym (pairs-same S (words_of S.shape (drawn (regained S z))) h adversary
-        (frames_regained S.shape h (regained S z)) (frame_for S.shape (drawn undone)) n
+        (read_regained S.shape h (regained S z)) (frame_for S.shape (drawn undone)) n
         frames-again)
 
     pub normal-unnormal : attack_normal S h adversary n (attack_unnormal S h adversary n z) ≡ z

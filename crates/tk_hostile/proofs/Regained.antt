@@ -17,15 +17,15 @@ use Rattle.tk_frames.specs.Order.{Record}
 use Rattle.tk_table.specs.Table.{layout, blocks_of}
 use Rattle.tk_client.specs.Reader.{Reader, at_epoch, after_read}
 use Rattle.tk_client.specs.Replies.{answer_in}
-use Rattle.tk_client.specs.Asked.{pair_for, frame_with}
+use Rattle.tk_client.specs.Asked.{pair_for, frame_for, frame_with}
 use Rattle.tk_schedule.specs.Schedule.{epoch_at}
 use Rattle.tk_report.specs.Report.{target_for, read_over}
 use Rattle.tk_privacy.specs.Privacy.{Pairs, normal_for, regained, unnormal_for, shown_read_cell}
 use Rattle.tk_privacy.proofs.Offers as privacy
 use Rattle.tk_hostile.specs.Choice.{Choice, own_sums, sums_by, reply_by, replies_by}
 use Rattle.tk_hostile.specs.Wrong.{Asking, reader_next, reader_asking, pair_asking, asks, wrong_pair}
-use Rattle.tk_hostile.specs.Wrong.{wrong_normal, read_from, asks_regained, pair_regained}
-use Rattle.tk_hostile.specs.Wrong.{wrong_unnormal}
+use Rattle.tk_hostile.specs.Wrong.{wrong_normal, read_from, read_regained, asks_regained}
+use Rattle.tk_hostile.specs.Wrong.{pair_regained, wrong_unnormal}
 
 -- ---- frames that are replied to alike
 
@@ -113,11 +113,28 @@ module _ (S : Script) (w : BookWords) (H : History) (h : ℕ) (F : Choice) (ask 
     pairs-same g alike =
         ap (λ (reader : Reader). pair_for w g c (target_for S w H g c reader)) (readers-same g alike)
 
--- a read over a tape is one of its read cell
-asked-cell : (shape : Shape) (H : History) (h : ℕ) (u : List ℕ) (g c : ℕ) (pair : ℕ × ℕ) →
-    asks shape (drawn u) H h g c pair ≡ read_from shape H (read_cell shape u g c) pair g c h
-unfolding fresh_seeds fresh_vectors
-asked-cell shape H h u g c pair = refl
+-- ---- one read frame
+
+module _ (S : Script) (h : ℕ) (low : 1 ≤ h) (pairs : Pairs) where
+  -- over a tape, and over what is regained once it is changed
+  pub read-back : (u : List ℕ) → length u ≡ tape_len S.shape → (g c e j : ℕ) →
+      g < turn_count S.shape → c < S.shape.clients →
+      frame_for S.shape (drawn u) g c e (pairs g c) j
+      ≡ read_regained S.shape h (regained S (normal_for S h pairs u)) g c e (pairs g c) j
+  unfolding fresh_seeds fresh_vectors
+  read-back u whole g c e j turn client =
+      ap (λ (cell : List ℕ). read_from S.shape cell g c e (pairs g c) j)
+      (sym (privacy.reads-regained S h low pairs u whole g c turn client))
+
+  -- over what is regained, and over the tape whose change is undone
+  pub read-again : (z : List ℕ) → length z ≡ tape_len S.shape → (g c e j : ℕ) →
+      g < turn_count S.shape → c < S.shape.clients →
+      read_regained S.shape h (regained S z) g c e (pairs g c) j
+      ≡ frame_for S.shape (drawn (unnormal_for S h pairs z)) g c e (pairs g c) j
+  unfolding fresh_seeds fresh_vectors
+  read-again z whole g c e j turn client =
+      ap (λ (cell : List ℕ). read_from S.shape cell g c e (pairs g c) j)
+      (sym (privacy.reads-undone S h low pairs z whole g c turn client))
 
 -- ---- over what is regained from a changed tape
 
@@ -134,9 +151,7 @@ module _ (S : Script) (H : History) (h : ℕ) (low : 1 ≤ h) (F : Choice) (u : 
       ≡ asks_regained S.shape H h r g c (wrong_pair S (drawn u) H h F g c)
   unfolding pairs r
   asked-back g c turn client =
-      asked-cell S.shape H h u g c (wrong_pair S (drawn u) H h F g c)
-      ∙ ap (λ (cell : List ℕ). read_from S.shape H cell (wrong_pair S (drawn u) H h F g c) g c h)
-      (sym (privacy.reads-regained S h low pairs u whole g c turn client))
+      read-back S h low (wrong_pair S (drawn u) H h F) u whole g c (epoch_at H g c) h turn client
 
   pairs-back : (g c : ℕ) → g < turn_count S.shape → c < S.shape.clients →
       pair_regained S H h F r g c ≡ wrong_pair S (drawn u) H h F g c
@@ -170,10 +185,8 @@ module _ (S : Script) (H : History) (h : ℕ) (low : 1 ≤ h) (F : Choice) (z : 
       ≡ asks S.shape (drawn undone) H h g c (pair_regained S H h F (regained S z) g c)
   unfolding found undone
   asked-again g c turn client =
-      ap (λ (cell : List ℕ). read_from S.shape H cell (pair_regained S H h F (regained S z) g c) g c
-      h)
-      (sym (privacy.reads-undone S h low found z whole g c turn client))
-      ∙ sym (asked-cell S.shape H h undone g c (pair_regained S H h F (regained S z) g c))
+      read-again S h low (pair_regained S H h F (regained S z)) z whole g c (epoch_at H g c) h turn
+      client
 
   pairs-again : (g c : ℕ) → g < turn_count S.shape → c < S.shape.clients →
       wrong_pair S (drawn undone) H h F g c ≡ pair_regained S H h F (regained S z) g c

@@ -1,9 +1,8 @@
 -- What is seen under attack is made of the cells of the changed tape, and names no script.
-use Rattle.std.proofs.Common.{◌≡◌, ◌≢◌, refl, ap, ap₂, sym, ◌∙◌, arith}
-use Rattle.std.proofs.Common.{ℕ, zero, suc, ◌+◌, ◌<◌, ◌≤◌, ◌==◌, Bool, true, false, cond, List, []}
-use Rattle.std.proofs.Common.{◌∷◌, ◌++◌, length, flat_map}
-use Rattle.std.specs.List.{range_with_len}
-use Rattle.std.proofs.lemmas.Bool.{eqb-true, eqb-false}
+use Rattle.std.proofs.Common.{◌≡◌, refl, ap, sym, ◌∙◌, arith}
+use Rattle.std.proofs.Common.{ℕ, zero, suc, ◌+◌, ◌≤◌, ◌==◌, Bool, true, false, cond, List, []}
+use Rattle.std.proofs.Common.{length, map}
+use Rattle.std.proofs.lemmas.Bool.{eqb-true}
 use Rattle.tk_shape.specs.declared.shape.Shape.{Shape}
 use Rattle.tk_shape.specs.Lengths.{tape_len}
 use Rattle.tk_script.specs.declared.script.Script.{Script}
@@ -14,10 +13,11 @@ use Rattle.tk_client.specs.Writes.{dummy}
 use Rattle.tk_client.specs.Asked.{frame_for}
 use Rattle.tk_report.specs.Entries.{write_at}
 use Rattle.tk_privacy.specs.Privacy.{Pairs, normal_for, shown_read}
-use Rattle.tk_privacy.proofs.Offers.{write-seen, read-seen}
+use Rattle.tk_privacy.specs.Counts.{all_but}
+use Rattle.tk_privacy.proofs.Offers.{write-seen, read-seen, others-same}
 use Rattle.tk_hostile.specs.Attack.{Adversary, Acting, Attacked, Keys, Move, Writes, Reads, Seen}
 use Rattle.tk_hostile.specs.Attack.{Wrote, Asked, keys_of, seen_more, unattacked, ask_of, after_ask}
-use Rattle.tk_hostile.specs.Attack.{after_write, but_for, is_due, moved, attacked, under_attack}
+use Rattle.tk_hostile.specs.Attack.{after_write, is_due, moved, attacked, under_attack}
 use Rattle.tk_hostile.specs.Attack.{seen_by, attack_normal}
 use Rattle.tk_hostile.proofs.Attacks.{cond-same, IsDue, due-from, asks, pair-kept}
 
@@ -60,7 +60,7 @@ then_asked shape h adversary v c x =
     record {
       written = x.written;
       asked = one_more c x.asked;
-      seen = seen_more x.seen (Asked (but_for shape h frame));
+      seen = seen_more x.seen (Asked (map frame (all_but shape h)));
     }
 
 unfoldable pub shown_moved : Shape → ℕ → Adversary → List ℕ → Trace → Move → Trace
@@ -75,28 +75,6 @@ shown shape h adversary keys v zero =
 shown shape h adversary keys v (suc k) =
     let x = shown shape h adversary keys v k in
     shown_moved shape h adversary v x (adversary.next x.seen)
-
--- ---- frames for all servers but one
-
-flat-same : {X : Type 0} (f g : ℕ → List X) (a n : ℕ) →
-    ((j : ℕ) → a ≤ j → j < a + n → f j ≡ g j) →
-    flat_map f (range_with_len a n) ≡ flat_map g (range_with_len a n)
-flat-same f g a zero same = refl
-flat-same {X} f g a (suc n) same =
-    ap₂ (λ (x y : List X). x ++ y) (same a (omega arith) (omega arith))
-    (flat-same f g (a + 1) n (λ j low high. same j (omega (arith, low)) (omega (arith, high))))
-
-but-same : (shape : Shape) (h : ℕ) (f g : ℕ → ReadFrame) →
-    ((j : ℕ) → 1 ≤ j → j ≤ shape.servers → j ≢ h → f j ≡ g j) →
-    but_for shape h f ≡ but_for shape h g
-but-same shape h f g same =
-    flat-same (λ j. cond (j == h) [] (f j ∷ [])) (λ j. cond (j == h) [] (g j ∷ [])) 1 shape.servers
-    (λ j low high.
-    elim (j == h) as (λ t. j == h ≡ t → cond t [] (f j ∷ []) ≡ cond t [] (g j ∷ [])) [
-      | true ↦ λ e. refl
-      | false ↦ λ e.
-          ap (λ (r : ReadFrame). r ∷ []) (same j low (omega (arith, high)) (eqb-false j h e))
-    ] refl)
 
 -- ---- a move
 
@@ -165,9 +143,9 @@ module _ (S : Script) (h : ℕ) (adversary : Adversary) (n : ℕ) (u : List ℕ)
           target = ask.target;
           hidden = frame ask.pair h;
         } in
-        let reads : but_for S.shape h (frame ask.pair)
-        ≡ but_for S.shape h (shown_frame S.shape h v g c ask.epoch) =
-        but-same S.shape h (frame ask.pair) (shown_frame S.shape h v g c ask.epoch)
+        let reads : map (frame ask.pair) (all_but S.shape h)
+        ≡ map (shown_frame S.shape h v g c ask.epoch) (all_but S.shape h) =
+        others-same (frame ask.pair) (shown_frame S.shape h v g c ask.epoch) S.shape h
         (λ j j_low j_high differ.
         ap (λ (pair : ℕ × ℕ). frame pair j) (sym kept)
         ∙ read-seen S h pairs u whole [] j low high j_low j_high differ g c ask.epoch due.turn

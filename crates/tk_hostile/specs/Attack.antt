@@ -2,26 +2,26 @@
 -- these servers and the network in its hands: it sees all that they see, and does from that what it
 -- likes.
 use Rattle.std.specs.Prelude.{ℕ, zero, suc, ◌+◌, ◌==◌, nat_lt, ◌&&◌, Bool, true, cond, List, [], ◌∷◌}
-use Rattle.std.specs.Prelude.{◌++◌, map, flat_map, Option, Some, None}
+use Rattle.std.specs.Prelude.{◌++◌, map, Option, Some, None}
 use Rattle.std.specs.List.{range_with_len}
 use Rattle.tk_shape.specs.declared.shape.Shape.{Shape}
-use Rattle.tk_shape.specs.Lengths.{turn_count, vector_len}
+use Rattle.tk_shape.specs.Lengths.{turn_count}
 use Rattle.tk_script.specs.declared.script.Script.{Script}
-use Rattle.tk_bits.specs.Shares.{shares}
-use Rattle.tk_words.specs.Words.{WordBook, BookWords, drawn, words_of, read_cell, for_each}
-use Rattle.tk_words.specs.Words.{cell_pieces, piece_seed, piece_vector}
+use Rattle.tk_words.specs.Words.{WordBook, BookWords, drawn, words_of}
 use Rattle.tk_frames.specs.declared.write_frame.WriteFrame.{WriteFrame}
 use Rattle.tk_frames.specs.declared.read_frame.ReadFrame.{ReadFrame}
 use Rattle.tk_client.specs.Reader.{Reader, new_reader, at_epoch, target, after_read}
 use Rattle.tk_client.specs.declared.target.Target.{Target}
-use Rattle.tk_client.specs.Asked.{pair_for, frame_for, frame_with}
+use Rattle.tk_client.specs.Asked.{pair_for, frame_for}
 use Rattle.tk_client.specs.Replies.{answer_in}
 use Rattle.tk_report.specs.Entries.{write_at}
 use Rattle.tk_report.specs.Report.{follows_of}
-use Rattle.tk_privacy.specs.Privacy.{Pairs, shown_read_cell, normal_for, regained, unnormal_for}
+use Rattle.tk_privacy.specs.Privacy.{Pairs, normal_for, regained, unnormal_for}
+use Rattle.tk_privacy.specs.Counts.{all_but}
 use Rattle.tk_privacy.specs.Hiding.{blank_read}
 use Rattle.tk_hostile.specs.declared.sums.Sums.{Sums}
 use Rattle.tk_hostile.specs.Choice.{reply_with}
+use Rattle.tk_hostile.specs.Wrong.{read_regained}
 
 -- ---- what is seen
 
@@ -153,11 +153,6 @@ ask_of S w adversary c run =
     let t = target S.shape (λ log s. adversary.shows run.seen (w.hits log s)) reader in
     record { epoch = e; reader = reader; target = t; pair = pair_for w was.asked c t }
 
--- the frames for all servers but h
-abbrev pub but_for : Shape → ℕ → (ℕ → ReadFrame) → List ReadFrame
-but_for shape h frame =
-    flat_map (λ j. cond (j == h) [] (frame j ∷ [])) (range_with_len 1 shape.servers)
-
 -- the run once client c has asked this of each server, by this frame
 unfoldable pub after_ask : Shape → ℕ → ℕ → Ask → (ℕ → ReadFrame) → Attacked → Attacked
 after_ask shape h c ask frame run =
@@ -173,7 +168,7 @@ after_ask shape h c ask frame run =
       clients = λ d. cond (d == c) is (run.clients d);
       pairs = λ f d. cond (f == g && d == c) ask.pair (run.pairs f d);
       hidden = run.hidden ++ frame h ∷ [];
-      seen = seen_more run.seen (Asked (but_for shape h frame));
+      seen = seen_more run.seen (Asked (map frame (all_but shape h)));
     }
 
 -- ---- a run
@@ -220,25 +215,10 @@ unfoldable pub attack_normal : Script → ℕ → Adversary → ℕ → List ℕ
 attack_normal S h adversary k u =
     normal_for S h (under_attack S (drawn u) h adversary k).pairs u
 
--- the read frame of words in a read cell
-abbrev pub frames_from : Shape → List ℕ → Frames
-frames_from shape cell g c e pair j =
-    let size = vector_len shape in
-    let seeds = for_each (piece_seed shape) (cell_pieces shape cell) in
-    let vectors = for_each (piece_vector shape) (cell_pieces shape cell) in
-    frame_with shape true g c e (shares size pair.0 seeds.first vectors.first)
-    (shares size pair.1 seeds.second vectors.second)
-    j
-
--- the read frames over a tape whose writes are regained: vector h is too, once the buckets are known
-abbrev pub frames_regained : Shape → ℕ → List ℕ → Frames
-frames_regained shape h r g c e pair j =
-    frames_from shape (shown_read_cell shape h pair (read_cell shape r g c)) g c e pair j
-
--- the run over such a tape
+-- the run over a tape whose writes are regained
 abbrev pub attack_regained : Script → ℕ → Adversary → ℕ → List ℕ → Attacked
 attack_regained S h adversary k r =
-    attacked S (words_of S.shape (drawn r)) h adversary (frames_regained S.shape h r) k
+    attacked S (words_of S.shape (drawn r)) h adversary (read_regained S.shape h r) k
 
 -- the tape that shows this to all servers but h: the writes are undone first
 unfoldable pub attack_unnormal : Script → ℕ → Adversary → ℕ → List ℕ → List ℕ

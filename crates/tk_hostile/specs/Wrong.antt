@@ -91,20 +91,26 @@ pub record AreClientsAtEnd (S : Script) (b : WordBook) (H : History) (h : ℕ) (
 unfoldable pub wrong_normal : Script → History → ℕ → Choice → List ℕ → List ℕ
 wrong_normal S H h F u = normal_for S h (wrong_pair S (drawn u) H h F) u
 
--- the read frame for server j of a client's read of two buckets whose words are this read cell
-abbrev pub read_from : Shape → History → List ℕ → ℕ × ℕ → ℕ → ℕ → ℕ → ReadFrame
-read_from shape H cell pair g c j =
+-- the read frame for server j of a client's read of two buckets over epoch e, whose words are this
+-- read cell
+abbrev pub read_from : Shape → List ℕ → ℕ → ℕ → ℕ → ℕ × ℕ → ℕ → ReadFrame
+read_from shape cell g c e pair j =
     let size = vector_len shape in
     let seeds = for_each (piece_seed shape) (cell_pieces shape cell) in
     let vectors = for_each (piece_vector shape) (cell_pieces shape cell) in
-    frame_with shape true g c (epoch_at H g c) (shares size pair.0 seeds.first vectors.first)
+    frame_with shape true g c e (shares size pair.0 seeds.first vectors.first)
     (shares size pair.1 seeds.second vectors.second)
     j
 
--- server h is asked with the vectors that are regained once the two buckets are known
+-- the same over a tape whose writes are regained: server h's vectors are too, once the two buckets
+-- are known
+abbrev pub read_regained : Shape → ℕ → List ℕ → ℕ → ℕ → ℕ → ℕ × ℕ → ℕ → ReadFrame
+read_regained shape h r g c e pair j =
+    read_from shape (shown_read_cell shape h pair (read_cell shape r g c)) g c e pair j
+
+-- server h is asked so
 abbrev pub asks_regained : Shape → History → ℕ → List ℕ → Asking
-asks_regained shape H h r g c pair =
-    read_from shape H (shown_read_cell shape h pair (read_cell shape r g c)) pair g c h
+asks_regained shape H h r g c pair = read_regained shape h r g c (epoch_at H g c) pair h
 
 -- the two buckets of each read, found read by read over a tape whose writes are regained
 abbrev pub pair_regained : Script → History → ℕ → Choice → List ℕ → Pairs
