@@ -1,6 +1,5 @@
 -- All servers but one see the same of two groups apart over as many tapes.
-use Rattle.std.proofs.Common.{◌≡◌, ℕ, zero, suc, ◌+◌, ◌<◌, List, ◌∷◌, length, map}
-use Rattle.std.proofs.Common.{refl, ap, ap₂, ◌∙◌, arith}
+use Rattle.std.proofs.Common.{◌≡◌, ℕ, List, length, map, refl, ap, ◌∙◌, arith}
 use Rattle.std.specs.List.{range_with_len}
 use Rattle.tk_shape.specs.declared.shape.Shape.{Shape}
 use Rattle.tk_shape.specs.Lengths.{tape_len}
@@ -15,14 +14,8 @@ use Rattle.tk_meeting.specs.Events.{met}
 use Rattle.tk_meeting.specs.Hidden.{LooksAlike}
 use Rattle.tk_meeting.specs.Counted.{link_seen, all_seen}
 use Rattle.tk_meeting.specs.Counted.{MeetingsAsOften}
+use Rattle.tk_meeting.proofs.hidden.SameStreams.{map-agree}
 use Rattle.tk_meeting.proofs.courses.Together.{meetings-look-alike}
-
-range-same : {X : Type 0} (f g : ℕ → X) (a n : ℕ) → ((c : ℕ) → c < a + n → f c ≡ g c) →
-    map f (range_with_len a n) ≡ map g (range_with_len a n)
-range-same f g a zero same = refl
-range-same f g a (suc n) same =
-    ap₂ (λ x xs. x ∷ xs) (same a (omega arith))
-    (range-same f g (a + 1) n (λ c low. same c (omega (arith, low))))
 
 -- where two groups look alike, the same is seen of them
 same-seen : (shape : Shape) (h : ℕ) (m n : Meeting) → LooksAlike shape h m n →
@@ -30,7 +23,7 @@ same-seen : (shape : Shape) (h : ℕ) (m n : Meeting) → LooksAlike shape h m n
 same-seen shape h m n alike =
     privacy.others-same (λ j. map (link_seen m j) (range_with_len 0 shape.clients))
     (λ j. map (link_seen n j) (range_with_len 0 shape.clients)) shape h
-    (λ j low high differ. range-same (link_seen m j) (link_seen n j) 0 shape.clients
+    (λ j low high differ. map-agree (link_seen m j) (link_seen n j) 0 shape.clients
     (λ c less.
     let seen = alike.seen j c low high differ (omega (arith, less)) in
     λ i. record { came = seen.came i; coming = seen.coming i; going = seen.going i }))

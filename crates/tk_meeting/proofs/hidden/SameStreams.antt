@@ -32,7 +32,7 @@ pub record AskAlike (A B : Script) (b d : WordBook) (j : ℕ) : Type 0 where
       read_from A b c j g ≡ read_from B d c j g
 
 -- the same of each number of a range
-map-agree : {X : Type 0} (f h : ℕ → X) (a n : ℕ) → ((k : ℕ) → k < a + n → f k ≡ h k) →
+pub map-agree : {X : Type 0} (f h : ℕ → X) (a n : ℕ) → ((k : ℕ) → k < a + n → f k ≡ h k) →
     map f (range_with_len a n) ≡ map h (range_with_len a n)
 map-agree f h a zero same = refl
 map-agree {X} f h a (suc n) same =
