@@ -27,6 +27,3 @@ pub use source::Source;
 pub use standard::{StdSink, StdSource};
 pub use taps::{NoTaps, Taps};
 pub use writing::put_all;
-
-#[cfg(test)]
-mod tests;

@@ -1,8 +1,9 @@
-use crate::{
+//! A source, a sink, taps and a gate, in memory and over the standard streams.
+use std::test::Fail;
+use tk_io::{
     Gate, MemSink, MemSource, MemTaps, NoTaps, OpenGate, ReadError, Sink, Source, StdSink,
     StdSource, Taps, put_all, read_all,
 };
-use std::test::Fail;
 
 #[test]
 fn reads_all_in_pieces(rt: HostRuntime) -> Result<(), Fail> {
