@@ -3,8 +3,6 @@
 
 mod all;
 mod joined;
-#[cfg(test)]
-mod tests;
 
 pub use all::answer_all;
 pub use tk_shape::Memory;

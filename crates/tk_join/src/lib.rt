@@ -3,7 +3,5 @@
 
 mod both;
 mod lent;
-#[cfg(test)]
-mod tests;
 
 pub use lent::join_mut;

@@ -10,5 +10,4 @@ pub mod Dividing
 pub mod Changing
 pub mod Spanning
 pub mod Lending
-pub mod TestBlocks
 pub mod Ranges

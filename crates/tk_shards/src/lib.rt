@@ -13,8 +13,6 @@ mod shard;
 mod shard_set;
 mod span;
 mod sums;
-#[cfg(test)]
-mod tests;
 
 pub use division::{Division, DivisionError};
 pub use in_ranges::answer_in_ranges;

@@ -1,7 +1,7 @@
 use Rattle.std.proofs.Common.{◌≡◌, ◌++◌, length, take, drop, sym, ◌∙◌, arith, rules}
 use Rattle.std.proofs.lemmas.List.{length-take-le, length-append, length-drop, drop_at}
-use Rattle.tk_shards.proofs.TestBlocks.{first-changed}
-use Rattle.tk_shards.proofs.tests.with_first.Goals as goal
+use Rattle.tk_worker_tests.proofs.BlockRuns.{first-changed}
+use Rattle.tk_worker_tests.proofs.blocks.with_first.Goals as goal
 
 pub slice_bounds-fill-end : goal.slice_bounds-fill-end
 slice_bounds-fill-end c =

@@ -1,10 +1,10 @@
 //! Closures that write what they captured, two at a time.
 ghost use Rattle.std.specs.Thread.{IsSync};
 
-use crate::join_mut;
 use std::sync::Wait;
 use std::test::Fail;
 use std::thread::Threads;
+use tk_join::join_mut;
 
 #[test]
 fn each_writes_and_answers(rt: HostRuntime) -> Result<(), Fail> {

@@ -1,48 +1,13 @@
 //! Sums over eight blocks, by different numbers of workers.
 ghost use Rattle.std.specs.Prelude.{◌≡◌, ◌<◌, length, IfOk};
 ghost use Rattle.std.specs.List.{All};
-ghost use Rattle.tk_kernel.specs.Pieces.{all_pieces};
 
-use crate::answer_all;
+use crate::blocks::{Eight, ascending};
 use std::alloc::Global;
-use std::process::Abort;
 use std::test::Fail;
-use std::thread::Threads;
-use tk_answer::{Blocks, answer};
+use tk_answer::answer;
+use tk_batch::answer_all;
 use tk_shape::{Bytes, Memory};
-
-/// Eight blocks of 41 bytes, all together.
-#[derive(Drop)]
-struct Eight {
-    bytes: [u8; 328],
-}
-
-impl Blocks for Eight {
-    ghost blocks = { λ e. all_pieces 41 e.bytes };
-
-    ghost width = { λ _. 41 };
-
-    fn count(&self) -> u32 {
-        8
-    }
-
-    fn width(&self) -> u32 {
-        41
-    }
-
-    fn run(&self, i: u32) -> &[u8] {
-        &self.bytes[i as usize * 41..328]
-    }
-}
-
-/// Block i has all bytes i + 1.
-fn ascending() -> Eight {
-    let mut bytes = [0; 328];
-    for (i, byte) in bytes.iter_mut().enumerate() {
-        *byte = (i / 41) as u8 + 1;
-    }
-    Eight { bytes }
-}
 
 /// As many vectors, of one byte each: the first ones of a list that begins anew.
 fn vectors(alloc: Global, list: &[u8], count: usize) -> Result<Vec<Bytes>, Memory>

@@ -1,6 +1,6 @@
 -- Each half is shorter than the whole.
 use Rattle.std.proofs.Common.{length}
-use Rattle.tk_join.proofs.tests.+fn-raise_all-join_mut+arg2+fn-raise_all-join_mut+arg3+raise_all.Given as goal
+use Rattle.tk_worker_tests.proofs.join_tests.+fn-raise_all-join_mut+arg2+fn-raise_all-join_mut+arg3+raise_all.Given as goal
 
 abbrev pub decreases-join_mut+arg2 : goal.decreases-join_mut+arg2
 decreases-join_mut+arg2 g l = length l.front.now

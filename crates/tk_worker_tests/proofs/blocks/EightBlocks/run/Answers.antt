@@ -1,8 +1,8 @@
 use Rattle.std.proofs.Common.{◌≡◌, ◌/◌, length, ◌∙◌, arith, rules}
 use Rattle.tk_kernel.specs.Pieces.{all_pieces}
 use Rattle.tk_kernel.proofs.Offers.{length-pieces}
-use Rattle.tk_shards.proofs.TestBlocks.{run-from}
-use Rattle.tk_shards.proofs.tests.EightBlocks.run.Goals as goal
+use Rattle.tk_worker_tests.proofs.BlockRuns.{run-from}
+use Rattle.tk_worker_tests.proofs.blocks.EightBlocks.run.Goals as goal
 
 pub returns : goal.returns
 returns c =
