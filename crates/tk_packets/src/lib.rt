@@ -12,8 +12,6 @@ mod packet_error;
 mod put;
 mod put_error;
 mod refused_frame;
-#[cfg(test)]
-mod tests;
 
 pub use epoch_frame::{EpochFrame, decode_epoch, encode_epoch};
 pub use laws::marks_are_read_again;

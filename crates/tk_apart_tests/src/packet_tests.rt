@@ -1,10 +1,11 @@
-use crate::{
-    EpochFrame, Packet, PacketError, PutError, decode_epoch, decode_refused, encode_epoch,
-    encode_refused, marks_of, next_packet, put_packets,
-};
+//! Packets over a source and a sink, and the frames that only a group apart has.
 use std::test::Fail;
 use tk_bloom::Window;
 use tk_io::{MemSink, MemSource};
+use tk_packets::{
+    EpochFrame, Packet, PacketError, PutError, decode_epoch, decode_refused, encode_epoch,
+    encode_refused, marks_of, next_packet, put_packets,
+};
 use tk_shape::{Bytes, Shape};
 
 #[test]
