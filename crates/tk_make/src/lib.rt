@@ -18,6 +18,3 @@ pub use generating::generate;
 pub use laws::tallies;
 pub use tallying::tally;
 pub use tk_shape::Memory;
-
-#[cfg(test)]
-mod tests;

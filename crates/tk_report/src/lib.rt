@@ -56,12 +56,3 @@ pub use sendings::Sendings;
 pub use sent::Sent;
 pub use taking::Takes;
 pub use tk_shape::Memory;
-
-#[cfg(test)]
-mod displaced_tests;
-#[cfg(test)]
-mod report_tests;
-#[cfg(test)]
-mod sent_tests;
-#[cfg(test)]
-mod tests;

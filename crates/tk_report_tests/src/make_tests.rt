@@ -1,5 +1,5 @@
-use crate::generate;
 use std::test::Fail;
+use tk_make::generate;
 use tk_script::{Form, parse, print};
 
 /// The front of what is made from 1, up to its first handle.

@@ -1,6 +1,6 @@
-use crate::all_sent;
+use crate::inputs::read;
 use std::test::Fail;
-use tk_script::{Form, parse};
+use tk_report::all_sent;
 
 /// Three texts of a client that may write in two turns: the first is said for the first turn, the
 /// second for the same, so that it waits, and the third comes too late.
@@ -20,8 +20,8 @@ end
 #[test]
 fn texts_are_sent_in_free_turns(rt: HostRuntime) -> Result<(), Fail> {
     let alloc = rt.alloc();
-    let input = parse(alloc, THREE_TEXTS, Form::Run).ok().ok_or("a script")?;
-    let sent = all_sent(alloc, &input.first)?;
+    let (script, _tape) = read(alloc, THREE_TEXTS)?;
+    let sent = all_sent(alloc, &script)?;
     assert_eq!(rt; sent.len(), 2);
     assert!(rt; sent[0].as_slice().len() == 2 && sent[1].as_slice().is_empty());
     for (turn, text) in [(0, b"hi".as_slice()), (1, b"ho".as_slice())] {

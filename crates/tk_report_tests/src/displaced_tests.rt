@@ -1,10 +1,9 @@
-use crate::{displaced, parse_history};
+use crate::inputs::read;
 use std::alloc::Global;
 use std::test::Fail;
-use tk_schedule::HistoryError;
-use tk_script::{Form, parse};
+use tk_report::{displaced, parse_history};
 use tk_shape::Memory;
-use tk_words::{DrawnDraws, Tape};
+use tk_words::DrawnDraws;
 
 /// What a script of two clients has after the size of its table, over two phases of one tick: one
 /// text.
@@ -84,24 +83,22 @@ fn input_of(alloc: Global, size: &str, tape: &str) -> Result<Vec<u8>, Memory> {
     Ok(text)
 }
 
+/// How many writes of an input are displaced, where its history is the one that a text shows.
+fn count(alloc: Global, input: &[u8], shown: &[u8]) -> Result<u32, Fail> {
+    let (script, tape) = read(alloc, input)?;
+    let history = parse_history(alloc, &script.shape, shown)
+        .ok()
+        .ok_or("a history")?;
+    let draws = DrawnDraws::new(&script.shape, tape);
+    Ok(displaced(alloc, &script, &draws, &history)?)
+}
+
 #[test]
 fn displaced_writes_are_counted(rt: HostRuntime) -> Result<(), Fail> {
     let alloc = rt.alloc();
-    for (size, tape, told, count) in COUNTED {
-        let text = input_of(alloc, size, tape)?;
-        let input = parse(alloc, text.as_slice(), Form::Run)
-            .ok()
-            .ok_or("a script")?;
-        let shape = input.first.shape;
-        let bytes = input.tape.ok_or("a tape")?.bytes.into_vec();
-        let tape = Tape::from_bytes(&shape, bytes).ok().ok_or("its length")?;
-        let draws = DrawnDraws::new(&shape, tape);
-        match parse_history(alloc, &shape, told) {
-            Ok(history) => {
-                assert_eq!(rt; displaced(alloc, &input.first, &draws, &history)?, count);
-            }
-            Err(error) => assert_eq!(rt; error, HistoryError::Line(0)),
-        }
+    for (size, tape, shown, wanted) in COUNTED {
+        let input = input_of(alloc, size, tape)?;
+        assert_eq!(rt; count(alloc, input.as_slice(), shown)?, wanted);
     }
     Ok(())
 }
