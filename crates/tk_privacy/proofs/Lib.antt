@@ -16,5 +16,4 @@ pub mod StepsLaws
 pub mod AskingLaws
 pub mod ReadsLaws
 pub mod EnteringLaws
-pub mod OtherFormat
 pub mod examples

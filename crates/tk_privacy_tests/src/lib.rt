@@ -1,0 +1,10 @@
+//! Tests of what servers see and of its mirror, by the public calls of `tk_privacy`. They stand here, since a crate with
+//! tests of its own is proved once more with them.
+#![tactic(auto)]
+
+#[cfg(test)]
+mod inputs;
+#[cfg(test)]
+mod mirror_tests;
+#[cfg(test)]
+mod view_tests;
