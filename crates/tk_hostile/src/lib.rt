@@ -22,6 +22,3 @@ pub use mirroring::wrong_mirror;
 pub use replies::Replies;
 pub use tk_shape::Memory;
 pub use viewing::wrong_view;
-
-#[cfg(test)]
-mod tests;
