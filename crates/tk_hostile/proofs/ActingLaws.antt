@@ -69,15 +69,15 @@ acts_as_client S b h adversary c run client replies marks is told =
       hidden = frame h;
     } in
     let this : (c == c) ≡ true = eq-eqb c c refl in
-    let heard = hears S b h adversary c run client replies marks is told in
-    let aimed = aims S b h adversary c run client replies marks is told in
+    let hear = hears S b h adversary c run client replies marks is told in
+    let aim = aims S b h adversary c run client replies marks is told in
     record {
-      frames = ap (λ (t : Option Target). asked S.shape b was.asked c ask.epoch t) aimed;
+      frames = ap (λ (t : Option Target). asked S.shape b was.asked c ask.epoch t) aim;
       next = record {
         shape = is.shape;
         number = is.number;
-        reader = ap (at_epoch ask.epoch) heard
+        reader = ap (at_epoch ask.epoch) hear
             ∙ sym (ap (λ (t : Bool). (cond t next was).reader) this);
-        target = aimed ∙ sym (ap (λ (t : Bool). (cond t next was).target) this);
+        target = aim ∙ sym (ap (λ (t : Bool). (cond t next was).target) this);
       };
     }

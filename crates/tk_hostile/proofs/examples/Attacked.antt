@@ -4,8 +4,8 @@
 -- log on which both groups say the same.
 use Rattle.std.specs.Prelude.{◌≡◌, ℕ, ◌==◌, ◌&&◌, Bool, true, false, cond, List, [], ◌∷◌, ◌++◌, length}
 use Rattle.std.specs.Prelude.{replicate, codes, slice_index, slice_index_or, Option, Some, None, option_map}
-use Rattle.std.proofs.Common.{refl, lit≤, zero, suc}
-use Rattle.std.proofs.lemmas.Bool.{false≢true}
+use Rattle.std.proofs.Common.{refl, sym, subst, lit≤}
+use Rattle.std.proofs.lemmas.Bool.{eqb-true}
 use Rattle.tk_shape.specs.declared.shape.Shape.{Shape}
 use Rattle.tk_shape.specs.Limits.{numbers_in}
 use Rattle.tk_shape.proofs.Offers.{shape_of}
@@ -13,6 +13,7 @@ use Rattle.tk_script.specs.declared.script.Script.{Script}
 use Rattle.tk_script.specs.declared.role.Role.{Role}
 use Rattle.tk_script.specs.declared.say.Say.{Say}
 use Rattle.tk_script.specs.SoundScript.{IsScript}
+use Rattle.tk_script.specs.Sent.{sent_as}
 use Rattle.tk_words.specs.Words.{drawn}
 use Rattle.tk_frames.specs.declared.read_frame.ReadFrame.{ReadFrame}
 use Rattle.tk_client.specs.declared.got.Got.{Got}
@@ -123,29 +124,33 @@ sights S u = (seen_by S (drawn u) 1 adversary 4).sights
 abbrev pub gave : Script → List ℕ → List Got
 gave S u = got_in ((under_attack S (drawn u) 1 adversary 4).clients 1).reader.follows 0
 
-abbrev pub other_tape : List ℕ
-other_tape = attack_mirror talking silent 1 adversary 4 tape
+abbrev pub mirrored : List ℕ
+mirrored = attack_mirror talking silent 1 adversary 4 tape
 
 -- it lies to the group that talks, and over the same tape not to the silent one
 pub lied : lies_to (sights talking tape) ≡ true
 unfolding computing
 lied = refl
 
-pub text_unread : gave talking tape ≡ Text (codes "hi") ∷ []
+pub lie_taken : gave talking tape ≡ Text (codes "hi") ∷ []
 unfolding computing
-text_unread = refl
+lie_taken = refl
 
 pub not_lied : lies_to (sights silent tape) ≡ false
 unfolding computing
 not_lied = refl
 
--- over the mirrored tape it sees of the silent one what it saw of the other, and lies to it too
-pub same_sights : sights silent (attack_mirror talking silent 1 adversary 4 tape) ≡ sights talking tape
+-- over the mirrored tape it sees of the silent one what it saw of the other, so that it lies to it too;
+-- there the lie doesn't open
+pub same_sights : sights silent mirrored ≡ sights talking tape
 unfolding computing
 same_sights = refl
 
-pub back : attack_mirror silent talking 1 adversary 4
-    (attack_mirror talking silent 1 adversary 4 tape) ≡ tape
+pub lie_not_taken : gave silent mirrored ≡ []
+unfolding computing
+lie_not_taken = refl
+
+pub back : attack_mirror silent talking 1 adversary 4 mirrored ≡ tape
 unfolding computing
 back = refl
 
@@ -176,13 +181,13 @@ pub hidden_talking : hidden_first talking tape ≡ 5 ∷ []
 unfolding computing
 hidden_talking = refl
 
-pub hidden_silent : hidden_first silent (attack_mirror talking silent 1 adversary 4 tape) ≡ 5 ∷ []
+pub hidden_silent : hidden_first silent mirrored ≡ 33 ∷ []
 unfolding computing
 hidden_silent = refl
 
 -- ---- keys
 
--- the key of log 1 tells the pair of its number 0, and no key is told of log 0
+-- the key of log 1 tells the two buckets of its number 0; of log 0 no key is told
 abbrev pub pair_told : Option KeyWords → Option (ℕ × ℕ)
 pair_told key = option_map (λ k. k.pair) key
 
@@ -194,7 +199,12 @@ pub key_not_held : pair_told ((seen_by talking (drawn tape) 1 adversary 4).keys 
 unfolding computing
 key_not_held = refl
 
--- the premises of the laws are met
+-- ---- the premises of the laws are met
+
+pub sent_alike : (s : ℕ) → sent_as talking 1 s ≡ sent_as silent 1 s
+unfolding computing
+sent_alike s = refl
+
 pub premises : AreTargets talking silent 1 adversary
 unfolding computing
 premises =
@@ -203,11 +213,6 @@ premises =
       hidden_low = lit≤ tt;
       hidden_high = lit≤ tt;
       one_writer = λ log held low. refl;
-      sent_alike = alike;
+      sent_alike = λ log s held low number.
+          subst (λ l. sent_as talking l s ≡ sent_as silent l s) (sym (eqb-true log 1 held)) (sent_alike s);
     }
-  where
-    alike : (log s : ℕ) → log == 1 ≡ true → log < 2 → s < 2 →
-        Rattle.tk_script.specs.Sent.sent_as talking log s ≡ Rattle.tk_script.specs.Sent.sent_as silent log s
-    alike zero s held low number = absurd (false≢true held)
-    alike (suc zero) s held low number = refl
-    alike (suc (suc log)) s held low number = absurd (false≢true held)
