@@ -11,7 +11,8 @@ use Rattle.tk_client.specs.Reader.{Reader, at_epoch, target, after_read}
 use Rattle.tk_client.specs.declared.target.Target.{Target}
 use Rattle.tk_client.specs.Asked.{asked, frame_for}
 use Rattle.tk_client.specs.Replies.{frames_in, answer_in}
-use Rattle.tk_client.specs.Client.{ClientState, OpenRead, reader_after, after_replies, target_over}
+use Rattle.tk_client.specs.declared.open_read.OpenRead.{OpenRead}
+use Rattle.tk_client.specs.Client.{ClientState, reader_after, after_replies, target_over}
 use Rattle.tk_hostile.specs.Attack.{Adversary, Acting, Attacked, Ask, heard, unattacked, ask_of, after_ask}
 use Rattle.tk_hostile.specs.Acting.{reader_open, target_open, IsActing, AreTold, NewIsActing, ActsAsClient}
 
@@ -43,7 +44,7 @@ module _ (S : Script) (b : WordBook) (h : ℕ) (adversary : Adversary) (c : ℕ)
       let was = run.clients c in
       reader-heard client.shape (words_of S.shape b) replies client.reader client.read
       ∙ (λ i. after (is.shape i) (frames_in (is.shape i) replies) (is.reader i) (is.target i))
-      ∙ ap (λ (frames : List ReplyFrame). after S.shape frames was.reader was.target) told.replies
+      ∙ ap (λ (frames : List ReplyFrame). after S.shape frames was.reader was.target) told.chosen
 
   aims : target_over (words_of S.shape b) marks (adversary.epoch run.seen)
       (after_replies (words_of S.shape b) replies client)

@@ -8,7 +8,8 @@ use Rattle.tk_client.specs.Reader.{Reader, at_epoch}
 use Rattle.tk_client.specs.declared.target.Target.{Target}
 use Rattle.tk_client.specs.Asked.{asked, frame_for}
 use Rattle.tk_client.specs.Replies.{frames_in}
-use Rattle.tk_client.specs.Client.{ClientState, OpenRead, new_client, target_over, opened, after_replies}
+use Rattle.tk_client.specs.declared.open_read.OpenRead.{OpenRead}
+use Rattle.tk_client.specs.Client.{ClientState, new_client, target_over, opened, after_replies}
 use Rattle.tk_report.specs.Report.{follows_of}
 use Rattle.tk_hostile.specs.Choice.{reply_with}
 use Rattle.tk_hostile.specs.Attack.{Adversary, Acting, Attacked, unattacked, ask_of, after_ask}
@@ -40,7 +41,7 @@ NewIsActing =
 -- chooses
 pub record AreTold (S : Script) (adversary : Adversary) (c : ℕ) (run : Attacked)
     (replies : List (List ℕ)) (marks : List Bool) : Type 0 where
-  pub replies : let r = (run.clients c).hidden in
+  pub chosen : let r = (run.clients c).hidden in
       frames_in S.shape replies
       ≡ map (λ j. reply_with r (adversary.sums run.seen run.hidden r j))
       (range_with_len 1 S.shape.servers)
