@@ -76,7 +76,7 @@ fn a_tick_sends_a_write_and_a_read(rt: HostRuntime) -> Result<(), Fail> {
     for _packet in 0..4 {
         packets.push(next_packet(alloc, &mut source, 100)?.ok_or("packet")?)?;
     }
-    assert_eq!(rt; source.left().len(), 0);
+    assert!(rt; source.left().len() == 0);
     let kinds = [(1, 1), (2, 1), (1, 2), (2, 2)];
     for (packet, (peer, kind)) in packets.iter().zip(&kinds) {
         assert!(rt;

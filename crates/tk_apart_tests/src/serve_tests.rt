@@ -57,19 +57,19 @@ fn epochs_and_replies_come_in_order(rt: HostRuntime) -> Result<(), Fail> {
     }
     let (end, sink) = served(alloc, input, Vec::new(alloc));
     assert!(rt; end.is_ok());
-    assert_eq!(rt;
-        heads(alloc, sink.bytes())?.as_slice(),
-        [
-            (1, 3),
-            (2, 3),
-            (1, 11),
-            (1, 3),
-            (2, 11),
-            (2, 3),
-            (1, 11),
-            (2, 11)
-        ]
-        .as_slice()
+    assert!(rt;
+        heads(alloc, sink.bytes())?.as_slice()
+            == [
+                (1, 3),
+                (2, 3),
+                (1, 11),
+                (1, 3),
+                (2, 11),
+                (2, 3),
+                (1, 11),
+                (2, 11)
+            ]
+            .as_slice()
     );
     Ok(())
 }
@@ -91,7 +91,7 @@ fn frames_that_are_not_due_are_refused(rt: HostRuntime) -> Result<(), Fail> {
     for packet in sink.bytes().chunks(11) {
         causes.push(packet.get(10).copied().unwrap_or(0))?;
     }
-    assert_eq!(rt; causes.as_slice(), [1, 2, 4, 5, 9, 6].as_slice());
+    assert!(rt; causes.as_slice() == [1, 2, 4, 5, 9, 6].as_slice());
     Ok(())
 }
 
@@ -103,26 +103,26 @@ fn each_fault_ends_the_run(rt: HostRuntime) -> Result<(), Fail> {
     let mut input = Vec::new(alloc);
     push_packet(&mut input, 1, b"no setup")?;
     let (end, _) = served(alloc, input, Vec::new(alloc));
-    assert_eq!(rt; end.err(), Some(Fault::Setup));
+    assert!(rt; end.err() == Some(Fault::Setup));
     let mut input = Vec::new(alloc);
     push_setup(&mut input, alloc)?;
     let whole = input.as_slice().to_vec(alloc)?;
     let (end, _) = served(alloc, input, vec![in alloc; 3]?);
-    assert_eq!(rt; end.err(), Some(Fault::Read));
+    assert!(rt; end.err() == Some(Fault::Read));
     let mut input = whole.as_slice().to_vec(alloc)?;
     push_packet(&mut input, 3, b"")?;
     let (end, _) = served(alloc, input, Vec::new(alloc));
-    assert_eq!(rt; end.err(), Some(Fault::Peer));
+    assert!(rt; end.err() == Some(Fault::Peer));
     let mut input = whole.as_slice().to_vec(alloc)?;
     push_packet(&mut input, 1, vec![in alloc; 0; 47]?.as_slice())?;
     let (end, _) = served(alloc, input, Vec::new(alloc));
-    assert_eq!(rt; end.err(), Some(Fault::Long));
+    assert!(rt; end.err() == Some(Fault::Long));
     let mut input = whole;
     input.push(0)?;
     let (end, _) = served(alloc, input, Vec::new(alloc));
-    assert_eq!(rt; end.err(), Some(Fault::Cut));
-    assert_eq!(rt; Fault::Cut.code(), 20);
-    assert_eq!(rt; Fault::Cut.line(), b"serve: cut\n".as_slice());
+    assert!(rt; end.err() == Some(Fault::Cut));
+    assert!(rt; Fault::Cut.code() == 20);
+    assert!(rt; Fault::Cut.line() == b"serve: cut\n".as_slice());
     Ok(())
 }
 
@@ -134,10 +134,7 @@ fn a_sink_that_fails_ends_the_run(rt: HostRuntime) -> Result<(), Fail> {
     push_packet(&mut input, 1, b"")?;
     let mut source = MemSource::new(input, 64, Vec::new(alloc));
     let mut sink = MemSink::new(alloc, 9, vec![in alloc; 2]?);
-    assert_eq!(rt;
-        serve(alloc, &mut source, &mut sink).err(),
-        Some(Fault::Write)
-    );
-    assert_eq!(rt; sink.bytes().len(), 9);
+    assert!(rt; serve(alloc, &mut source, &mut sink).err() == Some(Fault::Write));
+    assert!(rt; sink.bytes().len() == 9);
     Ok(())
 }

@@ -98,7 +98,7 @@ fn displaced_writes_are_counted(rt: HostRuntime) -> Result<(), Fail> {
     let alloc = rt.alloc();
     for (size, tape, shown, wanted) in COUNTED {
         let input = input_of(alloc, size, tape)?;
-        assert_eq!(rt; count(alloc, input.as_slice(), shown)?, wanted);
+        assert!(rt; count(alloc, input.as_slice(), shown)? == wanted);
     }
     Ok(())
 }

@@ -22,12 +22,12 @@ fn texts_are_sent_in_free_turns(rt: HostRuntime) -> Result<(), Fail> {
     let alloc = rt.alloc();
     let (script, _tape) = read(alloc, THREE_TEXTS)?;
     let sent = all_sent(alloc, &script)?;
-    assert_eq!(rt; sent.len(), 2);
+    assert!(rt; sent.len() == 2);
     assert!(rt; sent[0].as_slice().len() == 2 && sent[1].as_slice().is_empty());
     for (turn, text) in [(0, b"hi".as_slice()), (1, b"ho".as_slice())] {
         let found = sent[0].in_turn(turn).ok_or("a text")?;
         assert!(rt; found.turn == turn && found.log == 0 && found.number == turn);
-        assert_eq!(rt; found.text.as_slice(), text);
+        assert!(rt; found.text.as_slice() == text);
         assert!(rt; sent[1].in_turn(turn).is_none());
     }
     Ok(())

@@ -20,7 +20,7 @@ fn each_writes_and_answers(rt: HostRuntime) -> Result<(), Fail> {
             2u8
         },
     );
-    assert_eq!(rt; (a, b, one, two), (1, 2, 7, 9));
+    assert!(rt; (a, b, one, two) == (1, 2, 7, 9));
     Ok(())
 }
 
@@ -48,7 +48,7 @@ fn raise_all<R: Threads + Wait + Sync>(rt: &R, all: &mut [u8]) -> usize {
 #[test]
 fn as_many_as_a_turn_has(rt: HostRuntime) -> Result<(), Fail> {
     let mut all = [3; 65];
-    assert_eq!(rt; raise_all(&rt, &mut all), 65);
-    assert_eq!(rt; all, [4; 65]);
+    assert!(rt; raise_all(&rt, &mut all) == 65);
+    assert!(rt; all == [4; 65]);
     Ok(())
 }
