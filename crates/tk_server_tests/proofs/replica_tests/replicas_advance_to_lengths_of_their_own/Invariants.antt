@@ -1,4 +1,0 @@
-use Rattle.tk_server_tests.proofs.replica_tests.replicas_advance_to_lengths_of_their_own.Given as goal
-
-abbrev pub ghosts-three_lengths : goal.ghosts-three_lengths
-ghosts-three_lengths g a = record { table = a.blank.table; shape = a.blank.shape }
