@@ -16,16 +16,36 @@ const SEALED: [u8; 24] = [
     0x2f, 0x0c, 0x56, 0x9d, 0xc4, 0x85, 0xaa, 0x49,
 ];
 
+// Texts, and the first byte that may not be sent. The second has an accent and a face.
+const TEXTS: [(&[u8], Option<usize>); 7] = [
+    (b"", None),
+    (b"h\xc3\xa9 \xf0\x9f\x98\x80~", None),
+    (b"a\tb", Some(1)),
+    (b"ab\x7f", Some(2)),
+    (b"\xff", Some(0)),
+    (b"ab\xc3\xa9\xc3", Some(4)),
+    (b"\xc3\n", Some(0)),
+];
+
 #[test]
 fn texts_that_may_be_sent(rt: HostRuntime) {
-    assert_eq!(rt; allowed(b""), None);
-    assert_eq!(rt; allowed("h\u{e9} \u{1f600}~".as_bytes()), None);
-    assert_eq!(rt; allowed(b"a\tb"), Some(1));
-    assert_eq!(rt; allowed(b"ab\x7f"), Some(2));
-    assert_eq!(rt; allowed(b"\xff"), Some(0));
-    assert_eq!(rt; allowed(b"ab\xc3\xa9\xc3"), Some(4));
-    assert_eq!(rt; allowed(b"\xc3\n"), Some(0));
+    for (text, at) in &TEXTS {
+        assert!(rt; allowed(text) == *at);
+    }
 }
+
+// Bytes, and how long the text is of which they are the plain form, if they are one. The first are
+// that of `hi`.
+const FORMS: [(&[u8], Option<usize>); 8] = [
+    (&[0, 2, 0x68, 0x69, 0, 0, 0, 0], Some(2)),
+    (&[0, 0, 0, 0, 0, 0, 0, 0], Some(0)),
+    (&[0, 6, 0x68, 0x69, 0x68, 0x69, 0x68, 0x69], Some(6)),
+    (&[0, 2, 0x68, 0x69, 0, 0, 0, 1], None),
+    (&[0, 3, 0x68, 0x69, 0, 0, 0, 0], None),
+    (&[0, 7, 0x68, 0x69, 0x68, 0x69, 0x68, 0x69], None),
+    (&[1, 2, 0x68, 0x69, 0, 0, 0, 0], None),
+    (&[0], None),
+];
 
 #[test]
 fn plain_form_of_a_text(rt: HostRuntime) {
@@ -33,19 +53,10 @@ fn plain_form_of_a_text(rt: HostRuntime) {
     assert!(rt; allowed(text).is_none());
     let mut form = [9; 8];
     plain(text, &mut form);
-    assert_eq!(rt; form.as_slice(), [0, 2, 0x68, 0x69, 0, 0, 0, 0].as_slice());
-    for (bytes, want) in [
-        (form, Some(2)),
-        ([0, 0, 0, 0, 0, 0, 0, 0], Some(0)),
-        ([0, 6, 0x68, 0x69, 0x68, 0x69, 0x68, 0x69], Some(6)),
-        ([0, 2, 0x68, 0x69, 0, 0, 0, 1], None),
-        ([0, 3, 0x68, 0x69, 0, 0, 0, 0], None),
-        ([0, 7, 0x68, 0x69, 0x68, 0x69, 0x68, 0x69], None),
-        ([1, 2, 0x68, 0x69, 0, 0, 0, 0], None),
-    ] {
-        assert_eq!(rt; plain_text(&bytes), want);
+    assert!(rt; form.as_slice() == [0, 2, 0x68, 0x69, 0, 0, 0, 0].as_slice());
+    for (bytes, want) in &FORMS {
+        assert!(rt; plain_text(bytes) == *want);
     }
-    assert_eq!(rt; plain_text(&[0]), None);
 }
 
 #[test]
@@ -55,16 +66,13 @@ fn text_behind_a_pad(rt: HostRuntime) {
     assert!(rt; allowed(text).is_none());
     let mut masked = [0; 8];
     mask(&pad, text, &mut masked);
-    assert_eq!(rt;
-        masked.as_slice(),
-        [0xff, 0x0d, 0x68, 0x68, 0, 0, 0, 0xf0].as_slice()
-    );
+    assert!(rt; masked.as_slice() == [0xff, 0x0d, 0x68, 0x68, 0, 0, 0, 0xf0].as_slice());
     let mut out = [9; 6];
-    assert_eq!(rt; unmask(&pad, &masked, &mut out), Some(2));
-    assert_eq!(rt; out.as_slice(), [0x68, 0x69, 0, 0, 0, 0].as_slice());
-    assert_eq!(rt; unmask(&pad, &pad, &mut out), Some(0));
-    assert_eq!(rt; unmask(&masked, &[0; 8], &mut out), None);
-    assert_eq!(rt; out.as_slice(), [0; 6].as_slice());
+    assert!(rt; unmask(&pad, &masked, &mut out) == Some(2));
+    assert!(rt; out.as_slice() == [0x68, 0x69, 0, 0, 0, 0].as_slice());
+    assert!(rt; unmask(&pad, &pad, &mut out) == Some(0));
+    assert!(rt; unmask(&masked, &[0; 8], &mut out).is_none());
+    assert!(rt; out.as_slice() == [0; 6].as_slice());
 }
 
 // SHA-256 of `abc` (FIPS 180-4), and the first two test cases of RFC 4231.
@@ -101,23 +109,30 @@ fn digests(rt: HostRuntime) {
     }
 }
 
+// Whether that block with a bit of byte `i` changed doesn't open, and leaves zeros.
+fn stays_shut(i: usize) -> bool {
+    let mut changed = SEALED;
+    if i >= changed.len() {
+        return false;
+    }
+    changed[i] ^= 0x10;
+    let mut out = [9; 6];
+    open(&ZERO_HANDLE, 0, &changed, &mut out).is_none() && out == [0; 6]
+}
+
 #[test]
 fn sealed_and_opened(rt: HostRuntime) -> Result<(), Fail> {
     let text = b"hi";
     assert!(rt; allowed(text).is_none());
     let mut block = [0; 24];
     seal(&ZERO_HANDLE, 0, text, &mut block);
-    assert_eq!(rt; block.as_slice(), SEALED.as_slice());
+    assert!(rt; block.as_slice() == SEALED.as_slice());
     let mut out = [9; 6];
-    assert_eq!(rt; open(&ZERO_HANDLE, 0, &block, &mut out), Some(2));
-    assert_eq!(rt; out.as_slice(), [0x68, 0x69, 0, 0, 0, 0].as_slice());
-    for i in 0..block.len() {
-        let mut changed = SEALED;
-        changed[i] ^= 0x10;
-        out = [9; 6];
-        assert_eq!(rt; open(&ZERO_HANDLE, 0, &changed, &mut out), None, "at {i}");
-        assert_eq!(rt; out.as_slice(), [0; 6].as_slice(), "at {i}");
+    assert!(rt; open(&ZERO_HANDLE, 0, &block, &mut out) == Some(2));
+    assert!(rt; out.as_slice() == [0x68, 0x69, 0, 0, 0, 0].as_slice());
+    for i in 0..24 {
+        assert!(rt; stays_shut(i), "at {i}");
     }
-    assert_eq!(rt; open(&ZERO_HANDLE, 1, &block, &mut out), None);
+    assert!(rt; open(&ZERO_HANDLE, 1, &block, &mut out).is_none());
     Ok(())
 }
