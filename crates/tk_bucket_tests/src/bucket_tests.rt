@@ -56,13 +56,12 @@ fn slots_written_moved_and_cleared(rt: HostRuntime) -> Result<(), Fail> {
     buckets.move_slot(Step2 { bucket: 1, slot: 0 }, Step2 { bucket: 0, slot: 1 });
     assert!(rt; buckets.is_empty(1, 0));
     let slot = buckets.slot(0, 1);
-    assert_eq!(rt; slot.position, 0x0102030405060708);
-    assert_eq!(rt; slot.first, 0x090a0b0c);
-    assert_eq!(rt; slot.second, 0x0d0e0f10);
-    assert_eq!(rt; slot.block, BLOCK.as_slice());
+    let numbers = (slot.position, slot.first, slot.second);
+    assert!(rt; numbers == (0x0102030405060708, 0x090a0b0c, 0x0d0e0f10));
+    assert!(rt; slot.block == BLOCK.as_slice());
     buckets.clear_slot(0, 1);
     assert!(rt; buckets.is_empty(0, 1));
-    assert_eq!(rt; buckets.slot(0, 1).block, [0; 24].as_slice());
+    assert!(rt; buckets.slot(0, 1).block == [0; 24].as_slice());
     Ok(())
 }
 
@@ -78,13 +77,13 @@ fn snapshot_stays(rt: HostRuntime) -> Result<(), Fail> {
     let mut want = [0; 160];
     want[40..56].copy_from_slice(&[1, 2, 3, 4, 5, 6, 7, 8, 9, 10, 11, 12, 13, 14, 15, 16]);
     want[56..80].copy_from_slice(&BLOCK);
-    assert_eq!(rt; bytes_from(&early, 0).ok_or("bucket 0")?, want.as_slice());
+    assert!(rt; bytes_from(&early, 0).ok_or("bucket 0")? == want.as_slice());
     let mut want = [0; 80];
     want[7] = 1;
     want[11] = 1;
     want[16..40].copy_from_slice(&BLOCK);
-    assert_eq!(rt; bytes_from(&late, 1).ok_or("bucket 1")?, want.as_slice());
-    assert_eq!(rt; bytes_from(&late, 0).ok_or("bucket 0")?.len(), 160);
+    assert!(rt; bytes_from(&late, 1).ok_or("bucket 1")? == want.as_slice());
+    assert!(rt; bytes_from(&late, 0).ok_or("bucket 0")?.len() == 160);
     Ok(())
 }
 
@@ -93,12 +92,12 @@ fn buckets_of_eight_slots(rt: HostRuntime) -> Result<(), Fail> {
     let mut buckets = wide(rt.alloc(), 64, 8, 24).ok().ok_or("memory")?;
     buckets.write_slot(63, 7, u64::MAX, (u32::MAX, 0), &BLOCK);
     let packed = buckets.snapshot(rt.alloc()).ok().ok_or("memory")?;
-    assert_eq!(rt; packed.count(), 64);
-    assert_eq!(rt; packed.width(), 320);
+    assert!(rt; packed.count() == 64);
+    assert!(rt; packed.width() == 320);
     let last = bytes_from(&packed, 63).ok_or("bucket 63")?;
-    assert_eq!(rt; last.len(), 320);
-    assert_eq!(rt; last.get(280..288), Some([0xff; 8].as_slice()));
-    assert_eq!(rt; last.last(), Some(&0x77));
+    assert!(rt; last.len() == 320);
+    assert!(rt; last.get(280..288) == Some([0xff; 8].as_slice()));
+    assert!(rt; last.last() == Some(&0x77));
     Ok(())
 }
 
@@ -140,23 +139,23 @@ fn starts_with(packed: &Packed, i: u32, len: usize, position: u8) -> bool {
 #[test]
 fn pages_shared_and_changed(rt: HostRuntime) -> Result<(), Fail> {
     let mut buckets = wide(rt.alloc(), 256, 4, 24).ok().ok_or("memory")?;
-    assert_eq!(rt; counts(&buckets), [16, 0, 0]);
+    assert!(rt; counts(&buckets) == [16, 0, 0]);
     let early = taken(rt.alloc(), &mut buckets).ok().ok_or("memory")?;
-    assert_eq!(rt; counts(&buckets), [16, 16, 16]);
+    assert!(rt; counts(&buckets) == [16, 16, 16]);
     write(&mut buckets, 0, 7);
-    assert_eq!(rt; counts(&buckets), [16, 15, 15]);
+    assert!(rt; counts(&buckets) == [16, 15, 15]);
     write(&mut buckets, 1, 8);
-    assert_eq!(rt; counts(&buckets), [16, 15, 15]);
+    assert!(rt; counts(&buckets) == [16, 15, 15]);
     write(&mut buckets, 16, 9);
-    assert_eq!(rt; counts(&buckets), [16, 14, 14]);
+    assert!(rt; counts(&buckets) == [16, 14, 14]);
     let late = taken(rt.alloc(), &mut buckets).ok().ok_or("memory")?;
-    assert_eq!(rt; counts(&buckets), [16, 16, 16]);
+    assert!(rt; counts(&buckets) == [16, 16, 16]);
     // both snapshots keep their blocks
     write(&mut buckets, 0, 10);
     for (i, position) in [(0, 7), (1, 8), (16, 9), (255, 0)] {
         let len = 160 * (16 - i as usize % 16);
-        assert!(rt; starts_with(&early, i, len, 0), "bucket {i}");
-        assert!(rt; starts_with(&late, i, len, position), "bucket {i}");
+        let kept = starts_with(&early, i, len, 0) && starts_with(&late, i, len, position);
+        assert!(rt; kept, "bucket {i}");
     }
     changes_lower_both();
     Ok(())
@@ -166,16 +165,16 @@ fn pages_shared_and_changed(rt: HostRuntime) -> Result<(), Fail> {
 fn restored_pages_are_owned_and_none_is_spare(rt: HostRuntime) -> Result<(), Fail> {
     let bytes = one_record(rt.alloc(), 40960).ok().ok_or("memory")?;
     let mut buckets = wide_of(rt.alloc(), bytes.as_slice()).ok().ok_or("memory")?;
-    assert_eq!(rt; counts(&buckets), [16, 0, 0]);
+    assert!(rt; counts(&buckets) == [16, 0, 0]);
     let slot = buckets.slot(17, 0);
-    assert_eq!(rt; (slot.position, slot.first, slot.second), (9, 17, 3));
-    assert_eq!(rt; slot.block, BLOCK.as_slice());
+    assert!(rt; (slot.position, slot.first, slot.second) == (9, 17, 3));
+    assert!(rt; slot.block == BLOCK.as_slice());
     write(&mut buckets, 17, 10);
-    assert_eq!(rt; counts(&buckets), [16, 0, 0]);
+    assert!(rt; counts(&buckets) == [16, 0, 0]);
     let early = taken(rt.alloc(), &mut buckets).ok().ok_or("memory")?;
-    assert_eq!(rt; counts(&buckets), [16, 16, 16]);
+    assert!(rt; counts(&buckets) == [16, 16, 16]);
     write(&mut buckets, 18, 11);
-    assert_eq!(rt; counts(&buckets), [16, 15, 15]);
+    assert!(rt; counts(&buckets) == [16, 15, 15]);
     assert!(rt; starts_with(&early, 17, 2400, 10));
     assert!(rt; starts_with(&early, 18, 2240, 0));
     Ok(())

@@ -76,9 +76,9 @@ fn steps_of_a_chain(rt: HostRuntime) -> Result<(), Fail> {
         Step { bucket: 1, slot: 0 },
         Step { bucket: 0, slot: 0 },
     ];
-    assert_eq!(rt; steps.as_slice(), want.as_slice());
+    assert!(rt; steps.as_slice() == want.as_slice());
     let steps = steps_for(alloc, [1, 2, 9, 9, 9, 9, 9, 9], (0, 1), &mut scratch)?;
-    assert_eq!(rt; steps.as_slice(), [want[0], want[1]].as_slice());
+    assert!(rt; steps.as_slice() == [want[0], want[1]].as_slice());
     Ok(())
 }
 
@@ -87,9 +87,9 @@ fn second_bucket_after_the_first(rt: HostRuntime) -> Result<(), Fail> {
     let alloc = rt.alloc();
     let mut scratch = Scratch::new(alloc, 8).ok().ok_or("memory")?;
     let steps = steps_for(alloc, [1, 2, 9, 9, 9, 9, 9, 9], (0, 3), &mut scratch)?;
-    assert_eq!(rt; steps.as_slice(), [Step { bucket: 3, slot: 0 }].as_slice());
+    assert!(rt; steps.as_slice() == [Step { bucket: 3, slot: 0 }].as_slice());
     let steps = steps_for(alloc, [9; 8], (5, 5), &mut scratch)?;
-    assert_eq!(rt; steps.as_slice(), [Step { bucket: 5, slot: 0 }].as_slice());
+    assert!(rt; steps.as_slice() == [Step { bucket: 5, slot: 0 }].as_slice());
     Ok(())
 }
 
@@ -98,8 +98,8 @@ fn no_place_after_a_chain(rt: HostRuntime) -> Result<(), Fail> {
     let alloc = rt.alloc();
     let mut scratch = Scratch::new(alloc, 8).ok().ok_or("memory")?;
     let steps = steps_for(alloc, [1, 0, 9, 9, 9, 9, 9, 9], (0, 7), &mut scratch)?;
-    assert_eq!(rt; steps.len(), 1);
+    assert!(rt; steps.len() == 1);
     let steps = steps_for(alloc, [1, 0, 9, 9, 9, 9, 9, 9], (0, 1), &mut scratch)?;
-    assert_eq!(rt; steps.len(), 0);
+    assert!(rt; steps.len() == 0);
     Ok(())
 }
