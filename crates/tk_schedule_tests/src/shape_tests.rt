@@ -8,7 +8,7 @@ const SMALL: [u32; 12] = [2, 8, 4, 4, 24, 64, 1, 0, 2, 2, 1, 1];
 #[test]
 fn lengths_of_a_small_shape(rt: HostRuntime) -> Result<(), Fail> {
     let shape = Shape::new(SMALL).ok().ok_or("in range")?;
-    assert_eq!(rt; shape.numbers().as_slice(), SMALL.as_slice());
+    assert!(rt; shape.numbers().as_slice() == SMALL.as_slice());
     let lengths = [
         (shape.turns(), 2),
         (shape.slot_len(), 40),
@@ -22,9 +22,9 @@ fn lengths_of_a_small_shape(rt: HostRuntime) -> Result<(), Fail> {
         (shape.reply_len(), 334),
     ];
     for (got, want) in lengths {
-        assert_eq!(rt; got, want);
+        assert!(rt; got == want);
     }
-    assert_eq!(rt; shape.tape_len(), 256);
+    assert!(rt; shape.tape_len() == 256);
     Ok(())
 }
 
@@ -32,7 +32,7 @@ fn lengths_of_a_small_shape(rt: HostRuntime) -> Result<(), Fail> {
 fn lengths_of_format_2(rt: HostRuntime) -> Result<(), Fail> {
     let plain = Shape::new(SMALL).ok().ok_or("in range")?;
     let shape = Shape::of(2, SMALL).ok().ok_or("in range")?;
-    assert_eq!(rt; shape.numbers().as_slice(), SMALL.as_slice());
+    assert!(rt; shape.numbers().as_slice() == SMALL.as_slice());
     let lengths = [
         (shape.seed_len(), 32),
         (shape.piece_len(), 33),
@@ -42,16 +42,16 @@ fn lengths_of_format_2(rt: HostRuntime) -> Result<(), Fail> {
         (shape.seed_read_len(true), 80),
     ];
     for (got, want) in lengths {
-        assert_eq!(rt; got, want);
+        assert!(rt; got == want);
     }
-    assert_eq!(rt; shape.tape_len(), 512);
-    assert_eq!(rt;
-        plain.differs(&shape),
-        Some(Differs {
-            field: Field::Format,
-            a: 1,
-            b: 2,
-        })
+    assert!(rt; shape.tape_len() == 512);
+    assert!(rt;
+        plain.differs(&shape)
+            == Some(Differs {
+                field: Field::Format,
+                a: 1,
+                b: 2,
+            })
     );
     Ok(())
 }
@@ -66,10 +66,7 @@ fn broken_limits(rt: HostRuntime) {
         (schedule, Field::Schedule, 65536),
         (work, Field::Work, 549755813888),
     ] {
-        assert_eq!(rt;
-            Shape::new(numbers).err(),
-            Some(ShapeError { field, value })
-        );
+        assert!(rt; Shape::new(numbers).err() == Some(ShapeError { field, value }));
     }
 }
 
@@ -78,28 +75,28 @@ fn lists_go_in_and_out(rt: HostRuntime) -> Result<(), Fail> {
     let bytes = Bytes::from_slice(rt.alloc(), b"talek")
         .ok()
         .ok_or("memory")?;
-    assert_eq!(rt; bytes.as_slice(), b"talek".as_slice());
-    assert_eq!(rt; bytes.clone()?.as_slice(), b"talek".as_slice());
+    assert!(rt; bytes.as_slice() == b"talek".as_slice());
+    assert!(rt; bytes.clone()?.as_slice() == b"talek".as_slice());
     let bytes = Bytes::from_vec(bytes.into_vec());
-    assert_eq!(rt; bytes.into_vec().len(), 5);
+    assert!(rt; bytes.into_vec().len() == 5);
     let words = Words::from_slice(rt.alloc(), &[1, 4294967295])
         .ok()
         .ok_or("memory")?;
-    assert_eq!(rt; words.as_slice(), [1, 4294967295].as_slice());
-    assert_eq!(rt; words.clone()?.as_slice(), words.as_slice());
+    assert!(rt; words.as_slice() == [1, 4294967295].as_slice());
+    assert!(rt; words.clone()?.as_slice() == words.as_slice());
     let words = Words::from_vec(words.into_vec());
-    assert_eq!(rt; words.into_vec().len(), 2);
+    assert!(rt; words.into_vec().len() == 2);
     Ok(())
 }
 
 #[test]
 fn shapes_differ(rt: HostRuntime) -> Result<(), Fail> {
     let small = Shape::new(SMALL).ok().ok_or("in range")?;
-    assert_eq!(rt; small.differs(&small), None);
+    assert!(rt; small.differs(&small).is_none());
     let other = [2, 8, 4, 5, 24, 64, 1, 0, 2, 2, 1, 7];
     let other = Shape::new(other).ok().ok_or("in range")?;
     let (field, a, b) = (Field::Retained, 4, 5);
-    assert_eq!(rt; small.differs(&other), Some(Differs { field, a, b }));
-    assert_eq!(rt; field.name(), b"retained".as_slice());
+    assert!(rt; small.differs(&other) == Some(Differs { field, a, b }));
+    assert!(rt; field.name() == b"retained".as_slice());
     Ok(())
 }
