@@ -65,7 +65,7 @@ fn runs_of_any_length(rt: HostRuntime) {
         for (vector, want) in CHOICES {
             let mut out = [0xff; 127];
             answer(&blocks, &vector, &mut out);
-            assert_eq!(rt; out.as_slice(), [want; 127].as_slice(), "pages of {page}");
+            assert!(rt; out.as_slice() == [want; 127].as_slice(), "pages of {page}");
         }
     }
 }
@@ -93,10 +93,10 @@ fn each_vector_answered(rt: HostRuntime) -> Result<(), Fail> {
         };
         let vectors = in_turn(alloc, count)?;
         let sums = answer_each(alloc, &blocks, vectors)?;
-        assert_eq!(rt; sums.len(), count);
+        assert!(rt; sums.len() == count);
         for (i, sum) in sums.iter().enumerate() {
             let (_vector, want) = CHOICES[i % 5];
-            assert_eq!(rt; sum.as_slice(), [want; 127].as_slice());
+            assert!(rt; sum.as_slice() == [want; 127].as_slice());
         }
     }
     Ok(())
@@ -121,15 +121,15 @@ fn each_vector_answered_in_spare_buffers(rt: HostRuntime) -> Result<(), Fail> {
             &blocks,
             vectors,
         )?;
-        assert_eq!(rt; sums.len(), count);
+        assert!(rt; sums.len() == count);
         for (i, sum) in sums.iter().enumerate() {
             let (_vector, want) = CHOICES[i % 5];
-            assert_eq!(rt; sum.as_slice(), [want; 127].as_slice());
+            assert!(rt; sum.as_slice() == [want; 127].as_slice());
         }
         for sum in sums {
             sums_before.push(sum.into_vec())?;
         }
     }
-    assert_eq!(rt; vectors_before.len(), 30);
+    assert!(rt; vectors_before.len() == 30);
     Ok(())
 }
