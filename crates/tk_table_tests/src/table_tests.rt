@@ -154,7 +154,7 @@ fn first_slots_after_writes(rt: HostRuntime) -> Result<(), Fail> {
         let Some(puts) = puts.get(..count) else {
             return Err("few".into());
         };
-        assert_eq!(rt; play(rt.alloc(), depth, retained, puts)?, want);
+        assert!(rt; play(rt.alloc(), depth, retained, puts)? == want);
     }
     Ok(())
 }
@@ -162,17 +162,17 @@ fn first_slots_after_writes(rt: HostRuntime) -> Result<(), Fail> {
 #[test]
 fn a_chain_moves_an_entry_and_no_entry_of_an_earlier_snapshot(rt: HostRuntime) -> Result<(), Fail> {
     let mut table = open(rt.alloc(), 1, 8)?;
-    assert_eq!(rt; put(&mut table, 1, (0, 1)), Put::Placed);
-    assert_eq!(rt; put(&mut table, 2, (1, 2)), Put::Placed);
+    assert!(rt; put(&mut table, 1, (0, 1)) == Put::Placed);
+    assert!(rt; put(&mut table, 2, (1, 2)) == Put::Placed);
     let Ok(early) = table.snapshot(rt.alloc()) else {
         return Err("memory".into());
     };
-    assert_eq!(rt; put(&mut table, 3, (0, 1)), Put::Placed);
+    assert!(rt; put(&mut table, 3, (0, 1)) == Put::Placed);
     let Ok(late) = table.snapshot(rt.alloc()) else {
         return Err("memory".into());
     };
-    assert_eq!(rt; positions(&early), [1, 2, 0, 0, 0, 0, 0, 0]);
-    assert_eq!(rt; positions(&late), [1, 3, 2, 0, 0, 0, 0, 0]);
+    assert!(rt; positions(&early) == [1, 2, 0, 0, 0, 0, 0, 0]);
+    assert!(rt; positions(&late) == [1, 3, 2, 0, 0, 0, 0, 0]);
     Ok(())
 }
 
@@ -194,7 +194,7 @@ fn restored(alloc: Global) -> Result<Table, Fail>
 #[test]
 fn a_restored_table_has_its_slots_and_positions(rt: HostRuntime) -> Result<(), Fail> {
     let table = restored(rt.alloc())?;
-    assert_eq!(rt; table.positions(), [1, 2].as_slice());
+    assert!(rt; table.positions() == [1, 2].as_slice());
     for bucket in 0..8 {
         let slot = table.slot(bucket, 0);
         let want = if bucket == 5 {
@@ -225,10 +225,10 @@ fn a_restored_table_goes_on(rt: HostRuntime) -> Result<(), Fail> {
         if pair.0 >= 8 || pair.1 >= 8 {
             return Err("no bucket".into());
         }
-        assert_eq!(rt; put(&mut table, i as u64 + 3, pair), want);
+        assert!(rt; put(&mut table, i as u64 + 3, pair) == want);
         let snapshot = table.snapshot(rt.alloc()).ok().ok_or("memory")?;
-        assert_eq!(rt; positions(&snapshot), slots);
+        assert!(rt; positions(&snapshot) == slots);
     }
-    assert_eq!(rt; table.positions(), [5, 6].as_slice());
+    assert!(rt; table.positions() == [5, 6].as_slice());
     Ok(())
 }
