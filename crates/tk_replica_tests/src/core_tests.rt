@@ -2,11 +2,8 @@ ghost use Rattle.std.specs.Prelude.{IfOk};
 ghost use Rattle.tk_frames.specs.Ranges.{IsWrite};
 
 use std::alloc::Global;
-use std::process::Abort;
 use std::test::Fail;
-use tk_core::{
-    Event, Reply, World, epochs_are_read, events_make_orders, events_may_come, servers_read_alike,
-};
+use tk_core::{Event, Reply, World};
 use tk_frames::{WriteFrame, decode_write, encode_write};
 use tk_shape::{Bytes, Shape, Words};
 
@@ -72,97 +69,132 @@ fn show(alloc: Global, world: &mut World) -> Result<Reply, Fail> {
     Ok(world.step(alloc, Event::Show).ok().ok_or("memory")?)
 }
 
-/// Buckets 2 and 5 at a server.
-fn read(alloc: Global, world: &mut World, server: u32) -> Result<Reply, Fail> {
-    let shape = world.shape();
-    if server < 1 || server > shape.servers || shape.buckets < 6 {
-        return Err("read".into());
-    }
-    let event = Event::Read {
-        server,
-        first: 2,
-        second: 5,
-    };
-    Ok(world.step(alloc, event).ok().ok_or("memory")?)
+/// What happens to the machine; an entry is applied by a server.
+#[derive(Clone, Copy)]
+enum Act {
+    Put,
+    Mark,
+    Apply(u32),
+    Show,
 }
+
+fn done(alloc: Global, world: &mut World, act: Act) -> Result<Reply, Fail> {
+    match act {
+        Act::Put => put(alloc, world),
+        Act::Mark => mark(alloc, world),
+        Act::Apply(server) => apply(alloc, world, server),
+        Act::Show => show(alloc, world),
+    }
+}
+
+/// What the machine says to that: the position of a write, that and the epoch of a mark, how many
+/// entries a server has applied, or the epoch that is shown.
+#[derive(Clone, Copy)]
+enum Says {
+    Placed(u64),
+    Marked(u64, u32),
+    Applied(u64),
+    UpToDate,
+    NoMark,
+    NotYet(u32, u64),
+    Shown(u32),
+}
+
+fn is_said(reply: &Reply, says: Says) -> bool {
+    match says {
+        Says::Placed(at) => matches!(reply, Reply::Placed(position) if *position == at),
+        Says::Marked(at, number) => matches!(
+            reply,
+            Reply::Marked { position, epoch } if *position == at && *epoch == number
+        ),
+        Says::Applied(count) => matches!(reply, Reply::Applied(applied) if *applied == count),
+        Says::UpToDate => matches!(reply, Reply::UpToDate),
+        Says::NoMark => matches!(reply, Reply::NoMark),
+        Says::NotYet(by, count) => matches!(
+            reply,
+            Reply::NotYet { server, applied } if *server == by && *applied == count
+        ),
+        Says::Shown(number) => matches!(reply, Reply::Shown(epoch) if *epoch == number),
+    }
+}
+
+/// A write and a mark, which both servers apply before their epoch is shown.
+const EVENTS: [(Act, Says); 11] = [
+    (Act::Show, Says::NoMark),
+    (Act::Put, Says::Placed(1)),
+    (Act::Mark, Says::Marked(2, 1)),
+    (Act::Show, Says::NotYet(1, 0)),
+    (Act::Apply(1), Says::Applied(1)),
+    (Act::Apply(1), Says::Applied(2)),
+    (Act::Show, Says::NotYet(2, 0)),
+    (Act::Apply(2), Says::Applied(1)),
+    (Act::Apply(2), Says::Applied(2)),
+    (Act::Show, Says::Shown(1)),
+    (Act::Apply(1), Says::UpToDate),
+];
 
 #[test]
 fn event_by_event(rt: HostRuntime) -> Result<(), Fail> {
-    let alloc = rt.alloc();
-    let mut world = open(alloc)?;
-    assert!(rt; matches!(show(alloc, &mut world)?, Reply::NoMark));
-    assert!(rt; matches!(put(alloc, &mut world)?, Reply::Placed(1)));
-    assert!(rt;
-        matches!(
-            mark(alloc, &mut world)?,
-            Reply::Marked {
-                position: 2,
-                epoch: 1
-            }
-        )
-    );
-    assert!(rt;
-        matches!(
-            show(alloc, &mut world)?,
-            Reply::NotYet {
-                server: 1,
-                applied: 0
-            }
-        )
-    );
-    assert!(rt; matches!(apply(alloc, &mut world, 1)?, Reply::Applied(1)));
-    assert!(rt; matches!(apply(alloc, &mut world, 1)?, Reply::Applied(2)));
-    assert!(rt;
-        matches!(
-            show(alloc, &mut world)?,
-            Reply::NotYet {
-                server: 2,
-                applied: 0
-            }
-        )
-    );
-    assert!(rt; matches!(apply(alloc, &mut world, 2)?, Reply::Applied(1)));
-    assert!(rt; matches!(apply(alloc, &mut world, 2)?, Reply::Applied(2)));
-    assert!(rt; matches!(show(alloc, &mut world)?, Reply::Shown(1)));
-    assert!(rt; matches!(apply(alloc, &mut world, 1)?, Reply::UpToDate));
+    let mut world = open(rt.alloc())?;
+    for (act, says) in EVENTS {
+        assert!(rt; is_said(&done(rt.alloc(), &mut world, act)?, says));
+    }
     Ok(())
+}
+
+/// A write and a mark that both servers have applied.
+const BEFORE: [Act; 6] = [
+    Act::Put,
+    Act::Mark,
+    Act::Apply(1),
+    Act::Apply(1),
+    Act::Apply(2),
+    Act::Apply(2),
+];
+
+/// Whether a read of buckets 2 and 5 at server 2 is over this epoch, and gets these bytes and zeros.
+fn reads(alloc: Global, world: &mut World, number: u32, bytes: &[u8]) -> Result<bool, Fail> {
+    let shape = world.shape();
+    if shape.servers < 2 || shape.buckets < 6 {
+        return Err("read".into());
+    }
+    let event = Event::Read {
+        server: 2,
+        first: 2,
+        second: 5,
+    };
+    match world.step(alloc, event) {
+        Ok(
+            Reply::Blocks {
+                epoch,
+                first,
+                second,
+            },
+        ) => Ok(
+            epoch == number
+                && first.as_slice() == bytes
+                && second.as_slice() == [0; 160].as_slice(),
+        ),
+        _ => Err("blocks".into()),
+    }
+}
+
+/// Bucket 2 once the write has come.
+fn written() -> [u8; 160] {
+    let mut bytes = [0; 160];
+    (bytes[7], bytes[11], bytes[15]) = (1, 2, 5);
+    bytes[16..40].fill(11);
+    bytes
 }
 
 #[test]
 fn a_read_is_over_the_shown_epoch(rt: HostRuntime) -> Result<(), Fail> {
-    let alloc = rt.alloc();
-    let mut world = open(alloc)?;
-    put(alloc, &mut world)?;
-    mark(alloc, &mut world)?;
-    for server in [1, 1, 2, 2] {
-        apply(alloc, &mut world, server)?;
+    let mut world = open(rt.alloc())?;
+    for act in BEFORE {
+        done(rt.alloc(), &mut world, act)?;
     }
-    let Reply::Blocks {
-        epoch: 0,
-        first,
-        ..
-    } = read(alloc, &mut world, 2)?
-    else {
-        return Err("epoch 0".into());
-    };
-    assert!(rt; first.as_slice()[..] == [0; 160]);
-    show(alloc, &mut world)?;
-    let Reply::Blocks {
-        epoch: 1,
-        first,
-        second,
-    } = read(alloc, &mut world, 2)?
-    else {
-        return Err("epoch 1".into());
-    };
-    let bytes = first.as_slice();
-    assert!(rt; bytes.len() == 160);
-    assert!(rt; bytes[..16] == [0, 0, 0, 0, 0, 0, 0, 1, 0, 0, 0, 2, 0, 0, 0, 5]);
-    assert!(rt; bytes[16..40] == [11; 24] && bytes[40..] == [0; 120]);
-    assert!(rt; second.as_slice()[..] == [0; 160]);
-    servers_read_alike();
-    events_may_come();
-    events_make_orders();
-    epochs_are_read();
+    assert!(rt; reads(rt.alloc(), &mut world, 0, &[0; 160])?);
+    done(rt.alloc(), &mut world, Act::Show)?;
+    assert!(rt; reads(rt.alloc(), &mut world, 1, &written())?);
     Ok(())
 }

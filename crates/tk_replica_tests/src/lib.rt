@@ -4,6 +4,8 @@
 #[cfg(test)]
 mod core_tests;
 #[cfg(test)]
+mod law_tests;
+#[cfg(test)]
 mod replica_tests;
 #[cfg(test)]
 mod restored_tests;

@@ -99,6 +99,15 @@ impl<B: Naming> Desk<'_, B> {
         Replica::open(self.alloc, &self.shape, self.order, seat).ok()
     }
 
+    /// Three replicas.
+    fn three(&self, seat: &mut OrderSeat<B>) -> Option<Vec<Replica<B>>> {
+        let mut replicas = Vec::new(self.alloc);
+        for _ in 0..3 {
+            replicas.push(self.open(seat)?).ok()?;
+        }
+        Some(replicas)
+    }
+
     /// The number and the position of the epoch that a replica answers.
     fn advance<R: Wait>(
         &self,
@@ -124,9 +133,35 @@ fn last<B: Naming>(seats: &mut Vec<OrderSeat<B>>, number: u32) -> Option<OrderSe
     seats.pop()
 }
 
+/// How many entries the seat of a replica has seen when it is closed.
+fn closed<B: Naming>(replica: Option<Replica<B>>) -> Option<u64> {
+    Some(replica?.close().seen())
+}
+
 /// How many entries a replica has applied.
 fn applied<B: Naming, R: Wait>(rt: &R, replica: &Replica<B>) -> u64 {
     replica.hold(rt).state().applied()
+}
+
+/// Three replicas, of which each applies as many entries as it is asked for.
+fn advanced<B: Naming, R: Wait + Abort>(
+    rt: &R,
+    desk: &Desk<B>,
+    seat: &mut OrderSeat<B>,
+    replicas: &[Replica<B>],
+) -> Result<(), Fail> {
+    let [first, second, third] = replicas else {
+        return Err("three".into());
+    };
+    assert!(rt; desk.advance(rt, first, seat, 6) == Some((3, 6)));
+    assert!(rt; desk.advance(rt, second, seat, 3) == Some((1, 2)));
+    assert!(rt; desk.advance(rt, third, seat, 1) == Some((0, 0)));
+    assert!(rt; applied(rt, first) == 6);
+    assert!(rt; applied(rt, second) == 3);
+    assert!(rt; applied(rt, third) == 1);
+    // an epoch that is kept, of fewer entries than were applied
+    assert!(rt; desk.advance(rt, first, seat, 5) == Some((2, 4)));
+    Ok(())
 }
 
 fn three_lengths<B: Naming, R: Wait + Abort>(
@@ -147,18 +182,10 @@ fn three_lengths<B: Naming, R: Wait + Abort>(
         alloc,
     };
     let mut seat = desk.three_marks(rt, seats).ok_or("marks")?;
-    let first = desk.open(&mut seat).ok_or("first")?;
-    let second = desk.open(&mut seat).ok_or("second")?;
-    let third = desk.open(&mut seat).ok_or("third")?;
-    assert!(rt; desk.advance(rt, &first, &mut seat, 6) == Some((3, 6)));
-    assert!(rt; desk.advance(rt, &second, &mut seat, 3) == Some((1, 2)));
-    assert!(rt; desk.advance(rt, &third, &mut seat, 1) == Some((0, 0)));
-    assert!(rt; applied(rt, &first) == 6);
-    assert!(rt; applied(rt, &second) == 3);
-    assert!(rt; applied(rt, &third) == 1);
-    // an epoch that is kept, of fewer entries than were applied
-    assert!(rt; desk.advance(rt, &first, &mut seat, 5) == Some((2, 4)));
-    assert!(rt; second.close().seen() == 6);
+    let mut replicas = desk.three(&mut seat).ok_or("replicas")?;
+    advanced(rt, &desk, &mut seat, replicas.as_slice())?;
+    let _third = replicas.pop();
+    assert!(rt; closed(replicas.pop()) == Some(6));
     Ok(())
 }
 
@@ -168,7 +195,26 @@ fn replicas_advance_to_lengths_of_their_own(rt: HostRuntime) -> Result<(), Fail>
     three_lengths::<Brand, _>(&rt, alloc, blank(alloc, 1)?)
 }
 
-/// After three marks the epochs below 2 are let go, and what is asked then.
+/// The epochs below 2 of a replica are let go, and what is asked then.
+fn let_go<B: Naming, R: Wait + Abort>(
+    rt: &R,
+    desk: &Desk<B>,
+    seat: &mut OrderSeat<B>,
+    replica: &Replica<B>,
+) -> Result<(), Fail> {
+    assert!(rt; desk.advance(rt, replica, seat, 6) == Some((3, 6)));
+    replica.release(rt, 2);
+    let mut held = replica.hold(rt);
+    held.agree(desk.order, seat);
+    pins_and_serves(rt, desk.alloc, held.state())?;
+    serves_together(rt, desk.alloc, held.state())?;
+    serves_again(rt, desk.alloc, held.state())?;
+    drop(held);
+    assert!(rt; desk.advance(rt, replica, seat, 2) == Some((1, 2)));
+    Ok(())
+}
+
+/// A replica after three marks.
 fn released<B: Naming, R: Wait + Abort>(rt: &R, alloc: Global, blank: Blank) -> Result<(), Fail>
     requires table { blank.table ≡ B.table }
     requires shape { blank.shape ≡ B.shape }
@@ -184,15 +230,7 @@ fn released<B: Naming, R: Wait + Abort>(rt: &R, alloc: Global, blank: Blank) -> 
     };
     let mut seat = desk.three_marks(rt, seats).ok_or("marks")?;
     let replica = desk.open(&mut seat).ok_or("replica")?;
-    assert!(rt; desk.advance(rt, &replica, &mut seat, 6) == Some((3, 6)));
-    replica.release(rt, 2);
-    let mut held = replica.hold(rt);
-    held.agree(order, &mut seat);
-    pins_and_serves(rt, alloc, held.state())?;
-    serves_together(rt, alloc, held.state())?;
-    drop(held);
-    assert!(rt; desk.advance(rt, &replica, &mut seat, 2) == Some((1, 2)));
-    Ok(())
+    let_go(rt, &desk, &mut seat, &replica)
 }
 
 #[test]
@@ -277,31 +315,42 @@ fn pins_and_serves<R: Abort>(rt: &R, alloc: Global, state: &ReplicaState) -> Res
     Ok(())
 }
 
+/// Whether these are the replies to the frames one by one.
+fn one_by_one(alloc: Global, state: &ReplicaState, frames: &[Bytes], replies: &[Bytes]) -> bool {
+    for (frame, reply) in frames.iter().zip(replies.iter()) {
+        match state.serve(alloc, frame.as_slice()) {
+            Ok(alone) if alone.as_slice() == reply.as_slice() => {}
+            _ => return false,
+        }
+    }
+    frames.len() == replies.len()
+}
+
 fn serves_together<R: Abort>(rt: &R, alloc: Global, state: &ReplicaState) -> Result<(), Fail> {
     let frames = reads(alloc, &[2, 3, 3]).ok_or("reads")?;
     let served = state.serve_all(alloc, frames.as_slice());
     let replies = served.ok().ok_or("served")?;
     assert!(rt; replies.len() == 3);
     assert!(rt; is_reply(alloc, state.shape(), replies[0].as_slice()));
-    for (frame, reply) in frames.iter().zip(replies.iter()) {
-        let alone = state.serve(alloc, frame.as_slice()).ok().ok_or("alone")?;
-        assert!(rt; reply.as_slice() == alone.as_slice());
-    }
-    // so often in the buffers of the time before
+    assert!(rt; one_by_one(alloc, state, frames.as_slice(), replies.as_slice()));
+    // the first bad frame decides
+    let frames = reads(alloc, &[2, 1, 4]).ok_or("reads")?;
+    let bad = state.serve_all(alloc, frames.as_slice()).err();
+    assert!(rt; bad == Some(ServeError::Retired { floor: 2 }));
+    Ok(())
+}
+
+/// The same, so often in the buffers of the time before.
+fn serves_again<R: Abort>(rt: &R, alloc: Global, state: &ReplicaState) -> Result<(), Fail> {
+    let frames = reads(alloc, &[2, 3, 3]).ok_or("reads")?;
     let mut spare = Spare::new(alloc);
     for _ in 0..3 {
         let served = state.serve_all_with(alloc, &mut spare, frames.as_slice());
         let again = served.ok().ok_or("again")?;
         assert!(rt; again.len() == 3);
-        for (one, other) in replies.iter().zip(again.iter()) {
-            assert!(rt; one.as_slice() == other.as_slice());
-        }
+        assert!(rt; one_by_one(alloc, state, frames.as_slice(), again.as_slice()));
     }
     assert!(rt; (spare.vectors.len(), spare.sums.len()) == (6, 4));
-    // the first bad frame decides
-    let frames = reads(alloc, &[2, 1, 4]).ok_or("reads")?;
-    let bad = state.serve_all(alloc, frames.as_slice()).err();
-    assert!(rt; bad == Some(ServeError::Retired { floor: 2 }));
     Ok(())
 }
 
@@ -340,7 +389,26 @@ fn has_bucket(alloc: Global, shape: &Shape, bytes: &[u8]) -> bool {
         && reply.second.as_slice() == [0; 160].as_slice()
 }
 
-/// A replica of format 2 after three marks, and reads of each kind with the same vectors.
+/// Reads of each kind with the same vectors.
+fn kinds_alike<B: Naming, R: Abort>(
+    rt: &R,
+    desk: &Desk<B>,
+    state: &ReplicaState,
+) -> Result<(), Fail> {
+    let alloc = desk.alloc;
+    let frames = alike(alloc).ok_or("reads")?;
+    let together = state.serve_all(alloc, frames.as_slice());
+    let together = together.ok().ok_or("together")?;
+    assert!(rt; together.len() == 3);
+    for (frame, reply) in frames.iter().zip(together.iter()) {
+        let alone = state.serve(alloc, frame.as_slice()).ok().ok_or("alone")?;
+        assert!(rt; has_bucket(alloc, &desk.shape, alone.as_slice()));
+        assert!(rt; has_bucket(alloc, &desk.shape, reply.as_slice()));
+    }
+    Ok(())
+}
+
+/// A replica of format 2 after three marks.
 fn served_alike<B: Naming, R: Wait + Abort>(rt: &R, alloc: Global, blank: Blank) -> Result<(), Fail>
     requires table { blank.table ≡ B.table }
     requires shape { blank.shape ≡ B.shape }
@@ -359,16 +427,7 @@ fn served_alike<B: Naming, R: Wait + Abort>(rt: &R, alloc: Global, blank: Blank)
     assert!(rt; desk.advance(rt, &replica, &mut seat, 6) == Some((3, 6)));
     let mut held = replica.hold(rt);
     held.agree(order, &mut seat);
-    let frames = alike(alloc).ok_or("reads")?;
-    let together = held.state().serve_all(alloc, frames.as_slice());
-    let together = together.ok().ok_or("together")?;
-    assert!(rt; together.len() == 3);
-    for (frame, reply) in frames.iter().zip(together.iter()) {
-        let alone = held.state().serve(alloc, frame.as_slice());
-        assert!(rt; has_bucket(alloc, &shape, alone.ok().ok_or("alone")?.as_slice()));
-        assert!(rt; has_bucket(alloc, &shape, reply.as_slice()));
-    }
-    Ok(())
+    kinds_alike(rt, &desk, held.state())
 }
 
 #[test]
