@@ -8,12 +8,11 @@ use Rattle.tk_shape.specs.declared.shape.Shape.{Shape}
 use Rattle.tk_shape.specs.Lengths.{vector_len, width}
 use Rattle.tk_kernel.specs.Pieces.{pieces}
 use Rattle.tk_kernel.proofs.Offers.{concat-pieces}
-use Rattle.tk_counts.specs.Counts.{IsListBelow}
 use Rattle.tk_counts.proofs.Offers.{AreBytes, no_bytes, bytes-append, bytes-front, bytes-rest, bytes-xor}
 use Rattle.tk_relay.specs.Halves.{Halves, HasHalves, blank_halves, halves_in, halves_bytes, mixed}
-use Rattle.tk_relay.specs.Pads.{PadLists, pads_in, pads_len, request_len, reply_pad_len, halves_list, pad_of}
+use Rattle.tk_relay.specs.Pads.{request_len, reply_pad_len, halves_list, pad_of}
 use Rattle.tk_relay.specs.Sights.{moved, moved_last}
-use Rattle.tk_relay.specs.Counts.{pads_bytes, PadsAreCut, PadsAreSpelled}
+use Rattle.tk_relay.specs.Counts.{PadsAreCut, PadsAreSpelled}
 use Rattle.tk_relay.proofs.Cutting.{cut-again, halves-more}
 use Rattle.tk_relay.proofs.PadLaws.{pads-are, requests-within, replies-long}
 
@@ -69,8 +68,7 @@ pads_are_cut shape bytes is =
     (bytes-listed (width shape) others rest (omega (arith, long))
     ∙ take_all (others * reply_pad_len shape) rest (omega (arith, long)))
     ∙ take-append-drop asked bytes
-    in
-    (
+    in (
       record { are = pads-are shape bytes is.counted; bytes = subst AreBytes (sym spelled) is.below },
       spelled,
     )
@@ -100,8 +98,7 @@ pads_are_spelled shape pads is =
     ∙ sym (append-nil replied))
     ∙ ap (λ n. halves_list (width shape) n (replied ++ [])) (sym is.are.replies_counted)
     ∙ listed-again (width shape) pads.replies [] is.are.replies_sized
-    in
-    (
+    in (
       record {
         counted = omega (arith, length-append asked replied, asked_long, replied_long, both);
         below = is.bytes;

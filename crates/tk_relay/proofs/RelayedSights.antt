@@ -1,12 +1,10 @@
 -- What server 1's tap gains of a relayed read.
-use Rattle.std.proofs.Common.{◌≡◌, refl, ap, ◌∙◌, ℕ, ◌<◌, List}
-use Rattle.std.specs.List.{range_with_len}
+use Rattle.std.proofs.Common.{◌≡◌, refl, ap, ◌∙◌, ℕ, List}
 use Rattle.tk_schedule.specs.declared.history.History.{History}
 use Rattle.tk_schedule.specs.Schedule.{epoch_at}
 use Rattle.tk_script.specs.declared.script.Script.{Script}
 use Rattle.tk_words.specs.Words.{WordBook, words_of, seed_at}
 use Rattle.tk_frames.specs.declared.read_frame.ReadFrame.{ReadFrame}
-use Rattle.tk_client.specs.Asked.{frame_for}
 use Rattle.tk_client.proofs.Offers.{fresh-whole, pair-in_range}
 use Rattle.tk_report.specs.Exchange.{read_at, read_pair}
 use Rattle.tk_report.specs.Report.{read_over, target_at}

@@ -31,7 +31,9 @@ mod turns;
 pub use bundles::bundle;
 pub use gather_error::GatherError;
 pub use gathering::gather;
-pub use laws::{as_many_pads, moved_back, pads_are_bytes, replies_join, same_sight, tap_gains_sight};
+pub use laws::{
+    as_many_pads, moved_back, pads_are_bytes, replies_join, same_sight, tap_gains_sight,
+};
 pub use pads::{PadError, Pads};
 pub use part::Part;
 pub use part_error::PartError;
