@@ -33,7 +33,8 @@ reader-heard shape w replies reader (Some read) = refl
 
 module _ (S : Script) (b : WordBook) (h : ℕ) (adversary : Adversary) (c : ℕ) (run : Attacked)
     (client : ClientState) (replies : List (List ℕ)) (marks : List Bool)
-    (is : IsActing S c (run.clients c) client) (told : AreTold S adversary c run replies marks) where
+    (is : IsActing S c (run.clients c) client)
+    (told : AreTold S (words_of S.shape b) adversary c run replies marks) where
   hears : (after_replies (words_of S.shape b) replies client).reader
       ≡ heard S (words_of S.shape b) (adversary.sums run.seen run.hidden) (run.clients c)
   hears =
@@ -52,7 +53,7 @@ module _ (S : Script) (b : WordBook) (h : ℕ) (adversary : Adversary) (c : ℕ)
   unfolding ask_of
   aims =
       let w = words_of S.shape b in
-      λ i. target (is.shape i) (λ log s. told.shows (w.hits log s) i)
+      λ i. target (is.shape i) (λ log s. told.shows log s i)
       (at_epoch (adversary.epoch run.seen) (hears i))
 
 pub acts_as_client : ActsAsClient

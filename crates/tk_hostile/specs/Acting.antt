@@ -2,7 +2,7 @@
 use Rattle.std.specs.Prelude.{◌≡◌, ℕ, Bool, List, map, Option, Some, None}
 use Rattle.std.specs.List.{range_with_len}
 use Rattle.tk_script.specs.declared.script.Script.{Script}
-use Rattle.tk_words.specs.Words.{WordBook, words_of}
+use Rattle.tk_words.specs.Words.{WordBook, BookWords, words_of}
 use Rattle.tk_bloom.specs.Filters.{all_marked}
 use Rattle.tk_client.specs.Reader.{Reader, at_epoch}
 use Rattle.tk_client.specs.declared.target.Target.{Target}
@@ -37,15 +37,15 @@ NewIsActing =
     IsActing S c ((unattacked S (words_of S.shape b) adversary).clients c)
     (new_client S.shape c writes (follows_of S c))
 
--- bytes that are replies with the sums that the adversary chooses, and a filter that shows what it
--- chooses
-pub record AreTold (S : Script) (adversary : Adversary) (c : ℕ) (run : Attacked)
+-- bytes that are replies with the sums that the adversary chooses, and a filter that shows of each
+-- number's positions what it chooses
+pub record AreTold (S : Script) (w : BookWords) (adversary : Adversary) (c : ℕ) (run : Attacked)
     (replies : List (List ℕ)) (marks : List Bool) : Type 0 where
   pub chosen : let r = (run.clients c).hidden in
       frames_in S.shape replies
       ≡ map (λ j. reply_with r (adversary.sums run.seen run.hidden r j))
       (range_with_len 1 S.shape.servers)
-  pub shows : (hits : List ℕ) → all_marked marks hits ≡ adversary.shows run.seen hits
+  pub shows : (log s : ℕ) → all_marked marks (w.hits log s) ≡ adversary.shows run.seen (w.hits log s)
 
 -- A client that takes these replies and asks over the epoch that it is told sends the frames that are
 -- seen under attack, and then is as it is under attack.
@@ -70,5 +70,6 @@ abbrev pub ActsAsClient : Type 0
 ActsAsClient =
     (S : Script) (b : WordBook) (h : ℕ) (adversary : Adversary) (c : ℕ) (run : Attacked)
     (client : ClientState) (replies : List (List ℕ)) (marks : List Bool) →
-    IsActing S c (run.clients c) client → AreTold S adversary c run replies marks →
+    IsActing S c (run.clients c) client →
+    AreTold S (words_of S.shape b) adversary c run replies marks →
     AsksAlike S b h adversary c run client replies marks

@@ -1,7 +1,8 @@
 -- What all servers but one see of clients who go on from what they then read, where one adversary has
--- these servers and the network in its hands: it sees all that they see, and does from that what it
--- likes. Left out are a hidden server that tells others what it gets, texts that answer to what was read,
--- and replies that aren't well formed, which a client refuses and then stops.
+-- these servers in its hands, and decides when each frame goes: it sees all that they see, and does
+-- from that what it likes. Left out are a hidden server that tells others what it gets, links to it that
+-- can be read, texts that answer to what was read, and replies that aren't well formed, which a client
+-- refuses and then stops.
 use Rattle.std.specs.Prelude.{ℕ, zero, suc, ◌+◌, ◌==◌, nat_lt, ◌&&◌, Bool, cond, List, [], ◌∷◌}
 use Rattle.std.specs.Prelude.{◌++◌, map, Option, Some, None}
 use Rattle.std.specs.List.{range_with_len}
