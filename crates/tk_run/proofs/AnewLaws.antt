@@ -165,10 +165,9 @@ ranged-from-own S b H j ranges sum serves legal right =
     let alike : Alike S V (honest S w H) = record {
       shows = λ g c turn_in client_in. refl;
       reply = λ g c turn_in client_in. λ i k r.
-          let set = in_ranges S.shape (read_over S w H g c) ranges in
           record (reply_to S.shape (read_over S w H g c) r) {
-            first = right set r.first i;
-            second = right set r.second i;
+            first = right g c turn_in client_in r.first i;
+            second = right g c turn_in client_in r.second i;
           };
     }
     in

@@ -1,5 +1,5 @@
--- A run whose servers begin anew before a turn, each from the checkpoint of some entries; and a run
--- whose servers make their sums range by range. Whatever they are given and make, this is the run.
+-- A run whose servers begin anew before a turn, each from some entries; and a run whose servers make
+-- their sums over blocks in ranges. This says what the run is whatever they are given and make.
 use Rattle.std.specs.Prelude.{◌≡◌, ℕ, ◌+◌, ◌<◌, nat_le, cond, Bool, List, ◌++◌, length, drop}
 use Rattle.tk_shape.specs.declared.shape.Shape.{Shape}
 use Rattle.tk_shape.specs.Lengths.{turn_count, width}
@@ -39,8 +39,8 @@ AlikeRuns =
 
 -- ---- servers that begin anew
 
--- the entries that server j holds when turn g is read, where before turn due it began anew from the
--- checkpoint of these: from then on those, and behind them what was taken since
+-- the entries that server j holds when turn g is read, where before turn due it began anew from some:
+-- from then on those, and behind them what was taken since
 abbrev pub held_anew :
     Script → BookWords → History → ℕ → (ℕ → List Placed) → ℕ → ℕ → List Placed
 held_anew S w H due given j g =
@@ -55,7 +55,7 @@ anew S w H due given =
       reply = λ g c j r. reply_to S.shape (before (held_anew S w H due given j g) (epoch_at H g c)) r;
     }
 
--- from its own checkpoint each goes on as if nothing were
+-- from the entries so far each goes on as if nothing were
 abbrev pub AnewFromOwn : Type 0
 AnewFromOwn =
     (S : Script) (b : WordBook) (H : History) (due j : ℕ) (given : ℕ → List Placed) →
@@ -84,11 +84,13 @@ ranged S w H ranges sum =
           };
     }
 
--- right sums are those of the run, whatever the ranges
+-- sums over ranges that are those over all blocks make the run
 abbrev pub RangedFromOwn : Type 0
 RangedFromOwn =
     (S : Script) (b : WordBook) (H : History) (j : ℕ) (ranges : List (ℕ × ℕ)) (sum : Summing) →
     IsBook S.shape b → IsLegal S.shape H →
-    ((set : Sharded) (v : List ℕ) → sum set v ≡ chosen_sum set.width set.blocks v) →
+    ((g c : ℕ) → g < turn_count S.shape → c < S.shape.clients → (v : List ℕ) →
+    let set = in_ranges S.shape (read_over S (words_of S.shape b) H g c) ranges in
+    sum set v ≡ chosen_sum set.width set.blocks v) →
     (exchange_under S b H (ranged S (words_of S.shape b) H ranges sum) j ≡ exchange S b H j)
     × (report_under S b H (ranged S (words_of S.shape b) H ranges sum) ≡ report S b H)

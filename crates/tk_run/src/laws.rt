@@ -10,8 +10,8 @@ pub fn honest_servers()
     ensures report { HonestReport }
 {}
 
-/// Servers that are alike make the same run. So do those that begin anew from their own checkpoints,
-/// and those that make right sums over ranges.
+/// Servers that are alike make the same run. So do those that before a turn hold anew the entries so
+/// far, and those whose sums over ranges are those over all blocks.
 pub fn servers_alike()
     ensures alike { AlikeRuns }
     ensures anew { AnewFromOwn }
