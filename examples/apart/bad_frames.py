@@ -1,24 +1,19 @@
-"""Frames that a server refuses, of some hundred kinds, and the cause that it names of any bytes.
-
-The causes are those of docs/FORMATS.md, "Refused frames", and are worked out here from the bytes alone.
-"""
+"""Frames that a server refuses, of some hundred kinds."""
 
 import struct
 
-from meeting import READS, WRITE, number_at
+from parts import frames
+from parts.frames import READS, WRITE, Cause
+from parts.packets import number_at
 
-KIND, LENGTH, VERSION, OTHER_CLIENT, OTHER_TURN, OTHER_EPOCH = range(1, 7)
-CLIENT, TURN, FIRST, SECOND, HIT, EPOCH = range(7, 13)
-LAST_CAUSE = EPOCH
+LAST_CAUSE = max(Cause)
 # Kinds of frames that aren't a client's, and what is no kind.
 STRANGE_KINDS = [0, 3, 4, 5, 8, 9, 10, 11, 12, 13, 0x41, 0x53, 0x7F, 0x80, 0xFE, 0xFF]
 
 
 def lengths_of(shape):
     """By kind the length of a frame that a client sends."""
-    plain = 14 + shape.buckets // 4
-    reads = {2: plain} if shape.format == 1 else {2: plain, 6: 78, 7: 64 + plain}
-    return {WRITE: 18 + 4 * shape.hits + shape.block, **reads}
+    return frames.lengths_of(shape.format, shape)
 
 
 def longest(shape):
@@ -26,31 +21,10 @@ def longest(shape):
     return max(lengths_of(shape).values())
 
 
-def first_true(checks):
-    """The first cause whose check holds."""
-    return next((cause for cause, holds in checks if holds), None)
-
-
 def cause_of(shape, client, written, read, data):
-    """Why a server refuses bytes of a client that wrote and read in so many turns, or None."""
-    kind, lengths = data[0] if data else 0, lengths_of(shape)
-    if kind not in lengths:
-        return KIND
-    if len(data) != lengths[kind]:
-        return LENGTH
-    if data[1] != 1:
-        return VERSION
-    whose, turn = number_at(data, 2), number_at(data, 6)
-    checks = [(CLIENT, whose >= shape.clients), (TURN, turn >= shape.turns)]
-    if kind == WRITE:
-        checks += [(FIRST, number_at(data, 10) >= shape.buckets), (SECOND, number_at(data, 14) >= shape.buckets)]
-        checks += [(HIT, number_at(data, 18 + 4 * at) >= shape.filter) for at in range(shape.hits)]
-        checks += [(OTHER_CLIENT, whose != client), (OTHER_TURN, turn != written)]
-    else:
-        epoch = number_at(data, 10)
-        checks += [(EPOCH, epoch > shape.phases), (OTHER_CLIENT, whose != client), (OTHER_TURN, turn != read),
-                   (OTHER_EPOCH, epoch != turn // shape.ticks)]
-    return first_true(checks)
+    """Why a server refuses bytes of a client that wrote and read in so many turns, or None. The switch of a server asks
+    the same, and `fuzz` compares it with the program."""
+    return frames.cause_of(shape.format, shape, client, (written, read), data)
 
 
 def with_number(data, at, value):

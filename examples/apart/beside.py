@@ -21,9 +21,9 @@ def tool(name):
     return module
 
 
-def free_ports(count):
-    """Ports of the loopback that nobody has."""
-    socks = [socket.create_server(("127.0.0.1", 0)) for _ in range(count)]
+def free_ports(count, host="127.0.0.1"):
+    """Ports of an address of the loopback that nobody has."""
+    socks = [socket.create_server((host, 0)) for _ in range(count)]
     ports = [it.getsockname()[1] for it in socks]
     for it in socks:
         it.close()

@@ -2,10 +2,8 @@
 
 import subprocess
 
-from meeting import REFUSED, switch
-
-# A text on a log that nobody has: a member answers that it is refused, so all that came before is answered too.
-NO_TEXT = b"S\xff\xff\xff\xff"
+from parts.frames import REFUSED
+from parts.packets import FENCE, FENCE_ANSWER, HEAD, spelled
 
 
 class Driven:
@@ -16,7 +14,7 @@ class Driven:
         # a packet that is refused, and how its answer begins; to a server it is an empty one of client 0
         self.fence, self.echo = (1, b""), (1, bytes([REFUSED]))
         if client:
-            self.fence, self.echo = (0, NO_TEXT), (0, b"r" + NO_TEXT[1:])
+            self.fence, self.echo = (0, FENCE), (0, FENCE_ANSWER)
         # what it was given, packet by packet, and the packets with which it answered each; and how it ended
         self.given, self.steps, self.code = [], [], None
         self.give(0, setup)
@@ -27,7 +25,7 @@ class Driven:
             return []
         self.given.append((peer, data))
         try:
-            self.child.stdin.write(switch.spelled(peer, data) + switch.spelled(*self.fence))
+            self.child.stdin.write(spelled(peer, data) + spelled(*self.fence))
             self.child.stdin.flush()
         except BrokenPipeError:
             pass
@@ -41,11 +39,11 @@ class Driven:
     def answers(self):
         """The packets that come, up to the one that answers the fence."""
         while True:
-            head = self.child.stdout.read(switch.HEAD.size)
+            head = self.child.stdout.read(HEAD.size)
             if not head:
                 self.close()
                 return
-            peer, size = switch.HEAD.unpack(head)
+            peer, size = HEAD.unpack(head)
             data = self.child.stdout.read(size)
             if peer == self.echo[0] and data.startswith(self.echo[1]):
                 return

@@ -6,18 +6,18 @@ said, and the keys are those of all members.
 
 import argparse
 import os
-import struct
 import subprocess
 from typing import NamedTuple
 
 import beside
+from parts import packets
+from parts.frames import EPOCH, READS, REPLY, WRITE
+from parts.packets import number_at, packets_of
+from parts.printable import shown
 
-switch = beside.tool("switch")
-WRITE, READS, REPLY, MARK, RECORD, EPOCH, REFUSED = 1, (2, 6, 7), 3, 4, 5, 0x0B, 0x0C
-
-
-def number_at(data, at):
-    return struct.unpack_from(">I", data, at)[0]
+MARK, RECORD = 4, 5
+# The words of lines that tell what came; the others are about what is said.
+CAME = ("text", "absent")
 
 
 def program(name, path):
@@ -25,7 +25,11 @@ def program(name, path):
     launcher = str(beside.TOP / name)
     if path is None and name != "talek":
         path = run([launcher, "--path"], b"").decode().strip()
-    return os.path.abspath(path or launcher)
+    if path is None:
+        run([launcher, "handle", "0", "0" * 64], b"")  # which builds it, and looks whether it is of these sources
+        places = [beside.TOP / "crates" / "talek" / "out" / it for it in ("talek", "unproved/talek")]
+        path = next((it for it in places if os.access(it, os.X_OK)), launcher)
+    return os.path.abspath(path)
 
 
 def run(words, data):
@@ -33,8 +37,8 @@ def run(words, data):
     return subprocess.run(words, input=data, stdout=subprocess.PIPE, check=True).stdout
 
 
-def spelled(packets):
-    return b"".join(switch.spelled(*it) for it in packets)
+def spelled(given):
+    return b"".join(packets.spelled(*it) for it in given)
 
 
 class Shape:
@@ -70,8 +74,8 @@ def texts_said(member, client, journal, turns):
     """Each text that a member was given and took: the turn that it wrote next, the client, the log and the text."""
     for at, (peer, data) in enumerate(journal):
         if peer == 0 and at > 0 and data[:1] == b"S":
-            before = switch.packets_of(run([member], spelled(journal[:at])))[0]
-            after = switch.packets_of(run([member], spelled(journal[: at + 1])))[0]
+            before = packets_of(run([member], spelled(journal[:at])))[0]
+            after = packets_of(run([member], spelled(journal[: at + 1])))[0]
             turn = sum(1 for to, it in before if to == 1 and it[0] == WRITE)
             refused = any(to == 0 and it[:1] == b"r" for to, it in after[len(before) :])
             if not refused and turn < turns:
@@ -108,7 +112,7 @@ def told_by_report(report, clients):
             lines = told[client][log] = []
         elif word in (b"text", b"absent"):
             number, *text = rest.split(b" ", 1)
-            lines.append(b" ".join([word, b"%d" % log, number, *text]))
+            lines.append(" ".join([word.decode(), str(log), number.decode(), *map(shown, text)]))
     return told
 
 
@@ -170,7 +174,7 @@ def differences(programs, came):
     for client in range(shape.clients):
         by_log = {log: [] for log in due[client]}
         for line in came.told[client]:
-            if not line.startswith(b"refused "):
+            if line.split(" ")[0] in CAME:
                 by_log.setdefault(int(line.split()[1]), []).append(line)
         if by_log != due[client]:
             yield f"client {client} told {by_log}, and the report has {due[client]}"

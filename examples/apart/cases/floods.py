@@ -1,0 +1,136 @@
+"""Strangers who say nothing, members that send too much, and terminals that nobody reads."""
+
+from __future__ import annotations
+
+import asyncio
+import socket
+import time
+from pathlib import Path
+
+from cases.guest import BROKEN, Guest
+from cases.stage import Stage, demand
+from parts import journal
+from parts.journal import FILLER, RECORD_SIZE
+from parts.packets import HOST, TICK
+
+SILENT = 300
+
+
+def silent_links(stage: Stage) -> None:
+    """Strangers open links and say nothing. The server has few of them at once, and the group goes on."""
+    stage.make(4, 4)
+    stage.start()
+    stage.say(1)
+    stage.wrote(0, 1)
+    server, address = stage.servers[0], stage.addresses[0]
+    most = stage.shape.clients + 32
+    links = [socket.create_connection(address, 30) for _ in range(SILENT)]
+    opened = open_files(server.process.pid)
+    demand(opened <= most + 40, f"a server with {SILENT} silent links has {opened} files open")
+    before = stage.written(0)
+    stage.wrote(0, before + 3)
+    stage.members[0].restart()
+    stage.members[1].restart()
+    stage.wrote(1, before + 5)
+    for link in links:
+        link.close()
+    stage.end_all()
+    stage.compare()
+    stage.pads()
+
+
+def open_files(process: int) -> int:
+    return len(list(Path(f"/proc/{process}/fd").iterdir()))
+
+
+def flooding_member(stage: Stage) -> None:
+    """A member that has written in all turns floods server 1 with bad frames, over one link after another. Nothing of it
+    gets into the journal, one line of error tells of it, and the others go on to their ends."""
+    stage.make(4, 4)
+    stage.start()
+    stage.say(1)
+    client, server = stage.members[2], stage.servers[0]
+    client.type("away 1000")
+    stage.wrote(2, stage.shape.turns)
+    client.kill()
+    own = server.count(3, *range(256))
+    sent = asyncio.run(flood(client.folder, 4, stage.rng.randbytes(200)))
+    stage.notes.append(f"{sent} bad frames")
+    demand(server.count(3, *range(256)) == own, "bad frames are in the journal")
+    demand(server.complaints().count("\n") <= 30, f"a flood wrote {server.complaints().count(chr(10))} lines of error")
+    for member in stage.members[:2]:
+        stage.until(member.is_over, "the end of the others")
+        demand(member.ended() == "ended done", f"beside a flood a member ended {member.ended()!r}")
+    server.restart()
+    client.start()
+    stage.end_all()
+    stage.compare()
+    stage.pads()
+
+
+async def flood(folder: Path, seconds: float, frame: bytes) -> int:
+    """Sends bad frames for so long, and gives how many."""
+    end, sent = time.monotonic() + seconds, 0
+    while time.monotonic() < end:
+        guest = Guest(folder)
+        try:
+            await guest.speak()
+            for _ in range(1000):
+                guest.link.send(frame)
+                sent += 1
+            await guest.link.writer.drain()
+        except BROKEN:
+            pass
+        finally:
+            if hasattr(guest, "link"):
+                guest.link.close()
+    return sent
+
+
+def unread_terminal(stage: Stage) -> None:
+    """Nobody reads what a member prints, and much is to be printed. It goes on, and so does the group."""
+    stage.make(4, 4)
+    for end in [*stage.servers, *stage.members[1:]]:
+        end.start()
+    unread = stage.members[0].start(reads_output=False)
+    for number in range(4000):
+        unread.process.stdin.write(b"say 1 not mine\nno line\n")
+        if number % 400 == 0:
+            unread.process.stdin.flush()
+    unread.process.stdin.flush()
+    unread.type("say 0 unread")
+    stage.say(1)
+    for member in stage.members[1:]:
+        stage.until(member.is_over, "the end of members beside an unread one")
+    stage.until(unread.is_over, "the end of an unread member")
+    demand(unread.process.returncode == 0, f"an unread member ended with {unread.process.returncode}")
+    unread.files.clear()
+    unread.start()
+    stage.until(unread.is_over, "what an unread member has to tell")
+    # (of the many lines that were typed nothing is left but those that the journal has)
+    unread.typed = [f"say {line.split(' ', 2)[1]} {text}" for line, text in said_in(unread)]
+    stage.end_all()
+    stage.compare()
+    for member in stage.members:
+        even_ticks(member.folder / "journal")
+
+
+def said_in(member) -> list:
+    """The texts that a journal has, each with its log."""
+    return [(f"say {int.from_bytes(data[1:5], 'big')} ", data[5:].decode())
+            for peer, data in member.journal()[1:] if peer == HOST and data[:1] == b"S"]
+
+
+def even_ticks(path: Path) -> None:
+    """Each tick's records are as long, with a text or without one."""
+    sizes, size = set(), 0
+    for peer, data in journal.records_of(path.read_bytes()).packets[1:]:
+        is_tick = peer == HOST and data == TICK
+        if is_tick or peer == FILLER or (peer == HOST and data[:1] == b"S"):
+            size += RECORD_SIZE + len(data)
+        if peer == FILLER:
+            sizes.add(size)
+            size = 0
+        elif peer != HOST:
+            size = 0
+    demand(len(sizes) <= 1, f"ticks have records of {sizes} bytes")

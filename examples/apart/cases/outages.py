@@ -1,0 +1,108 @@
+"""Servers that are away, clocks that are set, and addresses that change."""
+
+from __future__ import annotations
+
+import subprocess
+import time
+from pathlib import Path
+
+from cases.stage import NAMES, TICK_SECONDS, LeftOut, Stage, demand
+
+
+def outage(stage: Stage) -> None:
+    """A server is away for many ticks. No more than a tick waits for it, so turns don't run by when it is back."""
+    stage.make(5, 4)
+    stage.start()
+    stage.wrote(0, 2)
+    server = stage.servers[1]
+    server.kill()
+    time.sleep(1)
+    ticks = [it.ticks() for it in stage.members]
+    stage.say(2)
+    time.sleep(20 * TICK_SECONDS)
+    for member, before in zip(stage.members, ticks):
+        demand(member.ticks() <= before + 1, f"{member.ticks() - before} ticks were given while a server was away")
+    server.start()
+    began, ticks = time.monotonic(), [it.ticks() for it in stage.members]
+    stage.wrote(0, stage.written(0) + 4)
+    most = (time.monotonic() - began) / TICK_SECONDS + 2
+    for member, before in zip(stage.members, ticks):
+        demand(member.ticks() - before <= most, f"{member.ticks() - before} ticks in the time of {most:.1f}")
+    stage.end_all()
+    stage.compare()
+    stage.pads()
+
+
+def clock_steps(stage: Stage) -> None:
+    """Clocks are set an hour back and ahead, and a day. The group goes on at its pace, and certificates are good."""
+    stage.make(4, 4)
+    clocks = [stage.folder / f"clock-{client}" for client in range(3)]
+    for server in stage.servers:
+        server.start()
+    for member, clock in zip(stage.members, clocks):
+        member.start(clock=str(clock))
+    stage.say(2)
+    stage.wrote(0, 2)
+    for step in stage.rng.sample([-3600.0, 3600.0, -86_400.5, 0.6 * TICK_SECONDS, -0.6 * TICK_SECONDS, 7e8], 5):
+        clock = stage.rng.choice(clocks)
+        Path(f"{clock}.new").write_text(str(step))
+        Path(f"{clock}.new").rename(clock)
+        stage.wrote(0, stage.written(0) + 2)
+    stage.end_all()
+    stage.compare()
+    for name in NAMES:
+        words = ["openssl", "x509", "-noout", "-startdate", "-dateopt", "iso_8601", "-in", stage.folder / name / "cert.pem"]
+        made = subprocess.run(words, stdout=subprocess.PIPE, check=False).stdout.decode().strip()
+        if made:
+            began = time.mktime(time.strptime(made.partition("=")[2], "%Y-%m-%d %H:%M:%SZ")) - time.timezone
+            demand(time.time() - began > 86_000, f"a certificate begins at {made}")
+
+
+def address_change(stage: Stage) -> None:
+    """A member's address changes while it is linked: it comes again from the new one, and the group goes on."""
+    hub, far = f"hub{stage.rng.randrange(10**6)}", f"far{stage.rng.randrange(10**6)}"
+    try:
+        make_namespaces(hub, far)
+    except (OSError, subprocess.CalledProcessError):
+        drop_namespaces(hub, far)
+        raise LeftOut("it needs network namespaces, which only root may make") from None
+    try:
+        stage.make(4, 3, host="10.77.0.1")
+        for end in [*stage.servers, *stage.members[:2]]:
+            end.start(namespace=hub)
+        stage.members[2].start(namespace=far)
+        stage.say(1)
+        stage.wrote(2, 2)
+        command(f"ip -n {far} addr add 10.77.0.3/24 dev to-hub")
+        command(f"ip -n {far} addr del 10.77.0.2/24 dev to-hub")
+        command(f"ip -n {far} addr replace 10.77.0.3/24 dev to-hub")
+        began, before = time.monotonic(), stage.written(2)
+        stage.wrote(2, before + 4)
+        stage.notes.append(f"an address changed: {time.monotonic() - began:.0f} s to go on")
+        stage.end_all()
+        stage.compare()
+        stage.pads()
+    finally:
+        stage.kill_all()
+        drop_namespaces(hub, far)
+
+
+def make_namespaces(hub: str, far: str) -> None:
+    """Two namespaces with a line between them."""
+    for name in (hub, far):
+        command(f"ip netns add {name}")
+        command(f"ip -n {name} link set lo up")
+    command(f"ip -n {hub} link add to-far type veth peer name to-hub netns {far}")
+    command(f"ip -n {hub} addr add 10.77.0.1/24 dev to-far")
+    command(f"ip -n {far} addr add 10.77.0.2/24 dev to-hub")
+    command(f"ip -n {hub} link set to-far up")
+    command(f"ip -n {far} link set to-hub up")
+
+
+def drop_namespaces(*names: str) -> None:
+    for name in names:
+        subprocess.run(["ip", "netns", "del", name], stderr=subprocess.DEVNULL, check=False)
+
+
+def command(words: str) -> None:
+    subprocess.run(words.split(), check=True, stdout=subprocess.DEVNULL, stderr=subprocess.DEVNULL)

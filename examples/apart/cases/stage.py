@@ -1,0 +1,294 @@
+"""A group on the loopback that a case plays with: its folders, its processes, and what is compared at the end."""
+
+from __future__ import annotations
+
+import json
+import os
+import random
+import resource
+import shutil
+import signal
+import subprocess
+import sys
+import time
+from dataclasses import asdict, dataclass, field
+from pathlib import Path
+from typing import Any, Callable, Dict, Iterator, List, Sequence, Tuple
+
+import beside
+from meeting import WRITE, CameAbout, Shape, differences, texts_said
+from parts import journal
+from parts.limits import Limits
+from parts.packets import HOST, TICK, Packet
+from parts.printable import shown
+
+LOGS = [(0, [1, 2]), (1, [0, 2]), (2, [0, 1])]
+NAMES = ["ann", "ben", "cem"]
+WORDS = ["Friday", "café", "map", "→", "back\\slash", "in", "town", "?", "\u202eback", "\x9b31m", "\u2066iso"]
+TICK_SECONDS = 0.25
+# How long anything may take, in seconds.
+PATIENCE = 150
+# Two servers, three clients, three logs; phases and ticks follow.
+SMALL = [2, 8, 8, 36, 96, 1024, 2, 4, 3]
+FAST = Limits(pause=0.1, longest_pause=0.8, same_error=0.2, silence=6, last_lines=2)
+
+
+class Failed(Exception):
+    """What didn't come about."""
+
+
+class LeftOut(Exception):
+    """What can't be tried here."""
+
+
+def demand(holds: Any, what: str) -> None:
+    if not holds:
+        raise Failed(what)
+
+
+@dataclass
+class Options:
+    """How a switch is started for a trial."""
+
+    limits: Limits = FAST
+    clock: str = ""  # the path of a file with seconds by which its clock is wrong
+    lie: str = ""  # what it lies about
+    keeps: bool = True
+    most_bytes: int = 0  # of any file
+    reads_output: bool = True
+    namespace: str = ""
+
+    def words(self) -> List[str]:
+        """How the switch is started with these."""
+        tried = json.dumps({"limits": asdict(self.limits), "clock": self.clock, "lie": self.lie})
+        before = ["ip", "netns", "exec", self.namespace] if self.namespace else []
+        return [*before, sys.executable, str(beside.HERE / "cases" / "tried_switch.py"), tried]
+
+
+class End:
+    """A switch with its program: a server's or a member's."""
+
+    def __init__(self, stage: Stage, folder: Path, form: str, program: str) -> None:
+        self.stage, self.folder, self.form, self.program = stage, folder, form, program
+        stage.ends.append(self)
+        self.typed: List[str] = []
+        self.starts = 0
+        self.files: List[Tuple[Path, Path]] = []
+        self.process: subprocess.Popen | None = None
+
+    def start(self, **changes: Any) -> End:
+        options = Options(**changes)
+        self.starts += 1
+        out, err = (Path(f"{self.folder}.{self.starts}.{it}") for it in ("out", "err"))
+        self.files.append((out, err))
+        words = [*options.words(), self.form, str(self.folder), "--program", self.program]
+        words += ["--keep"] if options.keeps else []
+
+        def limit() -> None:
+            if options.most_bytes:
+                resource.setrlimit(resource.RLIMIT_FSIZE, (options.most_bytes, options.most_bytes))
+
+        with open(out, "wb") as told, open(err, "wb") as complaints:
+            sinks = (told, complaints) if options.reads_output else (subprocess.PIPE, subprocess.PIPE)
+            self.process = subprocess.Popen(words, stdin=subprocess.PIPE, stdout=sinks[0], stderr=sinks[1],
+                                            preexec_fn=limit)
+        self.stage.started.append(self.process)
+        return self
+
+    def kill(self) -> None:
+        """As a power cut would."""
+        self.process.kill()
+        self.process.wait()
+
+    def stop(self) -> None:
+        self.process.send_signal(signal.SIGTERM)
+        self.process.wait(PATIENCE)
+
+    def restart(self, **changes: Any) -> None:
+        self.kill()
+        self.start(**changes)
+
+    def type(self, line: str) -> None:
+        if line.startswith("say "):
+            self.typed.append(line)
+        self.process.stdin.write(line.encode() + b"\n")
+        self.process.stdin.flush()
+
+    def journal(self) -> List[Packet]:
+        """What the program was given."""
+        path = self.folder / "journal"
+        return journal.given(path) if path.exists() else []
+
+    def count(self, peer: int, *kinds: int) -> int:
+        """How many packets of these kinds it was given by a peer."""
+        return sum(1 for it, data in self.journal() if it == peer and data[:1] and data[0] in kinds)
+
+    def ticks(self) -> int:
+        return sum(it == (HOST, TICK) for it in self.journal())
+
+    def is_over(self) -> bool:
+        return self.process.poll() is not None
+
+    def ended(self) -> str:
+        """How it ended, if it has."""
+        return self.told()[-1] if self.is_over() and self.told() else ""
+
+    def told(self, start: int = -1) -> List[str]:
+        """The lines that a start wrote."""
+        return self.files[start][0].read_bytes().decode().split("\n")[:-1]
+
+    def lines(self, word: str, start: int = -1) -> List[str]:
+        return [it for it in self.told(start) if it.split(" ")[0] == word]
+
+    def complaints(self) -> str:
+        """What the last start complained about."""
+        return self.files[-1][1].read_text(errors="replace")
+
+
+@dataclass
+class Programs:
+    serve: str
+    member: str
+    talek: str
+
+
+class Stage:
+    """A group in a folder, which is played with."""
+
+    def __init__(self, programs: Programs, homes: Path, folder: Path, seed: int) -> None:
+        self.programs, self.homes, self.folder = programs, homes, folder
+        self.rng = random.Random(f"{seed} {folder.name}")
+        self.started: List[subprocess.Popen] = []
+        self.host = f"127.{self.rng.randint(10, 250)}.{self.rng.randint(1, 250)}.{self.rng.randint(1, 250)}"
+        self.notes: List[str] = []
+        self.ends: List[End] = []
+
+    # ---- the group
+
+    def make(self, phases: int, ticks: int, form: int = 1, base: Sequence[int] = SMALL, host: str = "",
+             seconds: float = TICK_SECONDS) -> None:
+        """Makes the folders of all as three people would, each on the own machine."""
+        self.shape = Shape(form, [*base, phases, ticks, 3])
+        for name in [*NAMES, "dan"]:
+            shutil.copytree(self.homes / name, self.folder / name)
+            shutil.copy(self.homes / f"{name}.identity", self.folder)
+        host = host or self.host
+        ports = beside.free_ports(2, host if host.startswith("127.") else "127.0.0.1")
+        self.addresses = [(host, port) for port in ports]
+        plan = [f"server {name} {host}:{port}" for name, port in zip(NAMES, ports)]
+        plan += [f"client {name}" for name in NAMES]
+        plan += [" ".join(["log", NAMES[w], *(NAMES[it] for it in followers)]) for w, followers in LOGS]
+        plan += [f"format {form}", f"tick {seconds}"]
+        plan += [f"shape {field} {value}" for field, value in zip(beside.FIELDS, self.shape.numbers)]
+        (self.folder / "plan").write_text("\n".join(plan) + "\n")
+        lines = self.tool("new", "plan", *(f"{name}.identity" for name in NAMES))
+        (self.folder / "group").write_bytes(lines)
+        for name in NAMES:
+            self.tool("folder", "group", name)
+        self.servers = [self.end(self.place(NAMES[j], f"server-{j + 1}"), "serve") for j in range(2)]
+        self.members = [self.end(self.place(NAMES[c], f"client-{c}"), "join") for c in range(3)]
+
+    def tool(self, *words: Any) -> bytes:
+        """What `group` writes."""
+        made = self.try_tool(*words)
+        demand(made.returncode == 0, f"group {' '.join(map(str, words))}: {made.stderr.decode()}")
+        return made.stdout
+
+    def try_tool(self, *words: Any) -> subprocess.CompletedProcess:
+        return subprocess.run([sys.executable, beside.HERE / "group", *map(str, words)], cwd=self.folder,
+                              stdout=subprocess.PIPE, stderr=subprocess.PIPE)
+
+    def place(self, name: str, role: str, run: int = 1) -> Path:
+        return self.folder / name / f"run-{run}-{role}"
+
+    def end(self, folder: Path, form: str) -> End:
+        program = self.programs.serve if form == "serve" else self.programs.member
+        return End(self, folder, form, program)
+
+    def start(self, **changes: Any) -> None:
+        for end in [*self.servers, *self.members]:
+            end.start(**changes)
+
+    # ---- what happens
+
+    def until(self, holds: Callable[[], Any], what: str, seconds: float = PATIENCE) -> None:
+        """Waits until something holds, as long as no switch broke."""
+        end = time.monotonic() + seconds
+        while not holds():
+            broken = [it for it in self.ends if it.process and it.process.poll() == 1]
+            if broken:
+                raise Failed(f"{broken[0].folder} broke: {broken[0].complaints()[-1000:]}")
+            if time.monotonic() > end:
+                raise Failed(f"waited in vain for {what}")
+            time.sleep(0.1)
+
+    def say(self, count: int) -> None:
+        """Each says some texts."""
+        for client, member in enumerate(self.members):
+            for _ in range(self.rng.randint(1, count)):
+                self.say_one(client, member)
+
+    def say_one(self, client: int, member: End | None = None) -> None:
+        words = " ".join(self.rng.choices(WORDS, k=self.rng.randint(0, 7)))
+        (member or self.members[client]).type(f"say {client} {words}")
+
+    def wrote(self, client: int, turns: int) -> None:
+        """Waits until both servers have so many writes of a client."""
+        turns = min(turns, self.shape.turns)
+        self.until(lambda: all(it.count(client + 1, WRITE) >= turns for it in self.servers), f"{turns} writes of {client}")
+
+    def written(self, client: int) -> int:
+        return min(it.count(client + 1, WRITE) for it in self.servers)
+
+    def end_all(self) -> None:
+        for end in self.members + self.servers:
+            self.until(end.is_over, f"the end of {end.folder}: {end.complaints()[-300:]}")
+            demand(end.ended() == "ended done", f"{end.folder} ended with {end.ended()}: {end.complaints()[-300:]}")
+
+    def kill_all(self) -> None:
+        for it in self.started:
+            if it.poll() is None:
+                it.kill()
+                it.wait()
+
+    # ---- what is compared
+
+    def compare(self) -> None:
+        """What came about is what is defined, and each text has its fate."""
+        setups = [(it.folder / "setup").read_bytes() for it in self.members]
+        served, journals = ([it.journal() for it in ends] for ends in (self.servers, self.members))
+        told = [it.told()[:-1] for it in self.members]
+        wrong = list(differences(self.programs, CameAbout(self.shape, setups, journals, served, told)))
+        demand(not wrong, "; ".join(wrong)[:2000])
+        for client in range(len(self.members)):
+            self.compare_fates(client, journals[client])
+
+    def compare_fates(self, client: int, packets: List[Packet]) -> None:
+        """Each text that was typed was sent as it was told, or refused, or told as unsent, and one of these alone."""
+        member = self.members[client]
+        said = list(texts_said(self.programs.member, client, packets, self.shape.turns))
+        counts: Dict[int, int] = {}
+        due = []
+        for turn, _, log, _ in said:
+            due.append(f"sent {log} {counts.get(log, 0)} {turn}")
+            counts[log] = counts.get(log, 0) + 1
+        demand(member.lines("sent") == due, f"client {client} told {member.lines('sent')} as sent, and not {due}")
+        typed = sorted(it.split(" ", 2)[2] for it in member.typed)
+        starts = range(len(member.files))
+        unsent = [it.split(" ", 2)[2] for start in starts for it in member.lines("unsent", start)]
+        refused = sum(len(member.lines("refused", start)) for start in starts)
+        fates = sorted([*unsent, *(shown(text) for _, _, _, text in said)])
+        rest = list(map(shown, typed))
+        for words in fates:
+            demand(words in rest, f"client {client} told a fate of {words!r}, which wasn't typed")
+            rest.remove(words)
+        demand(len(rest) == refused, f"of client {client} {rest} have no fate, and {refused} were refused")
+
+    def pads(self) -> None:
+        """No two writes of one client and turn differ, wherever they went."""
+        found: Dict[Tuple[int, bytes], bytes] = {}
+        for server in self.servers:
+            for peer, data in server.journal()[1:]:
+                if data[0] == WRITE:
+                    before = found.setdefault((peer, data[6:10]), data)
+                    demand(before == data, f"client {peer - 1} used a pad twice")

@@ -1,0 +1,1 @@
+"""What `switch` and `group` are made of, a file for each idea."""

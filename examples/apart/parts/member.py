@@ -1,0 +1,329 @@
+"""A member's end of all links, its clock, and what is typed."""
+
+from __future__ import annotations
+
+import asyncio
+import os
+import random
+import secrets
+import socket
+import ssl
+from pathlib import Path
+from typing import Callable, Dict, List, Protocol
+
+from parts.carrier import Carrier
+from parts.clock import Clock, until_next
+from parts.errors import End, Stop, Wrong
+from parts.folder import Place
+from parts.frames import WRITE
+from parts.journal import INSTANCE, RECORD_SIZE, filler
+from parts.limits import Limits
+from parts.link import COUNT, INSTANCE_SIZE, NO_INSTANCE, Greeting, Link, Mark, Sender
+from parts.outbox import ALL
+from parts.packets import HOST, LONGEST, NUMBER, TICK, Packet, ahead, has, number_at, say
+from parts.printable import shown
+from parts.printer import Complaints
+from parts.sentry import Differ, Sentry
+from parts.texts import Fates, Judge, Text, Waiting, packets_of_texts, read_line
+
+# After how many more packets a member says how many of a server's are on its disk.
+SOME = 16
+# Why a text isn't said, by the code that the program gives.
+CAUSES = {1: "writer", 2: "long", 3: "text"}
+
+
+class ToServer(Sender):
+    """Sends a server what it lacks, and now and then how many of its packets are on disk."""
+
+    def __init__(self, member: Member, link: Link, server: int, number: int) -> None:
+        super().__init__(link, member.carrier.outbox(server), number)
+        self.member, self.server = member, server
+
+    def behind(self) -> None:
+        kept = self.member.carrier.on_disk(self.server)
+        if kept >= self.link.said + SOME and self.link.said != ALL:
+            self.link.send_mark(Mark.KEPT, COUNT.pack(kept))
+            self.link.said = kept
+
+
+class Lines(Protocol):
+    """Where typed lines come from."""
+
+    async def get(self) -> bytes:
+        ...
+
+
+class Member:
+    """A member's switch."""
+
+    def __init__(self, place: Place, put: Callable[[str], None], complaints: Complaints, limits: Limits,
+                 clock: Clock) -> None:
+        self.place, self.put, self.complaints, self.limits, self.clock = place, put, complaints, limits, clock
+        self.carrier = Carrier(place, limits)
+        self.carrier.on_given, self.carrier.on_sent, self.carrier.on_told = self.given, self.sent, self.told
+        self.sentry, self.fates = Sentry(place.group), Fates(place.group)
+        self.judge = Judge(place.group, place.number - 1)
+        self.waiting: Waiting | None = None
+        self.instance = secrets.token_bytes(INSTANCE_SIZE)
+        self.own: set[bytes] = {NO_INSTANCE}  # the instances that the journal has
+        self.servers = range(1, place.group.shape.servers + 1)
+        self.greeted: set[int] = set()  # the servers whose links greeted
+        self.links: Dict[int, Link] = {}  # by server, the link over which this instance speaks
+        self.may_speak, self.is_heard = asyncio.Event(), asyncio.Event()
+        self.counted: set[int] = set()  # the servers of which the program was told how many packets they have
+        self.left: set[int] = set()  # the servers that heard that this member needs no more
+        self.pauses = {server: limits.pause for server in self.servers}
+        # a tick's records are as long with a text as without one
+        self.tick_size = len(say(0, bytes(place.group.shape.longest_text))) + 3 * RECORD_SIZE + len(TICK) + 1
+
+    # ---- what its program is given, sends and tells
+
+    def given(self, peer: int, data: bytes) -> None:
+        self.fates.take(peer, data)
+        if peer != HOST:
+            self.sentry.took(peer, data)
+
+    def sent(self, server: int, frame: bytes) -> None:
+        self.sentry.sent(server, frame)
+        if server == len(self.servers) and frame[0] == WRITE:
+            for text, number, turn in self.fates.wrote():
+                self.put(f"sent {text.log} {number} {turn}")
+
+    def told(self, data: bytes) -> None:
+        self.put(line_of(data))
+
+    # ---- its links
+
+    async def visit(self, server: int, context: ssl.SSLContext) -> None:
+        """One link to a server, until it breaks."""
+        _, host, port = self.place.group.servers[server - 1]
+        opening = asyncio.open_connection(host, port, ssl=context, ssl_handshake_timeout=self.limits.greeting)
+        reader, writer = await asyncio.wait_for(opening, 2 * self.limits.greeting)
+        link = Link(self.place, reader, writer, self.limits)
+        try:
+            link.check_certificate(server)
+            link.greet(self.instance, self.carrier.taken[server])
+            greeting = await asyncio.wait_for(link.hear_greeting(), self.limits.greeting)
+            self.check_greeting(server, link, greeting)
+            await self.speak(server, link)
+            await self.carry(server, link, greeting.count)
+        finally:
+            self.sentry.forget(server)
+            if self.links.get(server) is link:
+                del self.links[server]
+            if not self.may_speak.is_set():
+                self.greeted.discard(server)
+            link.close()
+
+    def check_greeting(self, server: int, link: Link, greeting: Greeting) -> None:
+        """Judges what a server says before anything of it is kept."""
+        link.check_digest(greeting)
+        if greeting.peer != server:
+            raise Wrong(f"at its address there is server {greeting.peer}")
+        if greeting.instance not in self.own:
+            raise Stop(End.COPIED, f"server {server} heard another start of this member, of which this folder knows "
+                                   "nothing: this is a copy, or older than what ran last, or the server lies")
+        self.check_count(server, greeting.count)
+
+    def check_count(self, server: int, count: int) -> None:
+        sent = self.carrier.outbox(server).count
+        if count > sent:
+            raise Stop(End.OLDER, f"server {server} says that it has {count} packets of this member, which sent {sent}: "
+                                  "this folder is older than what ran last, or the server lies")
+
+    async def speak(self, server: int, link: Link) -> None:
+        """Speaks for this member once all servers greeted it: each of them then hears this instance alone."""
+        self.greeted.add(server)
+        if len(self.greeted) == len(self.servers) or self.carrier.is_done():
+            self.may_speak.set()
+        asking = asyncio.create_task(self.ask_to_speak(link))
+        try:
+            mark, data = await link.next(0)
+        finally:
+            asking.cancel()
+        if mark is Mark.CLOSED:
+            raise Wrong("it takes nothing more of this member, since it refused a frame of it")
+        if mark is not Mark.HEARD:
+            raise Wrong("it sends something before it heard who speaks")
+        (count,) = COUNT.unpack(data)
+        self.check_count(server, count)
+        if server not in self.counted:
+            self.counted.add(server)
+            self.carrier.feed([(HOST, has(count))])
+        self.links[server], self.pauses[server] = link, self.limits.pause
+        if len(self.links) == len(self.servers):
+            self.is_heard.set()
+
+    async def ask_to_speak(self, link: Link) -> None:
+        await self.may_speak.wait()
+        link.send_mark(Mark.SPEAKS)
+
+    async def carry(self, server: int, link: Link, count: int) -> None:
+        """Sends what the server lacks and takes what it sends, until the link breaks."""
+        sending = asyncio.create_task(ToServer(self, link, server, count).run())
+        try:
+            while True:
+                mark, data = await link.next(LONGEST)
+                if mark is Mark.WRITES:
+                    self.sentry.hear_digests(server, number_at(data, 0), data[NUMBER.size :])
+                elif mark is Mark.HEARD and self.carrier.is_done():
+                    self.left.add(server)
+                elif mark:
+                    raise Wrong("it sends a mark that no server sends")
+                else:
+                    self.carrier.feed(self.sentry.judge(server, data))
+                    await self.carrier.room.wait()
+        finally:
+            sending.cancel()
+
+    async def keep_link(self, server: int, context: ssl.SSLContext) -> None:
+        """A link to a server, again and again. The waits grow, and are mixed, so that a group doesn't come at once."""
+        while True:
+            try:
+                await self.visit(server, context)
+            except asyncio.IncompleteReadError:
+                pass  # it was closed, as when the server is started anew
+            except Stop as stop:
+                self.carrier.stop(stop.end, str(stop))
+                return
+            except Differ as why:
+                self.complaints.tell(str(why))
+                self.pauses = {it: self.limits.longest_pause for it in self.servers}
+            except Wrong as why:
+                self.complaints.tell(f"server {server}: {why}")
+                self.pauses[server] = max(self.pauses[server], 4 * self.limits.pause)
+            except (OSError, asyncio.TimeoutError) as why:
+                self.complaints.tell(f"server {server}: {cause_of(why)}")
+            pause = self.pauses[server]
+            self.pauses[server] = min(2 * pause, self.limits.longest_pause)
+            await asyncio.sleep(pause * random.uniform(0.5, 1.5))
+
+    # ---- its clock
+
+    async def tick(self) -> None:
+        """Gives ticks, where the last one's write is out and all servers are there: at most one waits, and one that
+        can't be given is left out."""
+        await self.is_heard.wait()
+        is_first, seconds = True, self.place.group.tick
+        while True:
+            await self.clock.wait(until_next(self.clock.now(), seconds, is_first))
+            is_first = False
+            if self.may_act() and self.fates.is_quiet():
+                texts = self.waiting.take(1)
+                self.carrier.feed(self.tick_packets(texts))
+                self.save(texts)
+
+    def may_act(self) -> bool:
+        return len(self.links) == len(self.servers) and not self.carrier.over.is_set()
+
+    def tick_packets(self, texts: List[Text]) -> List[Packet]:
+        packets = [*packets_of_texts(texts), (HOST, TICK)]
+        size = sum(RECORD_SIZE + len(data) for _, data in packets)
+        return [*packets, filler(self.tick_size - size)]
+
+    def save(self, texts: List[Text]) -> None:
+        """What was taken waits no more."""
+        if texts:
+            self.waiting.save()
+
+    # ---- what is typed
+
+    async def take_line(self, line: bytes) -> None:
+        """Takes a line that was typed."""
+        said = read_line(line)
+        if said is None:
+            self.complaints.tell("want 'say LOG TEXT' or 'away N'")
+        elif said.text is None:
+            await self.go_away(said.turns)
+        else:
+            self.say(said.text)
+
+    def say(self, text: Text) -> None:
+        cause = self.judge.refuses(text)
+        if cause is None and len(self.waiting.texts) >= self.fates.turns_left():
+            cause = "over"
+        if cause is None and not self.waiting.has_room(text):
+            cause = "full"
+        if cause:
+            self.put(f"refused {text.log} {cause}")
+        else:
+            self.waiting.put(text)
+
+    async def go_away(self, turns: int) -> None:
+        """Writes turns ahead, as many as there are, with the texts that wait."""
+        while not self.may_act():
+            await asyncio.sleep(0.1)
+            if self.carrier.over.is_set():
+                return
+        count = min(turns, self.fates.turns_left())
+        texts = self.waiting.take(count)
+        self.carrier.feed([*packets_of_texts(texts), (HOST, ahead(count))])
+        self.save(texts)
+        self.put(f"away {count}")
+        if count < turns:
+            self.complaints.tell(f"away {turns}: only {count} turns were left")
+        self.give_up(self.waiting.take(len(self.waiting.texts) - self.fates.turns_left()))
+
+    def give_up(self, texts: List[Text]) -> None:
+        for text in texts:
+            self.put(f"unsent {text.log} {shown(text.words)}")
+
+    # ---- its run
+
+    async def run(self, program: Path, lines: Lines) -> None:
+        context = self.place.context()
+        notes = await self.carrier.start(program, fenced=True)
+        self.own |= {data for peer, data in notes if peer == INSTANCE}
+        await self.carrier.keep([(INSTANCE, self.instance)])
+        self.own.add(self.instance)
+        self.waiting = Waiting(self.place.folder / "typed", sum(self.fates.counts.values()) + len(self.fates.given))
+        self.give_up(self.waiting.left)
+        works = [self.keep_link(server, context) for server in self.servers]
+        tasks = [asyncio.create_task(work) for work in [*works, self.tick(), self.listen(lines)]]
+        await self.carrier.over.wait()
+        if self.carrier.is_done():
+            await self.take_leave()
+        await asyncio.gather(*(link.part() for link in self.links.values()))
+        for task in tasks:
+            task.cancel()
+        await asyncio.gather(*tasks, return_exceptions=True)
+        await self.carrier.close()
+        self.give_up(self.waiting.take(len(self.waiting.texts)))
+        self.waiting.save()
+        for text in [] if self.carrier.is_done() else self.fates.on_the_way():
+            self.put(f"waits {text.log} {shown(text.words)}")
+
+    def is_told(self) -> bool:
+        """Whether each server heard that this member needs no more."""
+        return len(self.left) == len(self.servers)
+
+    async def listen(self, lines: Lines) -> None:
+        while True:
+            await self.take_line(await lines.get())
+
+    async def take_leave(self) -> None:
+        """Says to each server that all has come, so that it may end, if it is there yet."""
+        end = asyncio.get_running_loop().time() + self.limits.farewell
+        while not self.is_told() and asyncio.get_running_loop().time() < end:
+            await asyncio.sleep(0.05)
+
+
+def cause_of(why: Exception) -> str:
+    """Why there is no link."""
+    if isinstance(why, asyncio.TimeoutError) and not str(why):
+        return "it doesn't answer"
+    if isinstance(why, ssl.SSLError):
+        return f"no TLS: {why.reason or why}"
+    if isinstance(why, OSError) and why.errno and not isinstance(why, socket.gaierror):
+        return os.strerror(why.errno)
+    return str(why) or type(why).__name__
+
+
+def line_of(data: bytes) -> str:
+    """The line of a packet that a member's program has for its host."""
+    log, rest = number_at(data, 1), data[5:]
+    if data[:1] == b"r":
+        return f"refused {log} {CAUSES.get(rest[0], rest[0])}"
+    if data[:1] == b"a":
+        return f"absent {log} {number_at(rest, 0)}"
+    return f"text {log} {number_at(rest, 0)} {shown(rest[4:])}"

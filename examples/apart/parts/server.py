@@ -1,0 +1,171 @@
+"""A server's end of all links."""
+
+from __future__ import annotations
+
+import asyncio
+import ssl
+from pathlib import Path
+from typing import Callable, Dict, List
+
+from parts.carrier import Carrier
+from parts.door import Door, listening_at
+from parts.errors import Wrong
+from parts.folder import Place
+from parts.frames import EPOCH, Intake, digests_at, refusal
+from parts.journal import INSTANCE
+from parts.limits import Limits
+from parts.link import COUNT, NO_INSTANCE, Greeting, Link, Mark, Sender
+from parts.outbox import ALL
+from parts.packets import HOST, NUMBER, number_at
+from parts.printer import Complaints
+
+BROKEN = (OSError, asyncio.IncompleteReadError, ssl.SSLError)
+
+
+class ToMember(Sender):
+    """Sends a member what it lacks, and before each epoch what was written in its phase."""
+
+    def __init__(self, server: Server, link: Link, peer: int, number: int) -> None:
+        super().__init__(link, server.carrier.outbox(peer), number)
+        self.server = server
+
+    def before(self, data: bytes) -> None:
+        if data[0] == EPOCH:
+            phase = number_at(data, 2)
+            self.link.send_mark(Mark.WRITES, NUMBER.pack(phase) + digests_at(self.server.intakes, phase))
+
+
+class Server:
+    """A server's switch."""
+
+    def __init__(self, place: Place, complaints: Complaints, limits: Limits) -> None:
+        self.place, self.complaints, self.limits = place, complaints, limits
+        self.carrier = Carrier(place, limits)
+        self.carrier.on_given = self.given
+        group = place.group
+        self.intakes: List[Intake] = [Intake(group.format, group.shape, it) for it in range(group.shape.clients)]
+        self.longest = group.longest_frame()
+        self.speaks: Dict[int, bytes] = {}  # by client, the last instance that spoke for it
+        self.greeted: Dict[int, Link] = {}  # by client, the last link that greeted, and the one that speaks
+        self.links: Dict[int, Link] = {}
+        self.closed: set[int] = set()  # the clients of whom nothing more is taken
+
+    def given(self, peer: int, data: bytes) -> None:
+        if peer != HOST:
+            self.intakes[peer - 1].take(data)
+
+    async def run(self, program: Path) -> None:
+        place = self.place
+        context = place.context()
+        _, host, port = place.group.servers[place.number - 1]
+        listening = listening_at(host, port)
+        for _, note in [it for it in await self.carrier.start(program, fenced=False) if it[0] == INSTANCE]:
+            self.speaks[number_at(note, 0)] = note[NUMBER.size :]
+        most = place.group.shape.clients + self.limits.strangers
+        door = Door(context, most, self.limits.greeting, self.answer, self.complaints.tell)
+        task = asyncio.create_task(door.run(listening))
+        await self.carrier.over.wait()
+        # the last replies are on their way, or a member will fetch them
+        while self.carrier.is_done() and not self.carrier.is_delivered():
+            await asyncio.sleep(0.1)
+        task.cancel()
+        listening.close()
+        await asyncio.gather(*(link.part() for link in list(self.links.values())))
+        await door.close()
+        await self.carrier.close()
+
+    def is_told(self) -> bool:
+        """Whether each member needs no more."""
+        return self.carrier.is_delivered()
+
+    # ---- one link
+
+    async def answer(self, reader: asyncio.StreamReader, writer: asyncio.StreamWriter,
+                     has_greeted: Callable[[], None]) -> None:
+        """A member that comes."""
+        link = Link(self.place, reader, writer, self.limits)
+        peer = None
+        try:
+            greeting = await link.hear_greeting()
+            has_greeted()
+            link.check_certificate(greeting.peer)
+            peer = greeting.peer
+            link.greet(self.speaks.get(peer, NO_INSTANCE), self.carrier.taken[peer])
+            link.check_digest(greeting)
+            await self.serve(link, greeting)
+        except Wrong as why:
+            who = f"{self.place.group.clients[peer - 1]} (client {peer - 1})" if peer else "a stranger"
+            self.complaints.tell(f"{who}: {why}")
+            await link.part()
+        except BROKEN:
+            pass
+        finally:
+            for links in (self.greeted, self.links):
+                if peer and links.get(peer) is link:
+                    del links[peer]
+            link.close()
+
+    async def serve(self, link: Link, greeting: Greeting) -> None:
+        """What follows a greeting: the member speaks once all servers greeted it."""
+        peer, outbox = greeting.peer, self.carrier.outbox(greeting.peer)
+        if peer in self.closed:
+            link.send_mark(Mark.CLOSED)
+            raise Wrong("nothing more is taken of it, since a frame of it was refused")
+        if greeting.count < outbox.first:
+            raise Wrong("it lost what it had on disk: start this switch anew to give it all again")
+        self.replace(self.greeted, peer, link)
+        mark, _ = await link.next(0)
+        if mark is not Mark.SPEAKS:
+            raise Wrong("it sends something before it speaks")
+        await self.let_speak(peer, link, greeting.instance)
+        sending = asyncio.create_task(ToMember(self, link, peer, greeting.count).run())
+        try:
+            await self.take_all(peer, link)
+        finally:
+            sending.cancel()
+
+    async def let_speak(self, peer: int, link: Link, instance: bytes) -> None:
+        """From now on this link alone speaks for a client. Which instance does is on disk before it is told so."""
+        self.replace(self.links, peer, link)
+        if self.speaks.get(peer) != instance:
+            self.speaks[peer] = instance
+            await self.carrier.keep([(INSTANCE, NUMBER.pack(peer) + instance)])
+        if self.links.get(peer) is link:
+            link.send_mark(Mark.HEARD, COUNT.pack(self.carrier.taken[peer]))
+
+    def replace(self, links: Dict[int, Link], peer: int, link: Link) -> None:
+        before = links.get(peer)
+        links[peer] = link
+        if before and before is not link:
+            before.close()
+
+    async def take_all(self, peer: int, link: Link) -> None:
+        """Takes what a member sends, until its link breaks."""
+        kept = 0
+        while self.links.get(peer) is link:
+            mark, data = await link.next(self.longest)
+            if self.links.get(peer) is not link:
+                return
+            if mark is Mark.KEPT:
+                (count,) = COUNT.unpack(data)
+                if count != ALL and not kept < count <= self.carrier.outbox(peer).count:
+                    raise Wrong("it says that it has what wasn't sent")
+                kept = count
+                self.carrier.outbox(peer).forget(count)
+                if count == ALL:
+                    link.send_mark(Mark.HEARD, COUNT.pack(self.carrier.taken[peer]))
+            elif mark:
+                raise Wrong("it sends a mark that a member doesn't send")
+            else:
+                self.take(peer, link, data)
+                await self.carrier.room.wait()
+
+    def take(self, peer: int, link: Link, data: bytes) -> None:
+        """Takes a frame. Where the program would refuse it, it isn't given to it, and nothing more is taken."""
+        cause = self.intakes[peer - 1].cause(data)
+        if cause is None:
+            self.carrier.feed([(peer, data)])
+            return
+        self.closed.add(peer)
+        link.send(refusal(cause))
+        raise Wrong(f"a frame of it is refused ({cause.name.lower()}), so nothing more is taken of it")
