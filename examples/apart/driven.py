@@ -2,8 +2,7 @@
 
 import subprocess
 
-from parts.frames import REFUSED
-from parts.packets import FENCE, FENCE_ANSWER, HEAD, spelled
+from parts.packets import FENCES, HEAD, spelled
 
 
 class Driven:
@@ -11,10 +10,7 @@ class Driven:
 
     def __init__(self, path, setup, client=False):
         self.child = subprocess.Popen([path], stdin=subprocess.PIPE, stdout=subprocess.PIPE, stderr=subprocess.DEVNULL)
-        # a packet that is refused, and how its answer begins; to a server it is an empty one of client 0
-        self.fence, self.echo = (1, b""), (1, bytes([REFUSED]))
-        if client:
-            self.fence, self.echo = (0, FENCE), (0, FENCE_ANSWER)
+        self.fence, self.echo = FENCES["client" if client else "server"]
         # what it was given, packet by packet, and the packets with which it answered each; and how it ended
         self.given, self.steps, self.code = [], [], None
         self.give(0, setup)

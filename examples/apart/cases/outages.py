@@ -2,6 +2,7 @@
 
 from __future__ import annotations
 
+import os
 import subprocess
 import time
 from pathlib import Path
@@ -60,7 +61,7 @@ def clock_steps(stage: Stage) -> None:
 
 def address_change(stage: Stage) -> None:
     """A member's address changes while it is linked: it comes again from the new one, and the group goes on."""
-    hub, far = f"hub{stage.rng.randrange(10**6)}", f"far{stage.rng.randrange(10**6)}"
+    hub, far = (f"talek-{name}-{os.getpid()}" for name in ("hub", "far"))
     try:
         make_namespaces(hub, far)
     except (OSError, subprocess.CalledProcessError):

@@ -2,22 +2,24 @@
 
 from __future__ import annotations
 
+import base64
 import json
-import os
 import random
 import resource
+import secrets
 import shutil
 import signal
 import subprocess
 import sys
 import time
-from dataclasses import asdict, dataclass, field
+from dataclasses import asdict, dataclass
 from pathlib import Path
-from typing import Any, Callable, Dict, Iterator, List, Sequence, Tuple
+from typing import Any, Callable, Dict, List, Sequence, Tuple
 
 import beside
 from meeting import WRITE, CameAbout, Shape, differences, texts_said
-from parts import journal
+from parts import home, journal
+from parts.keys import KEY
 from parts.limits import Limits
 from parts.packets import HOST, TICK, Packet
 from parts.printable import shown
@@ -57,10 +59,13 @@ class Options:
     most_bytes: int = 0  # of any file
     reads_output: bool = True
     namespace: str = ""
+    times: str = ""  # where a server writes when it took writes
+    slow: float = 0  # how many seconds a disk takes more
 
     def words(self) -> List[str]:
         """How the switch is started with these."""
-        tried = json.dumps({"limits": asdict(self.limits), "clock": self.clock, "lie": self.lie})
+        tried = json.dumps({"limits": asdict(self.limits), "clock": self.clock, "lie": self.lie, "times": self.times,
+                            "slow": self.slow})
         before = ["ip", "netns", "exec", self.namespace] if self.namespace else []
         return [*before, sys.executable, str(beside.HERE / "cases" / "tried_switch.py"), tried]
 
@@ -143,6 +148,23 @@ class End:
     def complaints(self) -> str:
         """What the last start complained about."""
         return self.files[-1][1].read_text(errors="replace")
+
+
+def make_homes(folder: Path) -> None:
+    """The key pairs and the roots of all, which each group takes copies of."""
+    folder.mkdir(parents=True)
+    for name in [*NAMES, "dan"]:
+        made = folder / name
+        made.mkdir()
+        home.certified(made, name)
+        certificate = base64.b64encode(home.certificate_of(made)).decode()
+        (folder / f"{name}.identity").write_text(f"identity {name} {certificate}\n")
+    for log in range(len(NAMES)):
+        digits = secrets.token_hex(KEY) + "\n"
+        for name in NAMES:
+            path = folder / name / f"root-{log}"
+            path.write_text(digits)
+            path.chmod(0o600)
 
 
 @dataclass

@@ -1,4 +1,4 @@
-"""A switch as `trial` starts it: with shorter times, with a clock that can be set, or with a lie that it tells.
+"""A switch as `trial` starts it: with shorter times, with a clock that can be set, with a lie that it tells, or measured.
 
 usage: tried_switch.py OPTIONS serve|join FOLDER ..
 """
@@ -12,11 +12,12 @@ import time
 sys.dont_write_bytecode = True
 sys.path.insert(0, str(pathlib.Path(__file__).resolve().parent.parent))
 
-from parts import link, member
+from parts import journal, member, server
 from parts.clock import Clock
 from parts.frames import EPOCH, REFUSED, REPLY, WRITE
 from parts.limits import Limits
 from parts.link import COUNT, Link, Mark
+from parts.packets import number_at
 from parts.running import main
 
 
@@ -131,9 +132,39 @@ LIES["block"] = lambda: writes_differently(-1 % 122)
 LIES["filter position"] = lambda: writes_differently(21)
 
 
+# ---- what is measured
+
+
+def tell_times(path):
+    """A server writes the client, the turn and the time of each write that it takes."""
+    file, honest = open(path, "a", buffering=1), server.Server.take
+
+    def take(self, peer, link, data):
+        if data[0] == WRITE:
+            file.write(f"{peer - 1} {number_at(data, 6)} {time.time():.6f}\n")
+        honest(self, peer, link, data)
+
+    server.Server.take = take
+
+
+def slow_disk(seconds):
+    """A disk that takes longer."""
+    honest = journal.Journal.write
+
+    def write(self, data):
+        honest(self, data)
+        time.sleep(seconds)
+
+    journal.Journal.write = write
+
+
 if __name__ == "__main__":
     options = json.loads(sys.argv[1])
     if options["lie"]:
         LIES[options["lie"]]()
+    if options["times"]:
+        tell_times(options["times"])
+    if options["slow"]:
+        slow_disk(options["slow"])
     clock = SetClock(options["clock"]) if options["clock"] else Clock()
     main("a switch of a trial", sys.argv[2:], Limits(**options["limits"]), clock)

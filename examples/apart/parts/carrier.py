@@ -12,7 +12,7 @@ from parts.folder import Place
 from parts.journal import LEAST_NOTE, Journal
 from parts.limits import Limits
 from parts.outbox import ALL, Outbox
-from parts.packets import FENCE, FENCE_ANSWER, HEAD, HOST, Packet, spelled
+from parts.packets import FENCES, HEAD, HOST, Packet, spelled
 
 
 class Carrier:
@@ -34,12 +34,13 @@ class Carrier:
         self.over, self.end, self.why = asyncio.Event(), None, ""
         self.tasks: List[asyncio.Task] = []
         self.room.set()
+        self.fence, self.echo = FENCES[place.role]
 
     # ---- its beginning and its end
 
-    async def start(self, program: pathlib.Path, fenced: bool) -> List[Packet]:
-        """Starts the program, gives it again what it was given before, and gives the notes of the journal. Where it is
-        fenced it has answered all of that then."""
+    async def start(self, program: pathlib.Path) -> List[Packet]:
+        """Starts the program, gives it again what it was given before, waits until it has answered that, and gives the
+        notes of the journal."""
         self.journal = Journal(self.place.folder / "journal", self.place.owner)
         self.child = await asyncio.create_subprocess_exec(program, stdin=asyncio.subprocess.PIPE,
                                                           stdout=asyncio.subprocess.PIPE)
@@ -51,9 +52,8 @@ class Carrier:
         self.tasks.append(asyncio.create_task(self.feed_program()))
         if not packets:
             await self.keep([(HOST, self.place.setup)])
-        if fenced:
-            self.child.stdin.write(spelled(HOST, FENCE))
-            await self.first_of(self.answered, self.over)
+        self.child.stdin.write(spelled(*self.fence))
+        await self.first_of(self.answered, self.over)
         return notes
 
     async def give_again(self, packets: List[Packet]) -> None:
@@ -117,7 +117,7 @@ class Carrier:
 
     def tell_kept(self) -> None:
         """Wakes who waits for packets that are on disk now, or won't be."""
-        is_over = self.over.is_set()
+        is_over = self.over.is_set() and not self.is_done()
         for due, kept in self.keeping:
             if (due <= self.count_kept or is_over) and not kept.done():
                 kept.set_result(None)
@@ -133,8 +133,6 @@ class Carrier:
                 self.room.set()
                 await asyncio.get_running_loop().run_in_executor(None, self.journal.append, packets)
                 await self.give(packets)
-        except ConnectionError:
-            pass  # the program has ended
         except Stop as stop:
             self.stop(stop.end, str(stop))
 
@@ -148,7 +146,10 @@ class Carrier:
             self.outbox(peer).more.set()
         self.count_kept += len(packets)
         self.tell_kept()
-        await self.child.stdin.drain()
+        try:
+            await self.child.stdin.drain()
+        except ConnectionError:
+            pass  # the program has ended
 
     # ---- what it sends
 
@@ -161,11 +162,11 @@ class Carrier:
             while True:
                 peer, size = HEAD.unpack(await self.child.stdout.readexactly(HEAD.size))
                 data = await self.child.stdout.readexactly(size)
-                if peer != HOST:
+                if peer == self.echo[0] and data.startswith(self.echo[1]) and not self.answered.is_set():
+                    self.answered.set()
+                elif peer != HOST:
                     self.outbox(peer).put(data)
                     self.on_sent(peer, data)
-                elif data.startswith(FENCE_ANSWER):
-                    self.answered.set()
                 else:
                     self.on_told(data)
         except asyncio.IncompleteReadError:

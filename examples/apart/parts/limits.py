@@ -11,6 +11,8 @@ class Limits:
 
     # for the handshake and the greeting of a link together
     greeting: float = 5
+    # for a server to hear who speaks
+    hearing: float = 60
     # how many links beyond the clients' may be there that haven't greeted
     strangers: int = 32
     # until a link breaks whose other end acknowledges nothing

@@ -18,7 +18,7 @@ from parts.folder import Place
 from parts.frames import WRITE
 from parts.journal import INSTANCE, RECORD_SIZE, filler
 from parts.limits import Limits
-from parts.link import COUNT, INSTANCE_SIZE, NO_INSTANCE, Greeting, Link, Mark, Sender
+from parts.link import COUNT, INSTANCE_SIZE, NO_INSTANCE, Greeting, Item, Link, Mark, Sender
 from parts.outbox import ALL
 from parts.packets import HOST, LONGEST, NUMBER, TICK, Packet, ahead, has, number_at, say
 from parts.printable import shown
@@ -52,6 +52,9 @@ class Lines(Protocol):
     async def get(self) -> bytes:
         ...
 
+    def rest(self) -> List[bytes]:
+        """Those that nobody took."""
+
 
 class Member:
     """A member's switch."""
@@ -70,6 +73,7 @@ class Member:
         self.greeted: set[int] = set()  # the servers whose links greeted
         self.links: Dict[int, Link] = {}  # by server, the link over which this instance speaks
         self.may_speak, self.is_heard = asyncio.Event(), asyncio.Event()
+        self.away: asyncio.Queue[int] = asyncio.Queue()  # how many turns are to be written ahead
         self.counted: set[int] = set()  # the servers of which the program was told how many packets they have
         self.left: set[int] = set()  # the servers that heard that this member needs no more
         self.pauses = {server: limits.pause for server in self.servers}
@@ -136,11 +140,7 @@ class Member:
         self.greeted.add(server)
         if len(self.greeted) == len(self.servers) or self.carrier.is_done():
             self.may_speak.set()
-        asking = asyncio.create_task(self.ask_to_speak(link))
-        try:
-            mark, data = await link.next(0)
-        finally:
-            asking.cancel()
+        mark, data = await self.answer_to_speaking(link)
         if mark is Mark.CLOSED:
             raise Wrong("it takes nothing more of this member, since it refused a frame of it")
         if mark is not Mark.HEARD:
@@ -154,9 +154,17 @@ class Member:
         if len(self.links) == len(self.servers):
             self.is_heard.set()
 
-    async def ask_to_speak(self, link: Link) -> None:
-        await self.may_speak.wait()
-        link.send_mark(Mark.SPEAKS)
+    async def answer_to_speaking(self, link: Link) -> Item:
+        """Says that this instance speaks, once it may. Gives what comes for that, or what came before."""
+        answer, allowed = asyncio.create_task(link.next(0)), asyncio.create_task(self.may_speak.wait())
+        try:
+            await asyncio.wait([answer, allowed], return_when=asyncio.FIRST_COMPLETED)
+            if not answer.done():
+                link.send_mark(Mark.SPEAKS)
+            return await asyncio.wait_for(answer, self.limits.hearing)
+        finally:
+            answer.cancel()
+            allowed.cancel()
 
     async def carry(self, server: int, link: Link, count: int) -> None:
         """Sends what the server lacks and takes what it sends, until the link breaks."""
@@ -208,7 +216,7 @@ class Member:
         while True:
             await self.clock.wait(until_next(self.clock.now(), seconds, is_first))
             is_first = False
-            if self.may_act() and self.fates.is_quiet():
+            if self.may_act() and self.fates.is_quiet() and self.fates.turns_left():
                 texts = self.waiting.take(1)
                 self.carrier.feed(self.tick_packets(texts))
                 self.save(texts)
@@ -228,13 +236,13 @@ class Member:
 
     # ---- what is typed
 
-    async def take_line(self, line: bytes) -> None:
+    def take_line(self, line: bytes) -> None:
         """Takes a line that was typed."""
         said = read_line(line)
         if said is None:
-            self.complaints.tell("want 'say LOG TEXT' or 'away N'")
+            self.put("want 'say LOG TEXT' or 'away N'")
         elif said.text is None:
-            await self.go_away(said.turns)
+            self.away.put_nowait(said.turns)
         else:
             self.say(said.text)
 
@@ -249,20 +257,20 @@ class Member:
         else:
             self.waiting.put(text)
 
-    async def go_away(self, turns: int) -> None:
-        """Writes turns ahead, as many as there are, with the texts that wait."""
-        while not self.may_act():
-            await asyncio.sleep(0.1)
-            if self.carrier.over.is_set():
-                return
-        count = min(turns, self.fates.turns_left())
-        texts = self.waiting.take(count)
-        self.carrier.feed([*packets_of_texts(texts), (HOST, ahead(count))])
-        self.save(texts)
-        self.put(f"away {count}")
-        if count < turns:
-            self.complaints.tell(f"away {turns}: only {count} turns were left")
-        self.give_up(self.waiting.take(len(self.waiting.texts) - self.fates.turns_left()))
+    async def leave(self) -> None:
+        """Writes turns ahead, once all servers are there, with the texts that wait: as many as there are."""
+        while True:
+            turns = await self.away.get()
+            while not self.may_act():
+                await asyncio.sleep(0.1)
+            count = min(turns, self.fates.turns_left())
+            texts = self.waiting.take(count)
+            self.carrier.feed([*packets_of_texts(texts), (HOST, ahead(count))])
+            self.save(texts)
+            self.put(f"away {count}")
+            if count < turns:
+                self.complaints.tell(f"away {turns}: only {count} turns were left")
+            self.give_up(self.waiting.take(max(0, len(self.waiting.texts) - self.fates.turns_left())))
 
     def give_up(self, texts: List[Text]) -> None:
         for text in texts:
@@ -272,14 +280,15 @@ class Member:
 
     async def run(self, program: Path, lines: Lines) -> None:
         context = self.place.context()
-        notes = await self.carrier.start(program, fenced=True)
+        notes = await self.carrier.start(program)
         self.own |= {data for peer, data in notes if peer == INSTANCE}
         await self.carrier.keep([(INSTANCE, self.instance)])
         self.own.add(self.instance)
         self.waiting = Waiting(self.place.folder / "typed", sum(self.fates.counts.values()) + len(self.fates.given))
         self.give_up(self.waiting.left)
         works = [self.keep_link(server, context) for server in self.servers]
-        tasks = [asyncio.create_task(work) for work in [*works, self.tick(), self.listen(lines)]]
+        works += [self.tick(), self.leave(), self.listen(lines)]
+        tasks = [asyncio.create_task(work) for work in works]
         await self.carrier.over.wait()
         if self.carrier.is_done():
             await self.take_leave()
@@ -289,6 +298,7 @@ class Member:
         await asyncio.gather(*tasks, return_exceptions=True)
         await self.carrier.close()
         self.give_up(self.waiting.take(len(self.waiting.texts)))
+        self.give_up([said.text for said in map(read_line, lines.rest()) if said and said.text])
         self.waiting.save()
         for text in [] if self.carrier.is_done() else self.fates.on_the_way():
             self.put(f"waits {text.log} {shown(text.words)}")
@@ -299,7 +309,7 @@ class Member:
 
     async def listen(self, lines: Lines) -> None:
         while True:
-            await self.take_line(await lines.get())
+            self.take_line(await lines.get())
 
     async def take_leave(self) -> None:
         """Says to each server that all has come, so that it may end, if it is there yet."""

@@ -58,6 +58,10 @@ class Typed:
         self.room.release()
         return line
 
+    def rest(self) -> List[bytes]:
+        """The lines that nobody took."""
+        return [self.lines.get_nowait() for _ in range(self.lines.qsize())]
+
 
 class Running:
     """A switch with its terminal."""

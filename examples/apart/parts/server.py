@@ -45,6 +45,7 @@ class Server:
         group = place.group
         self.intakes: List[Intake] = [Intake(group.format, group.shape, it) for it in range(group.shape.clients)]
         self.longest = group.longest_frame()
+        self.most_sent = group.shape.turns + group.shape.phases  # packets for one client: replies and epochs
         self.speaks: Dict[int, bytes] = {}  # by client, the last instance that spoke for it
         self.greeted: Dict[int, Link] = {}  # by client, the last link that greeted, and the one that speaks
         self.links: Dict[int, Link] = {}
@@ -59,7 +60,7 @@ class Server:
         context = place.context()
         _, host, port = place.group.servers[place.number - 1]
         listening = listening_at(host, port)
-        for _, note in [it for it in await self.carrier.start(program, fenced=False) if it[0] == INSTANCE]:
+        for _, note in [it for it in await self.carrier.start(program) if it[0] == INSTANCE]:
             self.speaks[number_at(note, 0)] = note[NUMBER.size :]
         most = place.group.shape.clients + self.limits.strangers
         door = Door(context, most, self.limits.greeting, self.answer, self.complaints.tell)
@@ -148,8 +149,8 @@ class Server:
                 return
             if mark is Mark.KEPT:
                 (count,) = COUNT.unpack(data)
-                if count != ALL and not kept < count <= self.carrier.outbox(peer).count:
-                    raise Wrong("it says that it has what wasn't sent")
+                if count != ALL and not kept < count <= self.most_sent:
+                    raise Wrong("it says that it has more than there is")
                 kept = count
                 self.carrier.outbox(peer).forget(count)
                 if count == ALL:
