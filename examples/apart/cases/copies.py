@@ -17,18 +17,17 @@ def copied_folder(stage: Stage) -> None:
     stage.say(2)
     stage.wrote(1, 2)
     stage.members[2].kill()
-    stage.wrote(1, stand_still(stage))
-    first = stage.members[1]
-    # both have something to say in the turn that comes
-    first.type("say 1 said by the first")
+    turns, first = stand_still(stage), stage.members[1]
+    stage.wrote(1, turns)
+    stage.until(lambda: first.ticks() > turns, "a tick that waits")
     ticks, copy = start_copy(stage)
     if copy.is_over():  # (it wasn't quite still, so that none of the two may go on)
         stage.notes.append("both ended")
         return stage.pads()
     demand(first.ended() == "ended copied", f"beside a copy the first one ended with {first.ended()!r}")
-    demand(first.lines("unsent") == ["unsent 1 said by the first"], "a text was lost beside a copy")
+    demand(set(first.lines("unsent")) == {"unsent 1 said by the first"}, "a text was lost beside a copy")
     demand(first.ticks() == ticks, "the first one ticked beside a copy")
-    copy.typed = first.typed[:-1] + copy.typed
+    copy.typed = [it for it in first.typed if it != "say 1 said by the first"] + copy.typed
     stage.members[1] = copy
     stage.members[2].start()
     stage.end_all()
@@ -44,6 +43,8 @@ def start_copy(stage: Stage) -> Tuple[int, End]:
         folder = stage.folder / f"copy-{number}"
         shutil.copytree(first.folder, folder)
         ticks = first.ticks()
+        # both have something to say in the turn that comes
+        first.type("say 1 said by the first")
         copy = stage.end(folder, "join").start()
         copy.type("say 1 said by the copy")
         stage.until(lambda: first.is_over() or copy.is_over(), "the end of one of two")

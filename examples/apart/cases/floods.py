@@ -25,8 +25,7 @@ def silent_links(stage: Stage) -> None:
     server, address = stage.servers[0], stage.addresses[0]
     most = stage.shape.clients + 32
     links = [socket.create_connection(address, 30) for _ in range(SILENT)]
-    opened = open_files(server.process.pid)
-    demand(opened <= most + 40, f"a server with {SILENT} silent links has {opened} files open")
+    stage.until(lambda: open_files(server.process.pid) <= most + 30, f"few open files beside {SILENT} silent links", 10)
     before = stage.written(0)
     stage.wrote(0, before + 3)
     stage.members[0].restart()
@@ -103,7 +102,7 @@ def unread_terminal(stage: Stage) -> None:
     for member in stage.members[1:]:
         stage.until(member.is_over, "the end of members beside an unread one")
     stage.until(unread.is_over, "the end of an unread member")
-    demand(unread.process.returncode == 0, f"an unread member ended with {unread.process.returncode}")
+    demand(unread.process.poll() == 0, f"an unread member ended with {unread.process.returncode}")
     unread.files.clear()
     unread.start()
     stage.until(unread.is_over, "what an unread member has to tell")

@@ -3,6 +3,7 @@
 from __future__ import annotations
 
 import asyncio
+import logging
 import ssl
 from pathlib import Path
 from typing import List
@@ -19,6 +20,7 @@ from parts.member import Member
 from parts.packets import LONGEST
 from parts.printer import Complaints
 
+logging.getLogger("asyncio").setLevel(logging.CRITICAL)  # (links are broken on purpose here)
 BROKEN = (OSError, ssl.SSLError, asyncio.IncompleteReadError, asyncio.TimeoutError, Wrong)
 
 

@@ -24,7 +24,7 @@ def lying_server(stage: Stage) -> None:
         lie_for_a_while(stage, lie)
         if number == 2:
             stage.say(1)
-        stage.wrote(0, 2 + 2 * number)
+        stage.until(lambda: go_on(stage, 2 + 2 * number), "the group to go on after a lie")
     stage.end_all()
     stage.compare()
     stage.pads()
@@ -43,9 +43,14 @@ def lie_for_a_while(stage: Stage, lie: str) -> None:
             demand(member.ended() in ("ended older", "ended copied"),
                    f"at the lie {lie} a member ended {member.ended()!r}: {member.complaints()}")
     liar.restart()
+
+
+def go_on(stage: Stage, turns: int) -> bool:
+    """Starts members that a lie ended, and says whether client 0 wrote in so many turns."""
     for member in stage.members:
-        if member.is_over():
+        if member.is_over() and member.ended() in ("ended older", "ended copied"):
             member.start()
+    return stage.written(0) >= turns
 
 
 def noticed(member: End, before: int) -> bool:

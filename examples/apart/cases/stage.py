@@ -4,6 +4,7 @@ from __future__ import annotations
 
 import base64
 import json
+import os
 import random
 import resource
 import secrets
@@ -11,12 +12,15 @@ import shutil
 import signal
 import subprocess
 import sys
+import tempfile
 import time
 from dataclasses import asdict, dataclass
 from pathlib import Path
 from typing import Any, Callable, Dict, List, Sequence, Tuple
 
 import beside
+from cases import tried_switch
+from cases.child import Child
 from meeting import WRITE, CameAbout, Shape, differences, texts_said
 from parts import home, journal
 from parts.keys import KEY
@@ -24,6 +28,7 @@ from parts.limits import Limits
 from parts.packets import HOST, TICK, Packet
 from parts.printable import shown
 
+group = beside.tool("group")
 LOGS = [(0, [1, 2]), (1, [0, 2]), (2, [0, 1])]
 NAMES = ["ann", "ben", "cem"]
 WORDS = ["Friday", "café", "map", "→", "back\\slash", "in", "town", "?", "\u202eback", "\x9b31m", "\u2066iso"]
@@ -62,12 +67,24 @@ class Options:
     times: str = ""  # where a server writes when it took writes
     slow: float = 0  # how many seconds a disk takes more
 
-    def words(self) -> List[str]:
-        """How the switch is started with these."""
-        tried = json.dumps({"limits": asdict(self.limits), "clock": self.clock, "lie": self.lie, "times": self.times,
-                            "slow": self.slow})
-        before = ["ip", "netns", "exec", self.namespace] if self.namespace else []
-        return [*before, sys.executable, str(beside.HERE / "cases" / "tried_switch.py"), tried]
+    def for_switch(self) -> Dict[str, Any]:
+        """What the tried switch is told of these."""
+        return {"limits": asdict(self.limits), "clock": self.clock, "lie": self.lie, "times": self.times,
+                "slow": self.slow}
+
+    def begin(self, words: List[str], out: int, err: int) -> Child | subprocess.Popen:
+        """A switch in a process of its own."""
+        if self.namespace:
+            before = ["ip", "netns", "exec", self.namespace, sys.executable]
+            tried = [str(beside.HERE / "cases" / "tried_switch.py"), json.dumps(self.for_switch())]
+            return subprocess.Popen([*before, *tried, *words], stdin=subprocess.PIPE, stdout=out, stderr=err)
+
+        def work() -> None:
+            if self.most_bytes:
+                resource.setrlimit(resource.RLIMIT_FSIZE, (self.most_bytes, self.most_bytes))
+            tried_switch.start(self.for_switch(), words)
+
+        return Child(work, out, err)
 
 
 class End:
@@ -79,24 +96,22 @@ class End:
         self.typed: List[str] = []
         self.starts = 0
         self.files: List[Tuple[Path, Path]] = []
-        self.process: subprocess.Popen | None = None
+        self.process: Child | subprocess.Popen | None = None
 
     def start(self, **changes: Any) -> End:
         options = Options(**changes)
         self.starts += 1
         out, err = (Path(f"{self.folder}.{self.starts}.{it}") for it in ("out", "err"))
         self.files.append((out, err))
-        words = [*options.words(), self.form, str(self.folder), "--program", self.program]
+        words = [self.form, str(self.folder), "--program", self.program]
         words += ["--keep"] if options.keeps else []
-
-        def limit() -> None:
-            if options.most_bytes:
-                resource.setrlimit(resource.RLIMIT_FSIZE, (options.most_bytes, options.most_bytes))
-
         with open(out, "wb") as told, open(err, "wb") as complaints:
-            sinks = (told, complaints) if options.reads_output else (subprocess.PIPE, subprocess.PIPE)
-            self.process = subprocess.Popen(words, stdin=subprocess.PIPE, stdout=sinks[0], stderr=sinks[1],
-                                            preexec_fn=limit)
+            if options.reads_output:
+                self.process = options.begin(words, told.fileno(), complaints.fileno())
+            else:
+                # (nobody reads from these pipes, but they have a reader)
+                self.unread = [*os.pipe(), *os.pipe()]
+                self.process = options.begin(words, self.unread[1], self.unread[3])
         self.stage.started.append(self.process)
         return self
 
@@ -180,7 +195,7 @@ class Stage:
     def __init__(self, programs: Programs, homes: Path, folder: Path, seed: int) -> None:
         self.programs, self.homes, self.folder = programs, homes, folder
         self.rng = random.Random(f"{seed} {folder.name}")
-        self.started: List[subprocess.Popen] = []
+        self.started: List[Child | subprocess.Popen] = []
         self.host = f"127.{self.rng.randint(10, 250)}.{self.rng.randint(1, 250)}.{self.rng.randint(1, 250)}"
         self.notes: List[str] = []
         self.ends: List[End] = []
@@ -217,8 +232,19 @@ class Stage:
         return made.stdout
 
     def try_tool(self, *words: Any) -> subprocess.CompletedProcess:
-        return subprocess.run([sys.executable, beside.HERE / "group", *map(str, words)], cwd=self.folder,
-                              stdout=subprocess.PIPE, stderr=subprocess.PIPE)
+        """How `group` ends, and what it writes."""
+
+        def work() -> None:
+            os.chdir(self.folder)
+            sys.exit(group.run(list(map(str, words))))
+
+        with tempfile.TemporaryFile() as out, tempfile.TemporaryFile() as err:
+            child = Child(work, out.fileno(), err.fileno())
+            child.stdin.close()
+            code = child.wait()
+            for file in (out, err):
+                file.seek(0)
+            return subprocess.CompletedProcess(words, code, out.read(), err.read())
 
     def place(self, name: str, role: str, run: int = 1) -> Path:
         return self.folder / name / f"run-{run}-{role}"

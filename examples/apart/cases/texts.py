@@ -36,6 +36,7 @@ def fates(stage: Stage) -> None:
     stage.until(lambda: "refused 0 over" in ann.told(), "a refusal of a text too many")
     cem.type("say 2 goes ahead")
     cem.type(f"away {stage.shape.turns + stage.rng.randint(1, 1000)}")
+    stage.until(lambda: cem.lines("away"), "a member to go away")
     cem.type("say 2 too late")
     stage.until(lambda: "refused 2 over" in cem.told(), "a refusal of a text after the last turn")
     demand("turns were left" in cem.complaints(), "away beyond the end was taken without a word")

@@ -158,8 +158,8 @@ def slow_disk(seconds):
     journal.Journal.write = write
 
 
-if __name__ == "__main__":
-    options = json.loads(sys.argv[1])
+def start(options, words):
+    """Starts a switch with these."""
     if options["lie"]:
         LIES[options["lie"]]()
     if options["times"]:
@@ -167,4 +167,8 @@ if __name__ == "__main__":
     if options["slow"]:
         slow_disk(options["slow"])
     clock = SetClock(options["clock"]) if options["clock"] else Clock()
-    main("a switch of a trial", sys.argv[2:], Limits(**options["limits"]), clock)
+    main("a switch of a trial", words, Limits(**options["limits"]), clock)
+
+
+if __name__ == "__main__":
+    start(json.loads(sys.argv[1]), sys.argv[2:])

@@ -13,6 +13,7 @@ from parts.journal import LEAST_NOTE, Journal
 from parts.limits import Limits
 from parts.outbox import ALL, Outbox
 from parts.packets import FENCES, HEAD, HOST, Packet, spelled
+from parts.tasks import ended
 
 
 class Carrier:
@@ -32,6 +33,7 @@ class Carrier:
         self.count_fed = self.count_kept = 0
         self.keeping: List[Tuple[int, asyncio.Future]] = []  # who waits until so many are kept
         self.over, self.end, self.why = asyncio.Event(), None, ""
+        self.is_stopped = False  # by hand
         self.tasks: List[asyncio.Task] = []
         self.room.set()
         self.fence, self.echo = FENCES[place.role]
@@ -71,15 +73,14 @@ class Carrier:
         """Goes on no further. The first cause is the one that is told."""
         if self.end is None:
             self.end, self.why = end, why
+        self.is_stopped = self.is_stopped or end is End.STOPPED
         self.over.set()
         self.tell_kept()
         for outbox in self.outboxes.values():
             outbox.more.set()
 
     async def close(self) -> None:
-        for task in self.tasks:
-            task.cancel()
-        await asyncio.gather(*self.tasks, return_exceptions=True)
+        await ended(self.tasks)
         if self.child.returncode is None:
             self.child.kill()
             await self.child.wait()
@@ -108,19 +109,20 @@ class Carrier:
             self.room.clear()
 
     async def keep(self, packets: List[Packet]) -> None:
-        """The same, and waits until they are on disk."""
+        """The same, and waits until they are on disk, which they won't be where the switch ends before."""
         self.feed(packets)
         kept = asyncio.get_running_loop().create_future()
         self.keeping.append((self.count_fed, kept))
         self.tell_kept()
-        await kept
+        if not await kept:
+            raise Stop(self.end, self.why)
 
     def tell_kept(self) -> None:
         """Wakes who waits for packets that are on disk now, or won't be."""
         is_over = self.over.is_set() and not self.is_done()
         for due, kept in self.keeping:
             if (due <= self.count_kept or is_over) and not kept.done():
-                kept.set_result(None)
+                kept.set_result(due <= self.count_kept)
         self.keeping = [it for it in self.keeping if not it[1].done()]
 
     async def feed_program(self) -> None:

@@ -13,6 +13,7 @@ from collections import Counter
 from typing import Awaitable, Callable, Dict
 
 from parts.errors import Wrong
+from parts.tasks import ended
 
 Answer = Callable[[asyncio.StreamReader, asyncio.StreamWriter, Callable[[], None]], Awaitable[None]]
 
@@ -98,6 +99,4 @@ class Door:
         return reader, asyncio.StreamWriter(transport, protocol, reader, loop)
 
     async def close(self) -> None:
-        for task in list(self.tasks):
-            task.cancel()
-        await asyncio.gather(*self.tasks, return_exceptions=True)
+        await ended(self.tasks)

@@ -112,7 +112,7 @@ class Link:
         """Closes the link once all is sent."""
         self.writer.close()
         try:
-            await asyncio.wait_for(self.writer.wait_closed(), 5)
+            await asyncio.wait_for(self.writer.wait_closed(), 1)
         except (OSError, asyncio.TimeoutError):
             pass
 

@@ -24,6 +24,7 @@ from parts.packets import HOST, LONGEST, NUMBER, TICK, Packet, ahead, has, numbe
 from parts.printable import shown
 from parts.printer import Complaints
 from parts.sentry import Differ, Sentry
+from parts.tasks import ended
 from parts.texts import Fates, Judge, Text, Waiting, packets_of_texts, read_line
 
 # After how many more packets a member says how many of a server's are on its disk.
@@ -109,8 +110,8 @@ class Member:
             link.greet(self.instance, self.carrier.taken[server])
             greeting = await asyncio.wait_for(link.hear_greeting(), self.limits.greeting)
             self.check_greeting(server, link, greeting)
-            await self.speak(server, link)
-            await self.carry(server, link, greeting.count)
+            count = await self.speak(server, link)
+            await self.carry(server, link, count)
         finally:
             self.sentry.forget(server)
             if self.links.get(server) is link:
@@ -135,8 +136,9 @@ class Member:
             raise Stop(End.OLDER, f"server {server} says that it has {count} packets of this member, which sent {sent}: "
                                   "this folder is older than what ran last, or the server lies")
 
-    async def speak(self, server: int, link: Link) -> None:
-        """Speaks for this member once all servers greeted it: each of them then hears this instance alone."""
+    async def speak(self, server: int, link: Link) -> int:
+        """Speaks for this member once all servers greeted it: each of them then hears this instance alone. Gives how
+        many packets the server has, of which none more comes by an older link."""
         self.greeted.add(server)
         if len(self.greeted) == len(self.servers) or self.carrier.is_done():
             self.may_speak.set()
@@ -153,6 +155,7 @@ class Member:
         self.links[server], self.pauses[server] = link, self.limits.pause
         if len(self.links) == len(self.servers):
             self.is_heard.set()
+        return count
 
     async def answer_to_speaking(self, link: Link) -> Item:
         """Says that this instance speaks, once it may. Gives what comes for that, or what came before."""
@@ -282,10 +285,20 @@ class Member:
         context = self.place.context()
         notes = await self.carrier.start(program)
         self.own |= {data for peer, data in notes if peer == INSTANCE}
-        await self.carrier.keep([(INSTANCE, self.instance)])
-        self.own.add(self.instance)
-        self.waiting = Waiting(self.place.folder / "typed", sum(self.fates.counts.values()) + len(self.fates.given))
+        given = sum(self.fates.counts.values()) + len(self.fates.given)
+        self.waiting = Waiting(self.place.folder / "typed", given)
         self.give_up(self.waiting.left)
+        try:
+            await self.carrier.keep([(INSTANCE, self.instance)])
+            self.own.add(self.instance)
+            await self.work(context, lines)
+        except Stop as stop:
+            self.carrier.stop(stop.end, str(stop))
+        await self.carrier.close()
+        self.tell_rest(lines)
+
+    async def work(self, context: ssl.SSLContext, lines: Lines) -> None:
+        """What goes on until the run is over."""
         works = [self.keep_link(server, context) for server in self.servers]
         works += [self.tick(), self.leave(), self.listen(lines)]
         tasks = [asyncio.create_task(work) for work in works]
@@ -293,13 +306,13 @@ class Member:
         if self.carrier.is_done():
             await self.take_leave()
         await asyncio.gather(*(link.part() for link in self.links.values()))
-        for task in tasks:
-            task.cancel()
-        await asyncio.gather(*tasks, return_exceptions=True)
-        await self.carrier.close()
+        await ended(tasks)
+
+    def tell_rest(self, lines: Lines) -> None:
+        """Tells what becomes of the texts that have no fate yet."""
         self.give_up(self.waiting.take(len(self.waiting.texts)))
         self.give_up([said.text for said in map(read_line, lines.rest()) if said and said.text])
-        self.waiting.save()
+        self.waiting.close()
         for text in [] if self.carrier.is_done() else self.fates.on_the_way():
             self.put(f"waits {text.log} {shown(text.words)}")
 

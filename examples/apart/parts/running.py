@@ -4,6 +4,7 @@ from __future__ import annotations
 
 import argparse
 import asyncio
+import logging
 import os
 import signal
 import sys
@@ -76,7 +77,9 @@ class Running:
 
     async def run(self, program: Path, keeps: bool) -> End:
         loop = asyncio.get_running_loop()
-        loop.set_exception_handler(lambda loop, context: None)  # (of links that strangers break)
+        # (what strangers break is told by nobody but the door)
+        loop.set_exception_handler(lambda loop, context: None)
+        logging.getLogger("asyncio").setLevel(logging.CRITICAL)
         if self.form == "serve":
             made = Server(self.place, self.complaints, self.limits)
             work = made.run(program)

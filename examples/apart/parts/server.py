@@ -18,6 +18,7 @@ from parts.link import COUNT, NO_INSTANCE, Greeting, Link, Mark, Sender
 from parts.outbox import ALL
 from parts.packets import HOST, NUMBER, number_at
 from parts.printer import Complaints
+from parts.tasks import ended
 
 BROKEN = (OSError, asyncio.IncompleteReadError, ssl.SSLError)
 
@@ -67,9 +68,9 @@ class Server:
         task = asyncio.create_task(door.run(listening))
         await self.carrier.over.wait()
         # the last replies are on their way, or a member will fetch them
-        while self.carrier.is_done() and not self.carrier.is_delivered():
+        while self.carrier.is_done() and not self.carrier.is_delivered() and not self.carrier.is_stopped:
             await asyncio.sleep(0.1)
-        task.cancel()
+        await ended([task])
         listening.close()
         await asyncio.gather(*(link.part() for link in list(self.links.values())))
         await door.close()

@@ -11,6 +11,7 @@ import pathlib
 import struct
 import zlib
 from collections import Counter, deque
+from concurrent.futures import ThreadPoolExecutor
 from dataclasses import dataclass
 from typing import Deque, List, NamedTuple
 
@@ -141,14 +142,14 @@ class Waiting:
         """Of a member to whose program so many texts were given."""
         self.texts: Deque[Text] = deque()
         self.size, self.given = 0, given
-        self.path = path
+        self.writer = ThreadPoolExecutor(1)
         try:
             self.file = os.open(path, os.O_RDWR | os.O_CREAT, 0o600)
             self.left: List[Text] = self.found()  # what an earlier start left
             missing = self.HEAD.size + ROOM - os.fstat(self.file).st_size
             if missing > 0:
                 os.pwrite(self.file, bytes(missing), os.fstat(self.file).st_size)
-            self.save()
+            self.write(self.state())
             os.fsync(self.file)
         except OSError as error:
             raise Stop(End.JOURNAL, f"can't write {path}: {error.strerror}") from error
@@ -185,12 +186,22 @@ class Waiting:
         return taken
 
     def save(self) -> None:
+        """Writes the file, without waiting for it."""
+        self.writer.submit(self.write, self.state())
+
+    def state(self) -> bytes:
         data = b"".join(NUMBER.pack(it.log) + NUMBER.pack(len(it.words)) + it.words for it in self.texts)
-        head = self.HEAD.pack(self.given, len(self.texts), len(data), zlib.crc32(data))
+        return self.HEAD.pack(self.given, len(self.texts), len(data), zlib.crc32(data)) + data
+
+    def write(self, data: bytes) -> None:
         try:
-            os.pwrite(self.file, head + data, 0)
+            os.pwrite(self.file, data, 0)
         except OSError:
             pass  # it keeps an older state, of which those texts are left out that are in the journal
+
+    def close(self) -> None:
+        self.save()
+        self.writer.shutdown()
 
 
 def packets_of_texts(texts: List[Text]) -> List[Packet]:
