@@ -22,8 +22,6 @@ def lying_server(stage: Stage) -> None:
     stage.notes.append(", ".join(lies))
     for number, lie in enumerate(lies):
         lie_for_a_while(stage, lie)
-        if number == 2:
-            stage.say(1)
         stage.until(lambda: go_on(stage, 2 + 2 * number), "the group to go on after a lie")
     stage.end_all()
     stage.compare()

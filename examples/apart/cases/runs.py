@@ -29,7 +29,8 @@ def whole_run(stage: Stage) -> None:
     stage.make(phases, ticks, form, base)
     stage.start()
     stage.say(3)
-    stage.wrote(1, 1)
+    for client in range(3):
+        stage.wrote(client, 1)
     knock(stage)
     old = (stage.members[0].folder / "journal").read_bytes()
     kill_some(stage)

@@ -23,9 +23,10 @@ OWNER = struct.Struct(">8sII32sI")
 ROLES = {"client": 0, "server": 1}
 HEAD = struct.Struct(">III")
 SUM = struct.Struct(">I")
-# Peers of records that the program isn't given: who spoke for a client, and what makes records longer.
-INSTANCE, FILLER = 0xFFFFFFFF, 0xFFFFFFFE
-LEAST_NOTE = FILLER
+# Peers of records that the program isn't given: who spoke for a client, what makes records longer, and that a client
+# needs no more.
+INSTANCE, FILLER, LEFT = 0xFFFFFFFF, 0xFFFFFFFE, 0xFFFFFFFD
+LEAST_NOTE = LEFT
 
 
 def head_of(owner: Owner) -> bytes:

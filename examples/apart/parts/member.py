@@ -237,6 +237,15 @@ class Member:
         if texts:
             self.waiting.save()
 
+    async def watch(self) -> None:
+        """Tells what doesn't come, where nothing came for long."""
+        while True:
+            before = self.carrier.count_fed
+            await asyncio.sleep(self.limits.patience)
+            if self.carrier.count_fed == before and len(self.links) == len(self.servers):
+                for what in self.sentry.awaited():
+                    self.complaints.tell(what)
+
     # ---- what is typed
 
     def take_line(self, line: bytes) -> None:
@@ -300,7 +309,7 @@ class Member:
     async def work(self, context: ssl.SSLContext, lines: Lines) -> None:
         """What goes on until the run is over."""
         works = [self.keep_link(server, context) for server in self.servers]
-        works += [self.tick(), self.leave(), self.listen(lines)]
+        works += [self.tick(), self.watch(), self.leave(), self.listen(lines)]
         tasks = [asyncio.create_task(work) for work in works]
         await self.carrier.over.wait()
         if self.carrier.is_done():

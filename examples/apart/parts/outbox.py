@@ -32,7 +32,7 @@ class Outbox:
 
     def forget(self, number: int) -> None:
         """The peer has so many on disk."""
-        self.is_done = number == ALL
+        self.is_done = self.is_done or number == ALL
         gone = min(max(0, number - self.first), len(self.packets))
         del self.packets[:gone]
         self.first += gone

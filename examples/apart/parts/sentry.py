@@ -116,6 +116,18 @@ class Sentry:
             raise Differ(f"in phase {phase} servers have different writes of {'; of '.join(wrong)}")
 
 
+    def awaited(self) -> List[str]:
+        """What is to come, and from whom."""
+        found, least = [], min(told.epochs for told in self.told.values())
+        has_next = [it for it, told in self.told.items() if told.held or told.epochs > least]
+        for server, told in self.told.items():
+            if told.replies < len(told.reads):
+                found.append(f"server {server} hasn't answered the read of turn {number_at(told.reads[-1], 4)}")
+            elif has_next and server not in has_next:
+                found.append(f"server {server} hasn't told epoch {least + 1}, which server {has_next[0]} has told")
+        return found
+
+
 class Differ(Wrong):
     """Servers don't tell the same."""
 

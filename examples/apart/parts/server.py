@@ -12,7 +12,7 @@ from parts.door import Door, listening_at
 from parts.errors import Wrong
 from parts.folder import Place
 from parts.frames import EPOCH, Intake, digests_at, refusal
-from parts.journal import INSTANCE
+from parts.journal import INSTANCE, LEFT
 from parts.limits import Limits
 from parts.link import COUNT, NO_INSTANCE, Greeting, Link, Mark, Sender
 from parts.outbox import ALL
@@ -61,8 +61,11 @@ class Server:
         context = place.context()
         _, host, port = place.group.servers[place.number - 1]
         listening = listening_at(host, port)
-        for _, note in [it for it in await self.carrier.start(program) if it[0] == INSTANCE]:
-            self.speaks[number_at(note, 0)] = note[NUMBER.size :]
+        for kind, note in await self.carrier.start(program):
+            if kind == INSTANCE:
+                self.speaks[number_at(note, 0)] = note[NUMBER.size :]
+            elif kind == LEFT:
+                self.carrier.outbox(number_at(note, 0)).is_done = True
         most = place.group.shape.clients + self.limits.strangers
         door = Door(context, most, self.limits.greeting, self.answer, self.complaints.tell)
         task = asyncio.create_task(door.run(listening))
@@ -142,25 +145,40 @@ class Server:
             before.close()
 
     async def take_all(self, peer: int, link: Link) -> None:
-        """Takes what a member sends, until its link breaks."""
+        """Takes what a member sends, until its link breaks. Of one that sends what no member sends nothing more is
+        taken."""
         kept = 0
         while self.links.get(peer) is link:
-            mark, data = await link.next(self.longest)
-            if self.links.get(peer) is not link:
-                return
-            if mark is Mark.KEPT:
-                (count,) = COUNT.unpack(data)
-                if count != ALL and not kept < count <= self.most_sent:
-                    raise Wrong("it says that it has more than there is")
-                kept = count
-                self.carrier.outbox(peer).forget(count)
-                if count == ALL:
-                    link.send_mark(Mark.HEARD, COUNT.pack(self.carrier.taken[peer]))
-            elif mark:
-                raise Wrong("it sends a mark that a member doesn't send")
-            else:
-                self.take(peer, link, data)
-                await self.carrier.room.wait()
+            try:
+                mark, data = await link.next(self.longest)
+                if self.links.get(peer) is not link:
+                    return
+                if mark is Mark.KEPT:
+                    kept = self.mark_kept(kept, *COUNT.unpack(data))
+                    await self.forget(peer, link, kept)
+                elif mark:
+                    raise Wrong("it sends a mark that a member doesn't send")
+                else:
+                    self.take(peer, link, data)
+                    await self.carrier.room.wait()
+            except Wrong:
+                self.closed.add(peer)
+                raise
+
+    def mark_kept(self, before: int, count: int) -> int:
+        """How many packets a member has on disk, which must be more than before."""
+        if count != ALL and not before < count <= self.most_sent:
+            raise Wrong("it says that it has more than there is")
+        return count
+
+    async def forget(self, peer: int, link: Link, count: int) -> None:
+        """A member has so many packets on disk, or needs no more, which is on disk here before it is told so."""
+        outbox = self.carrier.outbox(peer)
+        if count == ALL:
+            if not outbox.is_done:
+                await self.carrier.keep([(LEFT, NUMBER.pack(peer))])
+            link.send_mark(Mark.HEARD, COUNT.pack(self.carrier.taken[peer]))
+        outbox.forget(count)
 
     def take(self, peer: int, link: Link, data: bytes) -> None:
         """Takes a frame. Where the program would refuse it, it isn't given to it, and nothing more is taken."""
@@ -168,6 +186,5 @@ class Server:
         if cause is None:
             self.carrier.feed([(peer, data)])
             return
-        self.closed.add(peer)
         link.send(refusal(cause))
         raise Wrong(f"a frame of it is refused ({cause.name.lower()}), so nothing more is taken of it")
