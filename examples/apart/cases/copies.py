@@ -38,8 +38,8 @@ def copied_folder(stage: Stage) -> None:
 
 
 def start_copy(stage: Stage) -> Tuple[int, End]:
-    """Copies the folder of client 1 and starts the copy, until one of them isn't older. Gives it, and how many ticks the
-    first one had then."""
+    """Copies the folder of client 1 and starts the copy, until one of them isn't older. Gives it, and how many ticks
+    the first one had then."""
     first = stage.members[1]
     for number in range(10):
         folder = stage.folder / f"copy-{number}"

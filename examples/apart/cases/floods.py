@@ -43,8 +43,8 @@ def open_files(process: int) -> int:
 
 
 def flooding_member(stage: Stage) -> None:
-    """A member that has written in all turns floods server 1 with bad frames, over one link after another. Nothing of it
-    gets into the journal, one line of error tells of it, and the others go on to their ends."""
+    """A member that has written in all turns floods server 1 with bad frames, over one link after another. Nothing of
+    it gets into the journal, few lines of error tell of it, and the others go on to their ends."""
     stage.make(4, 4)
     stage.start()
     stage.say(1)

@@ -73,7 +73,8 @@ def identities_and_plans(stage: Stage) -> None:
                       (genuine.rstrip("\n"), "has no end"), (genuine.replace("ben", "b\x9ben"), "printable")]:
         identity.write_text(data)
         made = stage.try_tool("new", "plan", "ann.identity", "ben.identity", "cem.identity")
-        demand(made.returncode == 1 and why in made.stderr.decode(), f"an identity: {made.stderr.decode()!r}, not {why!r}")
+        said = made.stderr.decode()
+        demand(made.returncode == 1 and why in said, f"an identity: {said!r}, not {why!r}")
     identity.write_text(genuine)
     for name in ("../eve", "e ve", "é", ""):
         made = stage.try_tool("identity", name)

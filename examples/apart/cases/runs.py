@@ -4,21 +4,20 @@ from __future__ import annotations
 
 import asyncio
 import shutil
-import ssl
 import time
 
 from bad_frames import cause_of, kinds_of
 from cases.guest import Guest, sent_to
-from cases.stage import Failed, Stage, demand
+from cases.stage import TICK_SECONDS, Failed, Stage, demand
 from meeting import WRITE
 from parts import journal
 from parts.frames import refusal
 
 # Of these shapes a run takes one.
 SHAPES = [
-    (1, [2, 8, 8, 36, 96, 1024, 2, 4, 3], 4, 5),
-    (1, [2, 16, 4, 64, 200, 64, 1, 0, 3], 3, 7),
-    (2, [2, 32, 8, 48, 64, 512, 3, 2, 3], 4, 5),
+    (1, [2, 8, 8, 36, 96, 1024, 2, 4, 3], 6, 5),
+    (1, [2, 16, 4, 64, 200, 64, 1, 0, 3], 4, 7),
+    (2, [2, 32, 8, 48, 64, 512, 3, 2, 3], 7, 4),
 ]
 
 
@@ -26,7 +25,7 @@ def whole_run(stage: Stage) -> None:
     """Members and servers are killed and start again, a server loses its journal, a member is away, one is started with
     an older journal, strangers knock, and bad frames are refused."""
     form, base, phases, ticks = stage.rng.choice(SHAPES)
-    stage.make(phases, ticks, form, base)
+    stage.make(phases, ticks, form, base, seconds=2 * TICK_SECONDS)
     stage.start()
     stage.say(3)
     for client in range(3):
@@ -71,7 +70,7 @@ def leave(stage: Stage, client: int, turns: int) -> None:
     """A member writes turns ahead, and is away while the others go on."""
     member, before = stage.members[client], stage.written(client)
     member.type(f"away {turns}")
-    stage.until(lambda: member.lines("away"), f"client {client} to go away")
+    stage.until(lambda: member.lines("away") or member.is_over(), f"client {client} to go away")
     stage.wrote(client, before + turns)
     member.kill()
     stage.wrote(0, before + 2)

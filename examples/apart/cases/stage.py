@@ -129,10 +129,16 @@ class End:
         self.start(**changes)
 
     def type(self, line: str) -> None:
+        """Types a line, where the run isn't over yet."""
+        try:
+            self.process.stdin.write(line.encode() + b"\n")
+            self.process.stdin.flush()
+        except BrokenPipeError:
+            self.process.wait(PATIENCE)
+            demand(self.ended() == "ended done", f"{self.folder} ended with {self.ended()}")
+            return
         if line.startswith("say "):
             self.typed.append(line)
-        self.process.stdin.write(line.encode() + b"\n")
-        self.process.stdin.flush()
 
     def journal(self) -> List[Packet]:
         """What the program was given."""
@@ -283,7 +289,7 @@ class Stage:
     def wrote(self, client: int, turns: int) -> None:
         """Waits until both servers have so many writes of a client."""
         turns = min(turns, self.shape.turns)
-        self.until(lambda: all(it.count(client + 1, WRITE) >= turns for it in self.servers), f"{turns} writes of {client}")
+        self.until(lambda: self.written(client) >= turns, f"{turns} writes of {client}")
 
     def written(self, client: int) -> int:
         return min(it.count(client + 1, WRITE) for it in self.servers)

@@ -6,8 +6,8 @@ from cases.stage import Stage, demand
 
 
 def fates(stage: Stage) -> None:
-    """Texts wait while a member is killed and stopped, more are typed than there are turns, and one goes away for longer
-    than the run. Each is sent, refused, or told as unsent."""
+    """Texts wait while a member is killed and stopped, more are typed than there are turns, and one goes away for
+    longer than the run. Each is sent, refused, or told as unsent."""
     stage.make(3, 4)
     stage.servers[0].start()
     for member in stage.members:

@@ -1,4 +1,4 @@
-"""A switch as `trial` starts it: with shorter times, with a clock that can be set, with a lie that it tells, or measured.
+"""A switch as `trial` starts it: with shorter times, a clock that can be set, a lie that it tells, or measured.
 
 usage: tried_switch.py OPTIONS serve|join FOLDER ..
 """

@@ -189,8 +189,8 @@ class Used:
         """Refuses a run that was there, and a root that is to be a new one and was used."""
         last = max((int(row[0]) for row in self.rows), default=0)
         if last >= group.run:
-            raise Wrong(f"{self.path.parent} has had run {last}, and this is run {group.run}: the keys of a run are used "
-                        "once. 'group next' and 'group change' make the next run's group file")
+            raise Wrong(f"{self.path.parent} has had run {last}, and this is run {group.run}: the keys of a run are "
+                        "used once. 'group next' and 'group change' make the next run's group file")
         digests = {row[1] for row in self.rows if len(row) > 1}
         for log, key in roots.items():
             if log in group.anew and fingerprint(key) in digests:

@@ -19,8 +19,8 @@ from parts.outbox import Outbox
 from parts.packets import NUMBER
 
 LETTERS = b"talek\0\0\3"
-# These letters, the group file's digest, who speaks (server j or client j - 1), an instance, and how many packets it has
-# of the other. A client tells its own instance, a server the last one that it heard of the client.
+# These letters, the group file's digest, who speaks (server j or client j - 1), an instance, and how many packets it
+# has of the other. A client tells its own instance, a server the last one that it heard of the client.
 GREETING = struct.Struct(">8s32sI16sQ")
 COUNT = struct.Struct(">Q")
 # The bytes of an instance, which each start of a member draws, and what a server says that heard of none.

@@ -133,8 +133,8 @@ class Member:
     def check_count(self, server: int, count: int) -> None:
         sent = self.carrier.outbox(server).count
         if count > sent:
-            raise Stop(End.OLDER, f"server {server} says that it has {count} packets of this member, which sent {sent}: "
-                                  "this folder is older than what ran last, or the server lies")
+            raise Stop(End.OLDER, f"server {server} says that it has {count} packets of this member, which sent {sent}:"
+                                  " this folder is older than what ran last, or the server lies")
 
     async def speak(self, server: int, link: Link) -> int:
         """Speaks for this member once all servers greeted it: each of them then hears this instance alone. Gives how

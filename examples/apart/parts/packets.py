@@ -51,7 +51,7 @@ def has(count: int) -> bytes:
 
 
 TICK = b"T"
-# What a program answers at once, and is as it was: so it has answered all that came before. To a member it is a text on a
-# log that nobody has, to a server a frame of no bytes. With each is how its answer begins.
+# What a program answers at once, and is as it was: so it has answered all that came before. To a member it is a text on
+# a log that nobody has, to a server a frame of no bytes. With each is how its answer begins.
 FENCES = {"client": ((HOST, say(0xFFFFFFFF, b"")), (HOST, b"r\xff\xff\xff\xff")),
           "server": ((1, b""), (1, b"\x0c"))}

@@ -6,11 +6,14 @@ import argparse
 import asyncio
 import logging
 import os
+import select
 import signal
 import sys
 import threading
+import time
+from collections import deque
 from pathlib import Path
-from typing import List, Tuple
+from typing import Deque, List, Tuple
 
 from parts.clock import Clock
 from parts.errors import End, Stop, Wrong
@@ -28,8 +31,10 @@ class Typed:
 
     def __init__(self, loop: asyncio.AbstractEventLoop, printer: Printer, most: int) -> None:
         self.loop, self.printer, self.most = loop, printer, most
-        self.lines: asyncio.Queue[bytes] = asyncio.Queue()
+        self.lines: Deque[bytes] = deque()
+        self.came = asyncio.Event()
         self.room = threading.Semaphore(1000)
+        self.is_at_end = False
 
     def start(self) -> None:
         threading.Thread(target=self.work, daemon=True).start()
@@ -46,22 +51,30 @@ class Typed:
                     rest, skips = b"", True
         except (OSError, RuntimeError):
             pass  # there is no standard input, or the run is over
+        self.is_at_end = True
 
     def put(self, line: bytes) -> None:
         self.room.acquire()
-        self.loop.call_soon_threadsafe(self.lines.put_nowait, line)
+        self.lines.append(line)
+        self.loop.call_soon_threadsafe(self.came.set)
 
     async def get(self) -> bytes:
         """The next line, once what was printed for earlier ones finds its way."""
         while self.printer.waiting() > self.most:
             await asyncio.sleep(0.1)
-        line = await self.lines.get()
+        while not self.lines:
+            self.came.clear()
+            await self.came.wait()
         self.room.release()
-        return line
+        return self.lines.popleft()
 
     def rest(self) -> List[bytes]:
-        """The lines that nobody took."""
-        return [self.lines.get_nowait() for _ in range(self.lines.qsize())]
+        """The lines that nobody took, with those that were just typed."""
+        end = time.monotonic() + 0.5
+        while not self.is_at_end and time.monotonic() < end and select.select([0], [], [], 0)[0]:
+            time.sleep(0.01)
+        time.sleep(0.02)
+        return list(self.lines)
 
 
 class Running:

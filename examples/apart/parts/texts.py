@@ -133,8 +133,8 @@ def is_allowed(words: bytes) -> bool:
 
 
 class Waiting:
-    """The texts that were typed and not given yet. The file `typed` has them too, so that a switch that was killed tells
-    them. It never grows and isn't synced: what is typed moves no other file's way to the disk."""
+    """The texts that were typed and not given yet. The file `typed` has them too, so that a switch that was killed
+    tells them. It never grows and isn't synced: what is typed moves no other file's way to the disk."""
 
     HEAD = struct.Struct(">IIII")  # how many texts were given before, how many and how many bytes wait, and a sum
 
