@@ -58,6 +58,7 @@ class Door:
             self.strangers[task] = address[0]
             self.tasks.add(task)
             task.add_done_callback(self.forget)
+            await asyncio.sleep(0)  # those that were turned away go first
 
     def turn_away(self) -> None:
         """Lets the oldest one go of the address that has most."""

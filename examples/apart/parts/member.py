@@ -91,8 +91,11 @@ class Member:
     def sent(self, server: int, frame: bytes) -> None:
         self.sentry.sent(server, frame)
         if server == len(self.servers) and frame[0] == WRITE:
-            for text, number, turn in self.fates.wrote():
+            sent = self.fates.wrote()
+            for text, number, turn in sent:
                 self.put(f"sent {text.log} {number} {turn}")
+            if sent and self.waiting:
+                self.waiting.save()  # (not with the tick: it would be seen)
 
     def told(self, data: bytes) -> None:
         self.put(line_of(data))
@@ -220,9 +223,7 @@ class Member:
             await self.clock.wait(until_next(self.clock.now(), seconds, is_first))
             is_first = False
             if self.may_act() and self.fates.is_quiet() and self.fates.turns_left():
-                texts = self.waiting.take(1)
-                self.carrier.feed(self.tick_packets(texts))
-                self.save(texts)
+                self.carrier.feed(self.tick_packets(self.waiting.take(1)))
 
     def may_act(self) -> bool:
         return len(self.links) == len(self.servers) and not self.carrier.over.is_set()
@@ -231,11 +232,6 @@ class Member:
         packets = [*packets_of_texts(texts), (HOST, TICK)]
         size = sum(RECORD_SIZE + len(data) for _, data in packets)
         return [*packets, filler(self.tick_size - size)]
-
-    def save(self, texts: List[Text]) -> None:
-        """What was taken waits no more."""
-        if texts:
-            self.waiting.save()
 
     async def watch(self) -> None:
         """Tells what doesn't come, where nothing came for long."""
@@ -278,7 +274,6 @@ class Member:
             count = min(turns, self.fates.turns_left())
             texts = self.waiting.take(count)
             self.carrier.feed([*packets_of_texts(texts), (HOST, ahead(count))])
-            self.save(texts)
             self.put(f"away {count}")
             if count < turns:
                 self.complaints.tell(f"away {turns}: only {count} turns were left")
