@@ -322,8 +322,9 @@ class Stage:
         member = self.members[client]
         said = list(texts_said(self.programs.member, client, packets, self.shape.turns))
         counts: Dict[int, int] = {}
-        due = []
+        due, last = [], -1
         for turn, _, log, _ in said:
+            turn = last = max(turn, last + 1)  # each turn takes one text
             due.append(f"sent {log} {counts.get(log, 0)} {turn}")
             counts[log] = counts.get(log, 0) + 1
         demand(member.lines("sent") == due, f"client {client} told {member.lines('sent')} as sent, and not {due}")

@@ -7,6 +7,7 @@ comes from another.
 from __future__ import annotations
 
 import asyncio
+import gc
 import socket
 import ssl
 from collections import Counter
@@ -15,6 +16,8 @@ from typing import Awaitable, Callable, Dict
 from parts.errors import Wrong
 from parts.tasks import ended
 
+# After how many handshakes memory is looked for.
+SOME = 64
 Answer = Callable[[asyncio.StreamReader, asyncio.StreamWriter, Callable[[], None]], Awaitable[None]]
 
 
@@ -35,6 +38,20 @@ def listening_at(host: str, port: int) -> socket.socket:
     return made
 
 
+async def first_bytes(sock: socket.socket) -> None:
+    """Waits until something came. Who says nothing costs no more than that."""
+    loop = asyncio.get_running_loop()
+    came = loop.create_future()
+    loop.add_reader(sock, lambda: came.done() or came.set_result(None))
+    try:
+        await came
+    except asyncio.CancelledError:
+        loop.remove_reader(sock)
+        sock.close()
+        raise
+    loop.remove_reader(sock)
+
+
 class Door:
     """The links that came in, and among them those that haven't greeted."""
 
@@ -43,6 +60,7 @@ class Door:
         self.context, self.most, self.seconds, self.answer, self.tell = context, most, seconds, answer, tell
         self.strangers: Dict[asyncio.Task, str] = {}  # by task its address, the oldest first
         self.tasks: set[asyncio.Task] = set()
+        self.handshakes = 0
 
     async def run(self, listening: socket.socket) -> None:
         loop = asyncio.get_running_loop()
@@ -93,6 +111,10 @@ class Door:
         """The streams of a link whose other end has a certificate of the group."""
         loop = asyncio.get_running_loop()
         sock.setblocking(False)
+        await first_bytes(sock)
+        self.handshakes += 1
+        if self.handshakes % SOME == 0:
+            gc.collect()  # links that broke within their handshake hold each other, and much memory
         reader = asyncio.StreamReader()
         protocol = asyncio.StreamReaderProtocol(reader)
         transport, _ = await loop.connect_accepted_socket(lambda: protocol, sock, ssl=self.context,
