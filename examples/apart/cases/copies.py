@@ -80,6 +80,8 @@ def two_at_once(stage: Stage) -> None:
         stage.pads()
         if first.is_over():
             break
+    if first.ended() == "ended done" and not copies[-1].is_over():
+        copies.pop().kill()  # (it came too late to be heard by any server)
     for end in [first, *copies]:
         demand(not end.is_over() or end.ended() in ("ended copied", "ended older", "ended done"),
                f"beside others a member ended {end.ended()!r}")

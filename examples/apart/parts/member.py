@@ -173,9 +173,11 @@ class Member:
             allowed.cancel()
 
     async def carry(self, server: int, link: Link, count: int) -> None:
-        """Sends what the server lacks and takes what it sends, until the link breaks."""
+        """Sends what the server lacks and takes what it sends, until the link breaks. Before all servers heard who speaks
+        nothing is taken, since the program might write or read then."""
         sending = asyncio.create_task(ToServer(self, link, server, count).run())
         try:
+            await self.carrier.first_of(self.is_heard, self.carrier.over)
             while True:
                 mark, data = await link.next(LONGEST)
                 if mark is Mark.WRITES:

@@ -48,8 +48,8 @@ class Server:
         self.longest = group.longest_frame()
         self.most_sent = group.shape.turns + group.shape.phases  # packets for one client: replies and epochs
         self.speaks: Dict[int, bytes] = {}  # by client, the last instance that spoke for it
-        self.greeted: Dict[int, Link] = {}  # by client, the last link that greeted, and the one that speaks
-        self.links: Dict[int, Link] = {}
+        self.greeted: Dict[int, Link] = {}  # by client, the link that greeted and doesn't speak yet
+        self.links: Dict[int, Link] = {}  # by client, the one that speaks
         self.closed: set[int] = set()  # the clients of whom nothing more is taken
 
     def given(self, peer: int, data: bytes) -> None:
@@ -95,9 +95,10 @@ class Server:
             has_greeted()
             link.check_certificate(greeting.peer)
             peer = greeting.peer
-            link.greet(self.speaks.get(peer, NO_INSTANCE), self.carrier.taken[peer])
+            told = self.speaks.get(peer, NO_INSTANCE)
+            link.greet(told, self.carrier.taken[peer])
             link.check_digest(greeting)
-            await self.serve(link, greeting)
+            await self.serve(link, greeting, told)
         except Wrong as why:
             who = f"{self.place.group.clients[peer - 1]} (client {peer - 1})" if peer else "a stranger"
             self.complaints.tell(f"{who}: {why}")
@@ -110,8 +111,9 @@ class Server:
                     del links[peer]
             link.close()
 
-    async def serve(self, link: Link, greeting: Greeting) -> None:
-        """What follows a greeting: the member speaks once all servers greeted it."""
+    async def serve(self, link: Link, greeting: Greeting, told: bytes) -> None:
+        """What follows a greeting, in which an instance was told as the last one: the member speaks once all servers
+        greeted it, if none but itself spoke since."""
         peer, outbox = greeting.peer, self.carrier.outbox(greeting.peer)
         if peer in self.closed:
             link.send_mark(Mark.CLOSED)
@@ -120,8 +122,12 @@ class Server:
             raise Wrong("it lost what it had on disk: start this switch anew to give it all again")
         self.replace(self.greeted, peer, link)
         mark, _ = await link.next(0)
+        if self.greeted.get(peer) is not link:
+            return
         if mark is not Mark.SPEAKS:
             raise Wrong("it sends something before it speaks")
+        if self.speaks.get(peer, NO_INSTANCE) not in (told, greeting.instance):
+            raise Wrong("another start of it speaks since it greeted")
         await self.let_speak(peer, link, greeting.instance)
         sending = asyncio.create_task(ToMember(self, link, peer, greeting.count).run())
         try:
@@ -131,6 +137,7 @@ class Server:
 
     async def let_speak(self, peer: int, link: Link, instance: bytes) -> None:
         """From now on this link alone speaks for a client. Which instance does is on disk before it is told so."""
+        del self.greeted[peer]
         self.replace(self.links, peer, link)
         if self.speaks.get(peer) != instance:
             self.speaks[peer] = instance
