@@ -2,9 +2,12 @@
 
 from __future__ import annotations
 
+import asyncio
 import shutil
+from pathlib import Path
 from typing import Tuple
 
+from cases.guest import Guest
 from cases.stage import End, Stage, demand
 from meeting import WRITE
 
@@ -69,6 +72,9 @@ def two_at_once(stage: Stage) -> None:
     stage.say(2)
     stage.wrote(1, 1)
     first, copies = stage.members[1], []
+    first.kill()
+    asyncio.run(greet_both(first.folder))
+    first.start()
     for number in range(3):
         folder = stage.folder / f"copy-{number}"
         shutil.copytree(first.folder, folder)
@@ -92,6 +98,17 @@ def two_at_once(stage: Stage) -> None:
         stage.end_all()
         stage.compare()
     stage.pads()
+
+
+async def greet_both(folder: Path) -> None:
+    """Two greet a server before either speaks: it hears one of them."""
+    one, other = Guest(folder), Guest(folder)
+    await one.greet()
+    await other.greet()
+    heard = [it for it in (other, one) if await it.is_heard()]
+    demand(len(heard) == 1, f"{len(heard)} of two that greeted are heard")
+    for it in (one, other):
+        it.link.close()
 
 
 def restored_folder(stage: Stage) -> None:

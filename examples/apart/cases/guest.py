@@ -45,7 +45,17 @@ class Guest:
 
     async def speak(self) -> Mark | None:
         """Greets and speaks. Gives the mark that it gets for it."""
-        self.link_greeting = await self.greet()
+        await self.greet()
+        return await self.only_speak()
+
+    async def is_heard(self) -> bool:
+        """Whether the server, which it greeted, hears it."""
+        try:
+            return await self.only_speak() is Mark.HEARD
+        except BROKEN:
+            return False
+
+    async def only_speak(self) -> Mark | None:
         self.link.send_mark(Mark.SPEAKS)
         mark, _ = await asyncio.wait_for(self.link.next(LONGEST), 60)
         return mark
