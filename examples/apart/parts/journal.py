@@ -1,7 +1,7 @@
 """All that a program was given, on disk: each packet and its checksum. Nothing is given before it is here.
 
 A journal begins with whose it is. Each record is a peer, a length, a sum over both and the place in the file, the
-bytes, and a sum over all. So a record that the end of the file cuts is told from one that was changed.
+bytes, a sum over all, and a last byte. So a record that the end of the file cuts is told from one that was changed.
 """
 
 from __future__ import annotations
@@ -23,6 +23,9 @@ OWNER = struct.Struct(">8sII32sI")
 ROLES = {"client": 0, "server": 1}
 HEAD = struct.Struct(">III")
 SUM = struct.Struct(">I")
+# How a record ends: with this byte, since a sum may end with zeros, as what a power cut left does.
+LAST = b"\xff"
+RECORD_SIZE = HEAD.size + SUM.size + 1
 # Peers of records that the program isn't given: who spoke for a client, what makes records longer, and that a client
 # needs no more.
 INSTANCE, FILLER, LEFT = 0xFFFFFFFF, 0xFFFFFFFE, 0xFFFFFFFD
@@ -38,10 +41,7 @@ def recorded(peer: int, data: bytes, at: int) -> bytes:
     """How a packet stands in a journal at a place."""
     begin = struct.pack(">II", peer, len(data))
     head = begin + SUM.pack(zlib.crc32(begin + struct.pack(">Q", at)))
-    return head + data + SUM.pack(zlib.crc32(head + data))
-
-
-RECORD_SIZE = HEAD.size + SUM.size
+    return head + data + SUM.pack(zlib.crc32(head + data)) + LAST
 
 
 class BadSum(Exception):
@@ -72,9 +72,8 @@ def record_at(data: bytes, at: int) -> Packet | None:
     if rest < RECORD_SIZE + size:
         return None
     end = at + HEAD.size + size
-    (told,) = SUM.unpack_from(data, end)
-    if zlib.crc32(data[at:end]) != told:
-        if not data[end:].strip(b"\0"):
+    if data[end : end + SUM.size + 1] != SUM.pack(zlib.crc32(data[at:end])) + LAST:
+        if len(data[at:].rstrip(b"\0")) < RECORD_SIZE + size:
             return None
         raise BadSum(at)
     return peer, data[at + HEAD.size : end]
