@@ -49,13 +49,15 @@ def refused(stage: Stage, end: End, data: bytes, word: str, why: str) -> None:
     path = end.folder / "journal"
     own = path.read_bytes() if path.exists() else None
     path.write_bytes(data)
+    path.chmod(0o600)
     end.start()
     stage.until(end.is_over, f"the end of {end.folder} with a wrong journal")
     demand(end.ended() == word and why in end.complaints(), f"with a wrong journal: {end.ended()!r}, and "
                                                              f"{end.complaints()!r} without {why!r}")
     demand(path.read_bytes() == data, "a journal that was refused didn't stay as it was")
-    path.unlink()
-    if own is not None:
+    if own is None:
+        path.unlink()
+    else:
         path.write_bytes(own)
 
 

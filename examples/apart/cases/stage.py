@@ -37,7 +37,8 @@ TICK_SECONDS = 0.25
 PATIENCE = 150
 # Two servers, three clients, three logs; phases and ticks follow.
 SMALL = [2, 8, 8, 36, 96, 1024, 2, 4, 3]
-FAST = Limits(pause=0.1, longest_pause=0.8, same_error=0.2, silence=6, last_lines=2, patience=2)
+FAST = Limits(pause=0.1, longest_pause=0.8, same_error=0.2, silence=6, last_lines=2, patience=2,
+              speaking=0.05)
 
 
 class Failed(Exception):

@@ -13,7 +13,7 @@ from parts.journal import LEAST_NOTE, Journal
 from parts.limits import Limits
 from parts.outbox import ALL, Outbox
 from parts.packets import FENCES, HEAD, HOST, Packet, spelled
-from parts.tasks import ended
+from parts.tasks import begun, ended
 
 
 class Carrier:
@@ -49,9 +49,9 @@ class Carrier:
         packets = [it for it in self.journal.packets if it[0] < LEAST_NOTE]
         notes = [it for it in self.journal.packets if it[0] >= LEAST_NOTE]
         self.journal.packets = []
-        self.tasks = [asyncio.create_task(self.hear_program())]
+        self.tasks = [begun(self.hear_program(), self.stop)]
         await self.give_again(packets)
-        self.tasks.append(asyncio.create_task(self.feed_program()))
+        self.tasks.append(begun(self.feed_program(), self.stop))
         if not packets:
             await self.keep([(HOST, self.place.setup)])
         self.child.stdin.write(spelled(*self.fence))

@@ -13,7 +13,7 @@ import ssl
 from collections import Counter
 from typing import Awaitable, Callable, Dict
 
-from parts.errors import Wrong
+from parts.errors import Stop, Wrong
 from parts.tasks import ended
 
 # After how many handshakes memory is looked for.
@@ -91,6 +91,8 @@ class Door:
         why = None if task.cancelled() else task.exception()
         if isinstance(why, ssl.SSLError):
             self.tell(f"a stranger: {why.reason or 'no TLS'}")
+        elif why and not isinstance(why, (OSError, EOFError, Stop)):
+            self.tell(f"unexpected: {type(why).__name__}: {why}")
 
     async def admit(self, sock: socket.socket) -> None:
         """One link, from its handshake on. It must have greeted in time."""

@@ -110,6 +110,8 @@ class Journal:
             self.file = open(path, "ab+", buffering=0)
         except OSError as error:
             raise Wrong(f"can't open {path}: {error.strerror}") from error
+        if os.fstat(self.file.fileno()).st_mode & 0o077:
+            raise Wrong(f"others can read {path}: chmod 600 {path}")
         try:
             fcntl.flock(self.file, fcntl.LOCK_EX | fcntl.LOCK_NB)
         except OSError:

@@ -13,6 +13,8 @@ class Limits:
     greeting: float = 5
     # for a server to hear who speaks
     hearing: float = 60
+    # between two starts of a member that a server hears, each of which grows its journal
+    speaking: float = 1
     # how many links beyond the clients' may be there that haven't greeted
     strangers: int = 32
     # until a link breaks whose other end acknowledges nothing

@@ -24,7 +24,7 @@ from parts.packets import HOST, LONGEST, NUMBER, TICK, Packet, ahead, has, numbe
 from parts.printable import shown
 from parts.printer import Complaints
 from parts.sentry import Differ, Sentry
-from parts.tasks import ended
+from parts.tasks import begun, ended
 from parts.texts import Fates, Judge, Text, Waiting, packets_of_texts, read_line
 
 # After how many more packets a member says how many of a server's are on its disk.
@@ -307,7 +307,7 @@ class Member:
         """What goes on until the run is over."""
         works = [self.keep_link(server, context) for server in self.servers]
         works += [self.tick(), self.watch(), self.leave(), self.listen(lines)]
-        tasks = [asyncio.create_task(work) for work in works]
+        tasks = [begun(work, self.carrier.stop) for work in works]
         await self.carrier.over.wait()
         if self.carrier.is_done():
             await self.take_leave()

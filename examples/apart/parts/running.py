@@ -13,7 +13,7 @@ import threading
 import time
 from collections import deque
 from pathlib import Path
-from typing import Deque, List, Tuple
+from typing import Any, Deque, Dict, List, Tuple
 
 from parts.clock import Clock
 from parts.errors import End, Stop, Wrong
@@ -90,8 +90,7 @@ class Running:
 
     async def run(self, program: Path, keeps: bool) -> End:
         loop = asyncio.get_running_loop()
-        # (what strangers break is told by nobody but the door)
-        loop.set_exception_handler(lambda loop, context: None)
+        loop.set_exception_handler(self.tell_unexpected)
         logging.getLogger("asyncio").setLevel(logging.CRITICAL)
         if self.form == "serve":
             made = Server(self.place, self.complaints, self.limits)
@@ -108,6 +107,12 @@ class Running:
         if made.carrier.why:
             self.complaints.tell(made.carrier.why)
         return made.carrier.end
+
+    def tell_unexpected(self, _: asyncio.AbstractEventLoop, context: Dict[str, Any]) -> None:
+        """Tells what nobody waits for; not that a link broke."""
+        why = context.get("exception")
+        if why and not isinstance(why, (OSError, EOFError)):
+            self.complaints.tell(f"unexpected: {type(why).__name__}: {why}")
 
     def clear(self, made: Server | Member, keeps: bool) -> None:
         """Deletes what a run leaves that is over for all who need it from here."""

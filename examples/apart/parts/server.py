@@ -18,7 +18,7 @@ from parts.link import COUNT, NO_INSTANCE, Greeting, Link, Mark, Sender
 from parts.outbox import ALL
 from parts.packets import HOST, NUMBER, number_at
 from parts.printer import Complaints
-from parts.tasks import ended
+from parts.tasks import begun, ended
 
 BROKEN = (OSError, asyncio.IncompleteReadError, ssl.SSLError)
 
@@ -48,6 +48,7 @@ class Server:
         self.longest = group.longest_frame()
         self.most_sent = group.shape.turns + group.shape.phases  # packets for one client: replies and epochs
         self.speaks: Dict[int, bytes] = {}  # by client, the last instance that spoke for it
+        self.spoke: Dict[int, float] = {}  # by client, when another instance than before began to speak
         self.greeted: Dict[int, Link] = {}  # by client, the link that greeted and doesn't speak yet
         self.links: Dict[int, Link] = {}  # by client, the one that speaks
         self.closed: set[int] = set()  # the clients of whom nothing more is taken
@@ -68,7 +69,7 @@ class Server:
                 self.carrier.outbox(number_at(note, 0)).is_done = True
         most = place.group.shape.clients + self.limits.strangers
         door = Door(context, most, self.limits.greeting, self.answer, self.complaints.tell)
-        task = asyncio.create_task(door.run(listening))
+        task = begun(door.run(listening), self.carrier.stop)
         await self.carrier.over.wait()
         # the last replies are on their way, or a member will fetch them
         while self.carrier.is_done() and not self.carrier.is_delivered() and not self.carrier.is_stopped:
@@ -122,10 +123,11 @@ class Server:
             raise Wrong("it lost what it had on disk: start this switch anew to give it all again")
         self.replace(self.greeted, peer, link)
         mark, _ = await link.next(0)
-        if self.greeted.get(peer) is not link:
-            return
         if mark is not Mark.SPEAKS:
             raise Wrong("it sends something before it speaks")
+        await asyncio.sleep(self.spoke.get(peer, 0) + self.limits.speaking - asyncio.get_running_loop().time())
+        if self.greeted.get(peer) is not link:
+            return
         if self.speaks.get(peer, NO_INSTANCE) not in (told, greeting.instance):
             raise Wrong("another start of it speaks since it greeted")
         await self.let_speak(peer, link, greeting.instance)
@@ -140,7 +142,7 @@ class Server:
         del self.greeted[peer]
         self.replace(self.links, peer, link)
         if self.speaks.get(peer) != instance:
-            self.speaks[peer] = instance
+            self.speaks[peer], self.spoke[peer] = instance, asyncio.get_running_loop().time()
             await self.carrier.keep([(INSTANCE, NUMBER.pack(peer) + instance)])
         if self.links.get(peer) is link:
             link.send_mark(Mark.HEARD, COUNT.pack(self.carrier.taken[peer]))

@@ -1,9 +1,24 @@
-"""Ends tasks."""
+"""Begins and ends tasks."""
 
 from __future__ import annotations
 
 import asyncio
-from typing import Iterable
+from typing import Callable, Coroutine, Iterable
+
+from parts.errors import End
+
+
+def begun(work: Coroutine, stop: Callable[[End, str], None]) -> asyncio.Task:
+    """A task without which nothing goes on: where it fails, that is told, and all ends."""
+
+    def tell(task: asyncio.Task) -> None:
+        why = None if task.cancelled() else task.exception()
+        if why:
+            stop(End.BROKEN, f"unexpected: {type(why).__name__}: {why}")
+
+    task = asyncio.create_task(work)
+    task.add_done_callback(tell)
+    return task
 
 
 async def ended(tasks: Iterable[asyncio.Task]) -> None:
