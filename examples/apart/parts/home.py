@@ -184,6 +184,8 @@ class Used:
         self.path = home / "used"
         lines = lines_of(read(self.path), str(self.path)) if self.path.exists() else []
         self.rows = [line.split(" ") for line in lines]
+        if (home / "last-run").exists():  # (as it was kept before)
+            self.rows.append([read(home / "last-run").decode("ascii").strip()])
 
     def check(self, group: Group, roots: dict[int, bytes]) -> None:
         """Refuses a run that was there, and a root that is to be a new one and was used."""
