@@ -129,7 +129,8 @@ def refuse_bad_frames(stage: Stage) -> None:
     answers = asyncio.run(guest.sends([kinds[name]] * 5))
     demand(answers == [refusal(causes[name])], f"a bad frame, {name}, got {answers} and not cause {causes[name]}")
     demand(asyncio.run(Guest(stage.members[client].folder).is_closed_out()), "a client whose frame was refused got in")
-    demand(f"a frame of it is refused ({causes[name].name.lower()})" in server.complaints(), "no word of a bad frame")
+    word = f"a frame of it is refused ({causes[name].name.lower()})"
+    stage.until(lambda: word in server.complaints(), "a word of a bad frame")
     demand([data for peer, data in server.journal() if peer == client + 1] == own, "a bad frame got into the journal")
     server.restart()
     stage.members[client].start()

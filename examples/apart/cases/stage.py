@@ -117,9 +117,21 @@ class End:
         return self
 
     def kill(self) -> None:
-        """As a power cut would."""
+        """At once, but when what was typed came to the switch: what is on its way there nobody can tell of."""
+        end = time.monotonic() + 20
+        while not self.is_over() and time.monotonic() < end and not self.has_come():
+            time.sleep(0.05)
         self.process.kill()
         self.process.wait()
+
+    def has_come(self) -> bool:
+        """Whether each text that was typed is in a file of the folder, or has been told of."""
+        paths = [self.folder / "typed", self.folder / "journal", *(path for path, _ in self.files)]
+        data = b"".join(path.read_bytes() for path in paths if path.exists())
+        refused = data.count(b"\nrefused ") + data.startswith(b"refused ")
+        texts = [line.split(" ", 2)[2] for line in self.typed]
+        missing = [it for it in texts if it.encode() not in data and shown(it).encode() not in data]
+        return len(missing) <= refused
 
     def stop(self) -> None:
         self.process.send_signal(signal.SIGTERM)
