@@ -39,7 +39,7 @@ def fates(stage: Stage) -> None:
     stage.until(lambda: cem.lines("away"), "a member to go away")
     cem.type("say 2 too late")
     stage.until(lambda: "refused 2 over" in cem.told(), "a refusal of a text after the last turn")
-    demand("turns were left" in cem.complaints(), "away beyond the end was taken without a word")
+    stage.until(lambda: "turns were left" in cem.complaints(), "a word about away beyond the end")
     ann.kill()
     ann.start()
     stage.end_all()
