@@ -51,9 +51,11 @@ def kill_some(stage: Stage) -> None:
         end.kill()
         if stage.rng.random() < 0.5:
             path = end.folder / "journal"
-            record = journal.recorded(1, bytes(20), path.stat().st_size)
-            with open(path, "ab") as file:
-                file.write(record[: stage.rng.randint(1, len(record) - 1)])
+            data = path.read_bytes()
+            # (what an earlier kill tore off isn't cut off yet where the switch was killed before it came to that)
+            whole = data[: journal.records_of(data).end]
+            record = journal.recorded(1, bytes(20), len(whole))
+            path.write_bytes(whole + record[: stage.rng.randint(1, len(record) - 1)])
         time.sleep(stage.rng.random() / 2)
         end.start()
 
