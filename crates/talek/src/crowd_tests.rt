@@ -160,14 +160,14 @@ fn twelve_clients_at_once(rt: HostRuntime) -> Result<(), Fail> {
     let mut taps = taps_of(alloc)?;
     let report = written(&rt, &["run", "3"], input, &mut taps)?;
     let told = retold(alloc, &script, &draws, report.as_slice())?;
-    assert_eq!(rt; report.as_slice(), told.as_slice());
+    assert!(rt; report.as_slice() == told.as_slice());
     let history = viewed(alloc, report.as_slice())?;
     for (server, word) in [(1, "1"), (2, "2")] {
         let mut untapped = taps_of(alloc)?;
         let view = written(&rt, &["view", word], history.as_slice(), &mut untapped)?;
         let frames = frames_in(alloc, view.as_slice(), taps.bytes(server))?;
         // sixteen turns of twelve records and as many reads, and eight marks
-        assert_eq!(rt; frames, 392);
+        assert!(rt; frames == 392);
     }
     Ok(())
 }

@@ -72,13 +72,13 @@ fn texts_cut_off(rt: HostRuntime) -> Result<(), Fail> {
             line: lines as u64 + 1,
             cause: Cause::Early,
         };
-        assert_eq!(rt; traces.status, status, "behind line {lines}");
+        assert!(rt; traces.status == status, "behind line {lines}");
         assert!(rt; is_told(&traces), "behind line {lines}");
     }
     for (lines, end, status) in ENDS {
         let input = cut(alloc, lines, end)?;
         let traces = traces_of(&rt, &["serial"], input.as_slice(), Object::Source, 0)?;
-        assert_eq!(rt; traces.status, status, "behind {end}");
+        assert!(rt; traces.status == status, "behind {end}");
         assert!(rt; is_told(&traces), "behind {end}");
     }
     Ok(())

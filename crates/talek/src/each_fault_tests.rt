@@ -41,23 +41,19 @@ fn lengths_of(traces: &Traces) -> (usize, usize, usize) {
 fn faults_of_serial_runs(rt: HostRuntime) -> Result<(), Fail> {
     let words = ["serial"].as_slice();
     let whole = traces_of(&rt, words, ONE_TEXT, Object::Source, 0)?;
-    assert_eq!(rt; lengths_of(&whole), (0, 119, 3288));
-    assert_eq!(rt; whole.written.as_slice(), REPORT);
+    assert!(rt; lengths_of(&whole) == (0, 119, 3288));
+    assert!(rt; whole.written.as_slice() == REPORT);
     for (object, calls, status) in FAULTS {
         for call in 1..=calls {
             let traces = traces_of(&rt, words, ONE_TEXT, object, call)?;
-            assert_eq!(rt; traces.status, status, "at {object:?} {call}");
-            assert_eq!(rt;
-                lengths_of(&traces),
-                lengths(object, call),
+            assert!(rt; traces.status == status, "at {object:?} {call}");
+            assert!(rt;
+                lengths_of(&traces) == lengths(object, call),
                 "at {object:?} {call}"
             );
             assert!(rt; traces.is_front_of(&whole), "at {object:?} {call}");
         }
-        assert_eq!(rt;
-            traces_of(&rt, words, ONE_TEXT, object, calls.saturating_add(1))?,
-            whole
-        );
+        assert!(rt; traces_of(&rt, words, ONE_TEXT, object, calls.saturating_add(1))? == whole);
     }
     Ok(())
 }
@@ -68,10 +64,9 @@ fn faults_of_runs_with_threads(rt: HostRuntime) -> Result<(), Fail> {
     for (object, calls, status) in FAULTS_OF_THREADS {
         for call in 1..=calls {
             let traces = traces_of(&rt, words, ONE_TEXT, object, call)?;
-            assert_eq!(rt; traces.status, status, "at {object:?} {call}");
-            assert_eq!(rt;
-                lengths_of(&traces),
-                lengths(object, call),
+            assert!(rt; traces.status == status, "at {object:?} {call}");
+            assert!(rt;
+                lengths_of(&traces) == lengths(object, call),
                 "at {object:?} {call}"
             );
         }

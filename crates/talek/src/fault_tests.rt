@@ -57,20 +57,20 @@ fn faults_and_calls_after_them(rt: HostRuntime) -> Result<(), Fail> {
         let mut taps = taps_failing(alloc, call)?;
         let words = &["serial"];
         let ended = run_tapped(&rt, words, &mut source, &mut sink, &mut taps)?;
-        assert_eq!(rt; ended, status);
-        assert_eq!(rt; source.left().len(), left);
-        assert_eq!(rt; sink.bytes(), held.as_bytes());
-        assert_eq!(rt; (taps.bytes(1).len(), taps.bytes(2).len()), (first, second));
+        assert!(rt; ended == status);
+        assert!(rt; source.left().len() == left);
+        assert!(rt; sink.bytes() == held.as_bytes());
+        assert!(rt; (taps.bytes(1).len(), taps.bytes(2).len()) == (first, second));
 
         let ended = run_tapped(&rt, words, &mut source, &mut sink, &mut taps)?;
         let cause = if left == 0 { Cause::Early } else { Cause::Form };
-        assert_eq!(rt; ended, Status::Script { line: 1, cause });
+        assert!(rt; ended == Status::Script { line: 1, cause });
         let mut source = source_of(alloc, ONE_TEXT)?;
         let ended = run_tapped(&rt, words, &mut source, &mut sink, &mut taps)?;
-        assert_eq!(rt; ended, Status::Done);
+        assert!(rt; ended == Status::Done);
         let both = joined(alloc, &[held.as_bytes(), REPORT])?;
-        assert_eq!(rt; sink.bytes(), both.as_slice());
-        assert_eq!(rt; taps.bytes(1).len(), first + 1644);
+        assert!(rt; sink.bytes() == both.as_slice());
+        assert!(rt; taps.bytes(1).len() == first + 1644);
     }
     Ok(())
 }

@@ -122,8 +122,8 @@ fn lifted_scripts(rt: HostRuntime) -> Result<(), Fail> {
     // of format 2 a script stays as it is
     for (input, text) in [(ONE_TEXT, LIFTED), (LIFTED, LIFTED), (LARGE, LARGE)] {
         let (status, written) = lifted(&rt, input)?;
-        assert_eq!(rt; status, Status::Done);
-        assert_eq!(rt; written.as_slice(), text);
+        assert!(rt; status == Status::Done);
+        assert!(rt; written.as_slice() == text);
     }
     Ok(())
 }
@@ -135,8 +135,8 @@ fn lifted_run(rt: HostRuntime) -> Result<(), Fail> {
     let mut sink = MemSink::new(alloc, 4096, Vec::new(alloc));
     let mut taps = taps_of(alloc)?;
     let status = run_tapped(&rt, &["serial"], &mut source, &mut sink, &mut taps)?;
-    assert_eq!(rt; status, Status::Done);
-    assert_eq!(rt; sink.bytes(), REPORT);
+    assert!(rt; status == Status::Done);
+    assert!(rt; sink.bytes() == REPORT);
     let seen = taps.bytes(1);
     if seen.len() < REPLY {
         return Err(Fail::from("a reply"));
@@ -149,7 +149,7 @@ fn lifted_run(rt: HostRuntime) -> Result<(), Fail> {
 #[test]
 fn most_buckets(rt: HostRuntime) -> Result<(), Fail> {
     let (status, written) = run_serially(&rt, LARGE)?;
-    assert_eq!(rt; status, Status::Done);
+    assert!(rt; status == Status::Done);
     assert!(rt; written.ends_with(b"log 0 1 0\nunsent 0 0\nunsent 1 0\nend\n"));
     Ok(())
 }
@@ -161,7 +161,7 @@ fn refused_formats(rt: HostRuntime) -> Result<(), Fail> {
         let mut source = source_of(alloc, input)?;
         let mut sink = MemSink::new(alloc, 4096, Vec::new(alloc));
         let status = run(&rt, &[word], &mut source, &mut sink)?;
-        assert_eq!(rt; status, refusal);
+        assert!(rt; status == refusal);
         assert!(rt; sink.bytes().is_empty());
     }
     Ok(())

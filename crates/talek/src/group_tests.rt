@@ -35,14 +35,14 @@ unsent 0
 fn made_groups(rt: HostRuntime) -> Result<(), Fail> {
     for (number, first, last) in MADE {
         let (end, script) = tried(&rt, &["make", number], ONE_TEXT)?;
-        assert_eq!(rt; end, (Status::Done, ONE_TEXT.len(), 0));
+        assert!(rt; end == (Status::Done, ONE_TEXT.len(), 0));
         assert!(rt; script.starts_with(GROUP));
         assert!(rt; script.ends_with(last.as_bytes()));
         let mut lines = script.as_slice().split(|byte| *byte == b'\n');
         let said = lines
             .find(|line| line.starts_with(b"say "))
             .ok_or("a text")?;
-        assert_eq!(rt; said, first.as_bytes());
+        assert!(rt; said == first.as_bytes());
     }
     Ok(())
 }
@@ -52,17 +52,17 @@ fn made_groups(rt: HostRuntime) -> Result<(), Fail> {
 fn lifted_group(rt: HostRuntime) -> Result<(), Fail> {
     let (_, script) = tried(&rt, &["make", "1"], b"")?;
     let ((status, left, seen), lifted) = tried(&rt, &["lift"], script.as_slice())?;
-    assert_eq!(rt; (status, left, seen), (Status::Done, 0, 0));
+    assert!(rt; (status, left, seen) == (Status::Done, 0, 0));
     assert!(rt; lifted.starts_with(b"talek 2\n"));
     if script.len() < 8 {
         return Err(Fail::from("a first line"));
     }
     assert!(rt; lifted.ends_with(&script[8..]));
-    assert_eq!(rt; lifted.len(), script.len());
+    assert!(rt; lifted.len() == script.len());
     let (_, written) = tried(&rt, &["serial"], script.as_slice())?;
     let ((status, _, _), again) = tried(&rt, &["serial"], lifted.as_slice())?;
-    assert_eq!(rt; status, Status::Done);
-    assert_eq!(rt; again, written);
+    assert!(rt; status == Status::Done);
+    assert!(rt; again == written);
     Ok(())
 }
 
@@ -70,16 +70,13 @@ fn lifted_group(rt: HostRuntime) -> Result<(), Fail> {
 fn made_group_twice(rt: HostRuntime) -> Result<(), Fail> {
     let (_, script) = tried(&rt, &["make", "1"], b"")?;
     let ((status, left, _), written) = tried(&rt, &["serial"], script.as_slice())?;
-    assert_eq!(rt; (status, left), (Status::Done, 0));
+    assert!(rt; (status, left) == (Status::Done, 0));
     let ((status, left, _), again) = tried(&rt, &["serial"], script.as_slice())?;
-    assert_eq!(rt; (status, left), (Status::Done, 0));
-    assert_eq!(rt; written, again);
+    assert!(rt; (status, left) == (Status::Done, 0));
+    assert!(rt; written == again);
     // two texts for each of eight followers in each of seven phases
     let lines = written.as_slice().split(|byte| *byte == b'\n');
-    assert_eq!(rt;
-        lines.filter(|line| line.starts_with(b"text ")).count(),
-        112
-    );
+    assert!(rt; lines.filter(|line| line.starts_with(b"text ")).count() == 112);
     Ok(())
 }
 
@@ -95,9 +92,9 @@ fn runs_of_several_workers(rt: HostRuntime) -> Result<(), Fail> {
     print(&script, &mut text)?;
     for words in [["run", "4"].as_slice(), &["run", "2", "3"]] {
         let ((status, left, _), written) = tried(&rt, words, text.as_slice())?;
-        assert_eq!(rt; (status, left), (Status::Done, 0));
+        assert!(rt; (status, left) == (Status::Done, 0));
         let told = retold(alloc, &script, &draws, written.as_slice())?;
-        assert_eq!(rt; written, told);
+        assert!(rt; written == told);
     }
     Ok(())
 }
@@ -105,7 +102,7 @@ fn runs_of_several_workers(rt: HostRuntime) -> Result<(), Fail> {
 #[test]
 fn counts_of_a_made_group(rt: HostRuntime) -> Result<(), Fail> {
     let (end, written) = tried(&rt, &["tally", "1"], ONE_TEXT)?;
-    assert_eq!(rt; end, (Status::Done, ONE_TEXT.len(), 0));
-    assert_eq!(rt; written.as_slice(), COUNTS);
+    assert!(rt; end == (Status::Done, ONE_TEXT.len(), 0));
+    assert!(rt; written.as_slice() == COUNTS);
     Ok(())
 }

@@ -117,9 +117,8 @@ fn refused_inputs(rt: HostRuntime) -> Result<(), Fail> {
     let alloc = rt.alloc();
     for (number, line, status) in CHANGED {
         let input = changed(alloc, number, line.as_bytes(), 18)?;
-        assert_eq!(rt;
-            refused(&rt, input.as_slice())?,
-            (status, 0, 0),
+        assert!(rt;
+            refused(&rt, input.as_slice())? == (status, 0, 0),
             "at {line}"
         );
     }
@@ -129,9 +128,8 @@ fn refused_inputs(rt: HostRuntime) -> Result<(), Fail> {
             line: lines as u64 + 1,
             cause: Cause::Early,
         };
-        assert_eq!(rt;
-            refused(&rt, input.as_slice())?,
-            (early, 0, 0),
+        assert!(rt;
+            refused(&rt, input.as_slice())? == (early, 0, 0),
             "at {lines}"
         );
     }
@@ -148,7 +146,7 @@ fn longest_inputs(rt: HostRuntime) -> Result<(), Fail> {
     };
     for (size, status) in [(8388608, form), (8388609, Status::TooLong)] {
         let input = vec![in alloc; 0u8; size]?;
-        assert_eq!(rt; refused(&rt, input.as_slice())?, (status, 0, 0));
+        assert!(rt; refused(&rt, input.as_slice())? == (status, 0, 0));
     }
     Ok(())
 }

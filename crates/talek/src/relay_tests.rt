@@ -88,8 +88,8 @@ fn relayed_group(rt: HostRuntime) -> Result<(), Fail> {
     let (_, script) = tried(&rt, &["make", "1"], b"")?;
     let (_, written) = tried(&rt, &["serial"], script.as_slice())?;
     let ((status, left, _), relayed) = tried(&rt, &["relay"], script.as_slice())?;
-    assert_eq!(rt; (status, left), (Status::Done, 0));
-    assert_eq!(rt; relayed, written);
+    assert!(rt; (status, left) == (Status::Done, 0));
+    assert!(rt; relayed == written);
     Ok(())
 }
 
@@ -108,17 +108,17 @@ fn what_each_server_sees(rt: HostRuntime) -> Result<(), Fail> {
         &mut taps,
         &OpenGate,
     );
-    assert_eq!(rt; ended.status, Status::Done);
-    assert_eq!(rt; sink.bytes(), REPORT);
+    assert!(rt; ended.status == Status::Done);
+    assert!(rt; sink.bytes() == REPORT);
     for (server, seen) in [(1, FIRST), (2, SECOND), (3, "")] {
         let digits = hex::encode(alloc, taps.bytes(server))?;
-        assert_eq!(rt; digits.as_bytes(), digits_of(alloc, seen)?.as_slice());
+        assert!(rt; digits.as_bytes() == digits_of(alloc, seen)?.as_slice());
     }
     assert!(rt; ended.closed.is_none());
     let outcome = ended.outcome.ok_or("an outcome")?;
     let mut left = Vec::new(alloc);
     print_outcome(alloc, &outcome, &mut left)?;
-    assert_eq!(rt; left.as_slice(), REPORT);
+    assert!(rt; left.as_slice() == REPORT);
     Ok(())
 }
 
@@ -129,14 +129,14 @@ fn eight_servers(rt: HostRuntime) -> Result<(), Fail> {
     let mut sink = MemSink::new(alloc, 4096, Vec::new(alloc));
     let mut taps = taps_of(alloc)?;
     let status = run_tapped(&rt, &["relay"], &mut source, &mut sink, &mut taps)?;
-    assert_eq!(rt; status, Status::Done);
-    assert_eq!(rt; sink.bytes(), LARGER_REPORT);
+    assert!(rt; status == Status::Done);
+    assert!(rt; sink.bytes() == LARGER_REPORT);
     // twelve records of 54 bytes, two marks, and twelve reads: of each the first server sees a bundle of 30 bytes
     // and seven replies of 174, and each other its part of 16 and its reply
     let entries = 12 * 54 + 2 * 14;
-    assert_eq!(rt; taps.bytes(1).len(), entries + 12 * (30 + 7 * 174));
+    assert!(rt; taps.bytes(1).len() == entries + 12 * (30 + 7 * 174));
     for server in 2..9 {
-        assert_eq!(rt; taps.bytes(server).len(), entries + 12 * (16 + 174));
+        assert!(rt; taps.bytes(server).len() == entries + 12 * (16 + 174));
     }
     Ok(())
 }
@@ -148,8 +148,8 @@ fn relayed_in_format_2(rt: HostRuntime) -> Result<(), Fail> {
         let (_, lifted) = tried(&rt, &["lift"], input)?;
         assert!(rt; lifted.starts_with(b"talek 2\n"));
         let ((status, left, _), written) = tried(&rt, &["relay"], lifted.as_slice())?;
-        assert_eq!(rt; (status, left), (Status::Done, 0));
-        assert_eq!(rt; written.as_slice(), report);
+        assert!(rt; (status, left) == (Status::Done, 0));
+        assert!(rt; written.as_slice() == report);
     }
     Ok(())
 }
@@ -168,7 +168,7 @@ fn inputs_refused(rt: HostRuntime) -> Result<(), Fail> {
         (with_tape.as_slice(), at_line(10, Cause::After)),
     ] {
         let (end, written) = tried(&rt, &["relay"], input)?;
-        assert_eq!(rt; end, (status, 0, 0));
+        assert!(rt; end == (status, 0, 0));
         assert!(rt; written.is_empty());
     }
     // a text that is cut off behind any of its lines
@@ -176,7 +176,7 @@ fn inputs_refused(rt: HostRuntime) -> Result<(), Fail> {
         let input = lines_from(alloc, KEYED, 1, lines)?;
         let (end, written) = tried(&rt, &["relay"], input.as_slice())?;
         let status = at_line(lines as u64 + 1, Cause::Early);
-        assert_eq!(rt; end, (status, 0, 0), "behind line {lines}");
+        assert!(rt; end == (status, 0, 0), "behind line {lines}");
         assert!(rt; written.is_empty());
     }
     Ok(())
@@ -200,11 +200,10 @@ fn faults(rt: HostRuntime) -> Result<(), Fail> {
     let whole = traces_of(&rt, words, KEYED, Object::Source, 0)?;
     for (object, call, status, written, seen) in FAULTS {
         let traces = traces_of(&rt, words, KEYED, object, call)?;
-        assert_eq!(rt; traces.status, status, "at {object:?} {call}");
-        assert_eq!(rt; traces.written.len(), written, "at {object:?} {call}");
-        assert_eq!(rt;
-            (traces.first.len(), traces.second.len()),
-            seen,
+        assert!(rt; traces.status == status, "at {object:?} {call}");
+        assert!(rt; traces.written.len() == written, "at {object:?} {call}");
+        assert!(rt;
+            (traces.first.len(), traces.second.len()) == seen,
             "at {object:?} {call}"
         );
         assert!(rt; traces.is_front_of(&whole), "at {object:?} {call}");

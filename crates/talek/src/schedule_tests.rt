@@ -159,10 +159,10 @@ fn run_by_seeds<R: AllocGlobal + Threads + Wait + Sync + Abort>(
     for seed in 0..RUNS {
         let gate = Spinning::new(seed);
         let (status, written) = ran(rt, words, input, &gate)?;
-        assert_eq!(rt; status, Status::Done, "with seed {seed}");
-        assert_eq!(rt; gate.came.load(SeqCst), came, "with seed {seed}");
+        assert!(rt; status == Status::Done, "with seed {seed}");
+        assert!(rt; gate.came.load(SeqCst) == came, "with seed {seed}");
         let told = retold_of(alloc, input, written.as_slice())?;
-        assert_eq!(rt; written, told, "with seed {seed}");
+        assert!(rt; written == told, "with seed {seed}");
     }
     Ok(())
 }

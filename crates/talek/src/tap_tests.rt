@@ -205,11 +205,11 @@ fn what_taps_get(rt: HostRuntime) -> Result<(), Fail> {
         let mut sink = MemSink::new(alloc, 4096, Vec::new(alloc));
         let mut taps = taps_of(alloc)?;
         let ended = run_tapped(&rt, &["serial"], &mut source, &mut sink, &mut taps)?;
-        assert_eq!(rt; ended, Status::Done);
-        assert_eq!(rt; sink.bytes(), report);
+        assert!(rt; ended == Status::Done);
+        assert!(rt; sink.bytes() == report);
         for (server, seen) in [(1, all_seen[0]), (2, all_seen[1]), (3, all_seen[2])] {
             let digits = hex::encode(alloc, taps.bytes(server))?;
-            assert_eq!(rt; digits.as_bytes(), digits_of(alloc, seen)?.as_slice());
+            assert!(rt; digits.as_bytes() == digits_of(alloc, seen)?.as_slice());
         }
     }
 
@@ -217,12 +217,12 @@ fn what_taps_get(rt: HostRuntime) -> Result<(), Fail> {
     let mut sink = MemSink::new(alloc, 4096, Vec::new(alloc));
     let mut taps = taps_of(alloc)?;
     let ended = run_tapped(&rt, &["serial"], &mut source, &mut sink, &mut taps)?;
-    assert_eq!(rt; ended, Status::Done);
-    assert_eq!(rt; sink.bytes(), LARGER_REPORT);
+    assert!(rt; ended == Status::Done);
+    assert!(rt; sink.bytes() == LARGER_REPORT);
     for server in 1..9 {
         // twelve records of 54 bytes, two marks, and twelve reads of 16 with replies of 174
         let count = 12 * 54 + 2 * 14 + 12 * (16 + 174);
-        assert_eq!(rt; taps.bytes(server).len(), count);
+        assert!(rt; taps.bytes(server).len() == count);
     }
     Ok(())
 }

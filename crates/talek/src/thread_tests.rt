@@ -45,16 +45,16 @@ fn run_with_threads(rt: HostRuntime) -> Result<(), Fail> {
             &mut taps,
             &OpenGate,
         );
-        assert_eq!(rt; ended.status, Status::Done);
+        assert!(rt; ended.status == Status::Done);
         let told = retold(alloc, &script, &draws, sink.bytes())?;
-        assert_eq!(rt; sink.bytes(), told.as_slice());
+        assert!(rt; sink.bytes() == told.as_slice());
         let outcome = ended.outcome.ok_or("an outcome")?;
         let mut left = Vec::new(alloc);
         print_outcome(alloc, &outcome, &mut left)?;
-        assert_eq!(rt; left.as_slice(), told.as_slice());
+        assert!(rt; left.as_slice() == told.as_slice());
         let closed = ended.closed.ok_or("a closed cluster")?;
-        assert_eq!(rt; closed.order().as_slice().len(), 6);
-        assert_eq!(rt; (taps.bytes(1).len(), taps.bytes(2).len()), (1644, 1644));
+        assert!(rt; closed.order().as_slice().len() == 6);
+        assert!(rt; (taps.bytes(1).len(), taps.bytes(2).len()) == (1644, 1644));
     }
     Ok(())
 }

@@ -59,7 +59,7 @@ fn words(rt: HostRuntime) -> Result<(), Fail> {
         &["serial", "1"],
     ] {
         let (end, written) = tried(&rt, words, ONE_TEXT)?;
-        assert_eq!(rt; end, (Status::Usage, ONE_TEXT.len(), 0));
+        assert!(rt; end == (Status::Usage, ONE_TEXT.len(), 0));
         assert!(rt; written.is_empty());
     }
     Ok(())
@@ -74,8 +74,8 @@ fn handles(rt: HostRuntime) -> Result<(), Fail> {
         (largest, UPPER_ROOT, LAST_HANDLE),
     ] {
         let (end, written) = tried(&rt, &["handle", id, root], ONE_TEXT)?;
-        assert_eq!(rt; end, (Status::Done, ONE_TEXT.len(), 0));
-        assert_eq!(rt; written.as_slice(), line.as_bytes());
+        assert!(rt; end == (Status::Done, ONE_TEXT.len(), 0));
+        assert!(rt; written.as_slice() == line.as_bytes());
     }
     Ok(())
 }
@@ -84,16 +84,16 @@ fn handles(rt: HostRuntime) -> Result<(), Fail> {
 fn handle_of_zero_bytes(rt: HostRuntime) -> Result<(), Fail> {
     assert!(rt; Handle::from_bytes(&[0; 103]).is_none());
     let handle = Handle::from_bytes(&[0; 104]).ok_or("104 bytes")?;
-    assert_eq!(rt; handle.to_bytes().as_slice(), [0; 104].as_slice());
+    assert!(rt; handle.to_bytes().as_slice() == [0; 104].as_slice());
     let text = b"hi";
     assert!(rt; allowed(text).is_none());
     let mut block = [0; 24];
     seal(&handle, 0, text, &mut block);
-    assert_eq!(rt; &block[..8], b"\x9f\x05\x8f\xd7\x55\x51\x38\x7a".as_slice());
+    assert!(rt; &block[..8] == b"\x9f\x05\x8f\xd7\x55\x51\x38\x7a".as_slice());
     let mut out = [9; 6];
-    assert_eq!(rt; open(&handle, 0, &block, &mut out), Some(2));
-    assert_eq!(rt; &out[..2], text.as_slice());
+    assert!(rt; open(&handle, 0, &block, &mut out) == Some(2));
+    assert!(rt; &out[..2] == text.as_slice());
     block[23] ^= 1;
-    assert_eq!(rt; open(&handle, 0, &block, &mut out), None);
+    assert!(rt; open(&handle, 0, &block, &mut out) == None);
     Ok(())
 }
