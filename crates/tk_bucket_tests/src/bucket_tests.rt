@@ -56,12 +56,13 @@ fn slots_written_moved_and_cleared(rt: HostRuntime) -> Result<(), Fail> {
     buckets.move_slot(Step2 { bucket: 1, slot: 0 }, Step2 { bucket: 0, slot: 1 });
     assert!(rt; buckets.is_empty(1, 0));
     let slot = buckets.slot(0, 1);
-    let numbers = (slot.position, slot.first, slot.second);
-    assert!(rt; numbers == (0x0102030405060708, 0x090a0b0c, 0x0d0e0f10));
-    assert!(rt; slot.block == BLOCK.as_slice());
+    assert_eq!(rt; slot.position, 0x0102030405060708);
+    assert_eq!(rt; slot.first, 0x090a0b0c);
+    assert_eq!(rt; slot.second, 0x0d0e0f10);
+    assert_eq!(rt; slot.block, BLOCK.as_slice());
     buckets.clear_slot(0, 1);
     assert!(rt; buckets.is_empty(0, 1));
-    assert!(rt; buckets.slot(0, 1).block == [0; 24].as_slice());
+    assert_eq!(rt; buckets.slot(0, 1).block, [0; 24].as_slice());
     Ok(())
 }
 
