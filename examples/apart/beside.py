@@ -3,11 +3,14 @@
 import importlib.util
 import pathlib
 import socket
+import sys
 from importlib.machinery import SourceFileLoader
 
 HERE = pathlib.Path(__file__).resolve().parent
-# Where `./prove` leaves the programs, and the launchers that build them without proof.
+# Where the launchers of the programs are, which find the proved ones or build them without proof.
 TOP = HERE.parent.parent
+# Where `tool` is, which says how a tool takes its words and ends.
+sys.path.append(str(HERE.parent))
 # The twelve numbers of a shape, as a plan names them.
 FIELDS = ["servers", "buckets", "depth", "retained", "block", "filter", "hits", "ahead", "clients", "phases", "ticks",
           "logs"]

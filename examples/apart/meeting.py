@@ -10,9 +10,11 @@ import subprocess
 from typing import NamedTuple
 
 import beside
+import tool
 from parts import packets
 from parts.frames import EPOCH, READS, REPLY, WRITE
 from parts.packets import number_at, packets_of
+from parts.errors import Wrong
 from parts.printable import shown
 
 MARK, RECORD = 4, 5
@@ -22,13 +24,10 @@ CAME = ("text", "absent")
 
 def program(name, path):
     """The path of a program: the one that is given, or the one that the repository's launcher starts."""
-    launcher = str(beside.TOP / name)
-    if path is None and name != "talek":
-        path = run([launcher, "--path"], b"").decode().strip()
     if path is None:
-        run([launcher, "handle", "0", "0" * 64], b"")  # which builds it, and looks whether it is of these sources
-        places = [beside.TOP / "crates" / "talek" / "out" / it for it in ("talek", "unproved/talek")]
-        path = next((it for it in places if os.access(it, os.X_OK)), launcher)
+        path = run([beside.TOP / name, "--path"], b"").decode().strip()
+    if not (os.path.isfile(path) and os.access(path, os.X_OK)):
+        raise Wrong(f"{shown(path)} is no program")
     return os.path.abspath(path)
 
 
@@ -60,6 +59,18 @@ def parser(about):
     for name in NAMES:
         made.add_argument(f"--{name}", metavar="PATH")
     return made
+
+
+def run_tool(name, about, main):
+    """Runs a tool by its words: `main` gets them, and `about` is what --help prints."""
+
+    def work(words):
+        try:
+            main(words)
+        except Wrong as why:
+            raise tool.Wrong(str(why)) from why
+
+    tool.run_freely(name, about, work)
 
 
 def programs_of(words):
