@@ -7,16 +7,19 @@ set -euo pipefail
 # Neither another compiler nor C code may make a program that counts as proved.
 unset RT_BACKEND RT_ALLOW_C
 : "${top:?}" "${self:?}"
+# shellcheck source=launcher/words.bash
+. "$top/launcher/words.bash"
 # A proved program and an unproved one each have a folder of their own, with the program, and
 #   made-of: whether it is proved, the kit's identity, and the checksums of the sources and of the program,
 #   seen: the sizes and times of all these files, as they were when they last had those checksums,
 #   lock: held by whoever builds there.
+# They stand beside crates/, since the gate empties crates/*/out.
 declare -A folder
 
 # Sets which program the rest is about.
 use_program() {
     program=$1
-    folder=([proved]=$top/crates/$program/out [unproved]=$top/crates/$program/out/unproved)
+    folder=([proved]=$top/proved/$program [unproved]=$top/unproved/$program)
 }
 
 fail() {
@@ -26,6 +29,11 @@ fail() {
 # Whatever else fails here must not end with a status of the program's.
 set -E
 trap 'exit 70' ERR
+
+# Says one line on standard error, and goes on where nobody reads it.
+tell() {
+    (trap '' PIPE && echo "$self: $1" >&2) || true
+}
 
 # Finds the kit whose command rt is on the path: its folder and its identity, both empty where there is none.
 find_kit() {
@@ -64,12 +72,16 @@ is_fresh() {
 }
 
 # Whether a program of this kind is intact and was built from these sources, by this kit where there is one. It reads
-# them all only where sizes or times changed.
+# them all only where sizes or times changed. What ./install made has no sources beside it, and is taken as it is.
 is_built() {
     local kind=$1 place=${folder[$1]} made_by now
     local built=$place/$program
     [ -x "$built" ] && [ -f "$place/made-of" ] || return 1
     read -r made_by <"$place/made-of" || return 1
+    if ! has_sources; then
+        [ "${made_by%% *}" = "$kind" ] || return 1
+        return 0
+    fi
     [ "$made_by" = "$kind ${kit_id:-${made_by#* }}" ] || return 1
     now=$(sizes_and_times "$built")
     if [ -f "$place/seen" ] && [ "$now" = "$(<"$place/seen")" ]; then
@@ -82,10 +94,31 @@ is_built() {
     fi
 }
 
+has_sources() {
+    [ -d "$top/crates" ]
+}
+
 # What is written of a program: what made it, the sum of the sources, and its own.
 what_made() {
     printf '%s\n' "$1" "$2"
     sha256sum <"$3"
+}
+
+# The second line of --version: which kit made the program that would be started, and whether it is proved.
+what_proved() {
+    local kind made_by
+    for kind in proved unproved; do
+        if is_built "$kind"; then
+            read -r _ made_by <"${folder[$kind]}/made-of"
+            if [ "$kind" = proved ]; then
+                echo "proved with $made_by"
+            else
+                echo "built without proof, with $made_by"
+            fi
+            return
+        fi
+    done
+    echo "not built here yet; the crates of this version are proved with $proving_kit"
 }
 
 # Makes the folder of a kind of program, with its lock.
