@@ -81,6 +81,7 @@ class View:
         if any(max(it.pair) >= self.buckets for it in records):
             raise Wrong(f"a record names a bucket that isn't below {self.buckets}, so the frames aren't of one run")
         self.bytes = max((len(it.carried) for it in records), default=28)
+        self.clients = len({it.client for it in reads + records})
         self.ticks = next((turn.number() + 1 for turn in self.turns for it in turn.entries if it.kind == "mark"), None)
 
     def take(self, frame):
