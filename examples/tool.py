@@ -55,6 +55,13 @@ def short(text):
     return repr(text if len(text) <= 40 else text[:37] + "...")
 
 
+def program(word):
+    """The path of a program that is given by its name."""
+    if not (os.path.isfile(word) and os.access(word, os.X_OK)):
+        raise Wrong(f"{short(word)} is no program")
+    return os.path.realpath(word)
+
+
 def program_path(launcher):
     """Where the program is that a launcher of this repository starts. It builds it where there is none."""
     return subprocess.run([launcher, "--path"], check=True, stdout=subprocess.PIPE, text=True).stdout.strip()

@@ -38,7 +38,7 @@ find_program() {
 start() {
     answer "$@"
     shift
-    if [ $# -gt 1 ] || [ "${1:---path}" != --path ]; then
+    if [ $# -gt 1 ] || [ "${1---path}" != --path ]; then
         refuse "takes packets on standard input, and no words"
     fi
     find_program

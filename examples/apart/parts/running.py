@@ -24,7 +24,6 @@ from parts.packets import LONGEST
 from parts.printable import shown
 from parts.printer import Complaints, Printer
 from parts.server import Server
-from parts.version import version_of
 
 
 class Typed:
@@ -139,7 +138,6 @@ def words_of(about: str, words: List[str]) -> argparse.Namespace:
     parser.add_argument("folder")
     parser.add_argument("--program")
     parser.add_argument("--keep", action="store_true")
-    parser.add_argument("--version", action="version", version=version_of("switch"))
     return parser.parse_args(words)
 
 
