@@ -150,9 +150,9 @@ ROWS = {
     "peer": Row("`peer`", "packets that this peer may send", "another, or a peer that isn't there",
                 "start it by `examples/apart/switch`"),
     "differ": Row("`member: differ`", "one filter of an epoch from all servers", "two servers differ: one lies",
-                  "begin the next run without that server"),
+                  "the next run, without the one that lies"),
     "refused": Row("`member: refused`", "frames and replies that are taken", "a server refused one, or lied",
-                   "begin the next run without that server"),
+                   "the next run, without the one that lies"),
     "older": Row("`member: older`", "a member that knows all that it sent", "its journal is an older one",
                  "its newest journal, or the next run"),
 }
