@@ -151,7 +151,7 @@ def main(about: str, words: List[str], limits: Limits = Limits(), clock: Clock =
     os.umask(0o077)
     try:
         place, program = prepared(words)
-    except Wrong as why:
+    except (Wrong, OSError) as why:
         print(f"switch: {shown(str(why))}", file=sys.stderr)
         sys.exit(End.BROKEN.status)
     running = Running(words.form, place, limits, clock)
