@@ -74,6 +74,16 @@ def put(where, text):
         data = data[os.write(where, data):]
 
 
+def write_out(text):
+    """Writes to standard output. Where nobody reads any more, the tool ends."""
+    try:
+        put(1, text)
+    except BrokenPipeError:
+        raise
+    except OSError as error:
+        raise Wrong(f"can't write: {error.strerror}") from error
+
+
 def tell(line):
     """Writes a line to standard error, if anyone can get it."""
     try:
@@ -85,11 +95,12 @@ def tell(line):
 def run(name, about, work, options=()):
     """Runs a tool: `work` gets the words and gives the lines of the output; `about` is what --help prints. Of words
     that begin with - only these options are taken."""
-    signal.signal(signal.SIGPIPE, signal.SIG_DFL)
+    for it in (signal.SIGPIPE, signal.SIGINT):
+        signal.signal(it, signal.SIG_DFL)
 
     def work_and_write(words):
         refuse_options(words, options)
-        put(1, "".join(f"{line}\n" for line in work(words)))
+        write_out("".join(f"{line}\n" for line in work(words)))
 
     run_freely(name, about, work_and_write)
 
@@ -108,18 +119,19 @@ def no_words(words):
 
 
 def run_freely(name, about, work):
-    """Runs a tool whose work, which gets the words, writes by itself."""
-    signal.signal(signal.SIGINT, signal.SIG_DFL)
+    """Runs a tool whose work, which gets the words, writes by itself, and clears up when it is interrupted."""
     words = sys.argv[1:]
     try:
         if {"-h", "--help"} & set(words):
-            put(1, about.strip() + "\n")
+            write_out(about.strip() + "\n")
         elif "--version" in words:
-            put(1, version_of(name) + "\n")
+            write_out(version_of(name) + "\n")
         else:
             work(words)
             if sys.stdout:
                 sys.stdout.flush()
+    except KeyboardInterrupt:
+        sys.exit(128 + signal.SIGINT)
     except Exception as why:
         end(name, why)
 
@@ -134,7 +146,7 @@ def end(name, why):
     elif isinstance(why, subprocess.CalledProcessError):
         what = f"{shown(why.cmd)} ended with {why.returncode}"
     elif isinstance(why, OSError):
-        what = f"{why.strerror}: {why.filename}" if why.filename else f"can't write: {why.strerror}"
+        what = f"{why.strerror}: {why.filename}" if why.filename else str(why.strerror or why)
     elif isinstance(why, MemoryError):
         what = "out of memory"
     elif not isinstance(why, Wrong):
