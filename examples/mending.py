@@ -130,6 +130,10 @@ ROWS = {
                    "the next run, without the one that lies"),
     "older": Row("`member: older`", "a journal with all that was sent", "an older one",
                  "take the newest one, or the next run"),
+    "copied": Row("`ended copied`", "one folder of a member", "a copy of it that spoke since",
+                  "go on with the copy, or the next run"),
+    "journal": Row("`ended journal`", "the journal as it was left", "a changed one, or another folder's",
+                   "the one that it was; or make a server's folder again, a member's in the next run"),
 }
 
 # What stands above the columns of the table.

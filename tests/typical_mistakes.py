@@ -13,7 +13,8 @@ HISTORY = b"history\norder 1 1 0 1 mark\nreads 1 1 0 0\nend\n"
 REPLIES = b"replies\nend\n"
 SUM = b"0" * 320
 # What the table has and nobody can make here: what the shell and the launcher say, and how a group apart ends.
-NOT_MADE = ["shell", "build", "packet-cut", "packet-long", "setup", "peer", "differ", "refused", "older"]
+NOT_MADE = ["shell", "build", "packet-cut", "packet-long", "setup", "peer", "differ", "refused", "older", "copied",
+            "journal"]
 
 
 class Case(NamedTuple):
