@@ -3,6 +3,8 @@ ghost use Rattle.std.specs.Thread.{IsSync};
 ghost use Rattle.tk_frames.specs.declared.entry.Placed.{Placed};
 ghost use Rattle.std.specs.Arc.{arc_value};
 ghost use Rattle.tk_frames.specs.InOrder.{mark_count};
+ghost use Rattle.tk_replica.specs.declared.epoch.Epoch.{Epoch};
+ghost use Rattle.tk_replica.specs.Epochs.{IsEpochOf};
 ghost use Rattle.tk_replica.specs.Following.{marks_among, IsEpochAt};
 ghost use Rattle.tk_cluster.specs.Sets.{Stands};
 
@@ -13,7 +15,26 @@ use std::thread;
 use std::thread::Threads;
 use tk_order::{Naming, Order, OrderSeat};
 use tk_replica::{Epoch, Replica};
-use tk_shape::Memory;
+use tk_shape::{Memory, Shape};
+
+impl EpochSet {
+    /// The set of epochs that servers have kept, one for each server in their order, where no cluster makes it.
+    pub fn of(shape: &Shape, number: u32, epochs: Vec<Arc<Epoch>>) -> EpochSet
+        requires counted { length epochs.items ≡ shape.now.servers }
+        requires one_shape { All (λ a. (arc_value {X = Epoch} a).shape ≡ shape.now) epochs.items }
+        ensures shape { result.shape ≡ shape.now }
+        ensures number { result.number ≡ number }
+        ensures stands { (E : List Placed) → number ≤ mark_count E
+            → All (λ a. IsEpochOf shape.now E number (arc_value a)) epochs.items
+            → Stands shape.now E number result }
+    {
+        EpochSet {
+            shape: *shape,
+            number,
+            epochs,
+        }
+    }
+}
 
 impl<B: Naming> Cluster<B> {
     /// The set of the last mark among the first entries of the seat's list. Each server applies at
