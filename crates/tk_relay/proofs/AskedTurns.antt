@@ -18,8 +18,6 @@ use Rattle.tk_client.specs.Asked.{asked, frame_with, shown_by}
 use Rattle.tk_client.specs.Client.{ClientState, opened, target_over}
 use Rattle.tk_client.specs.Reader.{target, at_epoch}
 use Rattle.tk_client.proofs.Offers.{asked-in_range}
-use Rattle.tk_replica.specs.declared.epoch.Epoch.{Epoch}
-use Rattle.tk_replica.specs.Epochs.{IsEpochOf}
 use Rattle.tk_report.specs.Clients.{client_knowing}
 use Rattle.tk_report.specs.Entries.{write_at}
 use Rattle.tk_report.specs.Exchange.{read_at, read_pair}
@@ -74,18 +72,18 @@ pub asked-read : (S : Script) (b : WordBook) (H : History) (g c : ℕ) →
 unfolding read_at read_pair
 asked-read S b H g c = refl
 
-module _ (S : Script) (b : WordBook) (H : History) (g c e : ℕ) (epoch : Epoch) (marks : List Bool)
+module _ (S : Script) (b : WordBook) (H : History) (g c e : ℕ) (marks : List Bool)
     (client : ClientState) (legal : IsLegal S.shape H) (turn_in : g < turn_count S.shape)
     (client_in : c < S.shape.clients) (named : e ≡ epoch_at H g c)
-    (is : IsEpochOf S.shape (placed_before S (words_of S.shape b) H (g + 1)) e epoch)
-    (same : marks ≡ epoch.filter) (wrote : client ≡ client_wrote S (words_of S.shape b) H g c) where
+    (shows : (hits : List ℕ) → all_marked marks hits
+    ≡ is_shown S.shape (before (placed_before S (words_of S.shape b) H (g + 1)) e) hits)
+    (wrote : client ≡ client_wrote S (words_of S.shape b) H g c) where
   -- what the filter of an epoch shows is what the writes before its mark do
   filter-shows : (hits : List ℕ) →
       all_marked marks hits ≡ is_shown S.shape (read_over S (words_of S.shape b) H g c) hits
   filter-shows hits =
       let E = placed_before S (words_of S.shape b) H (g + 1) in
-      ap (λ (m : List Bool). all_marked m hits) same
-      ∙ is.stands.shows hits
+      shows hits
       ∙ ap (λ (R : List Record). is_shown S.shape R hits)
       (ap (before E) named ∙ before-read S b H g c legal turn_in client_in)
 
@@ -96,12 +94,12 @@ module _ (S : Script) (b : WordBook) (H : History) (g c e : ℕ) (epoch : Epoch)
   target-is =
       let w = words_of S.shape b in
       let r = reader_before S w H c g in
-      let shows : shown_by marks w ≡ (λ log s. is_shown S.shape (read_over S w H g c) (w.hits log s)) =
+      let same : shown_by marks w ≡ (λ log s. is_shown S.shape (read_over S w H g c) (w.hits log s)) =
       λ i log s. filter-shows (w.hits log s) i
       in
       ap (λ (s : ClientState). target_over (words_of s.shape b) marks e s) wrote
       ∙ ap (λ n. target S.shape (shown_by marks w) (at_epoch n r)) named
-      ∙ ap (λ (f : ℕ → ℕ → Bool). target S.shape f (at_epoch (epoch_at H g c) r)) shows
+      ∙ ap (λ (f : ℕ → ℕ → Bool). target S.shape f (at_epoch (epoch_at H g c) r)) same
 
   pub client-asks : asked client.shape b g client.number e
       (target_over (words_of client.shape b) marks e client)

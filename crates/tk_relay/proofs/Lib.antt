@@ -26,3 +26,7 @@ pub mod Gathered
 pub mod AnsweredReads
 pub mod Places
 pub mod RelayedSights
+pub mod Aside
+pub mod Refusing
+pub mod ServedParts
+pub mod Paddings

@@ -1,5 +1,5 @@
 -- What is made of numbers, and what each element of a list has.
-use Rattle.std.proofs.Common.{◌≡◌, ℕ, zero, suc, ◌+◌, ◌-◌, ◌≤◌, ◌<◌, List, [], ◌∷◌, length, map, get_or, set, replicate}
+use Rattle.std.proofs.Common.{◌≡◌, ℕ, zero, suc, ◌+◌, ◌-◌, ◌≤◌, ◌<◌, List, [], ◌∷◌, ◌++◌, length, map, get_or, set, replicate}
 use Rattle.std.proofs.Common.{refl, ap, ap₂, ◌∙◌, arith}
 use Rattle.std.specs.List.{AllByRecursion, range_with_len}
 
@@ -54,3 +54,8 @@ each-made P f a (suc n) each = (
   each a (omega arith) (omega arith),
   each-made P f (a + 1) n (λ k low high. each k (omega (arith, low)) (omega (arith, high))),
 )
+
+pub each-push : {X : Type 0} (P : X → Type 0) (xs : List X) (x : X) → AllByRecursion P xs → P x →
+    AllByRecursion P (xs ++ x ∷ [])
+each-push P [] x all new = (new, tt)
+each-push P (y ∷ xs) x all new = (all.0, each-push P xs x all.1 new)

@@ -19,16 +19,17 @@ use Rattle.tk_report.specs.Turns.{placed_before}
 use Rattle.tk_relay.specs.declared.part.Part.{Part}
 use Rattle.tk_relay.specs.declared.relayed_read.RelayedRead.{RelayedRead}
 use Rattle.tk_relay.specs.Bundles.{IsAlong, blank_read, frame_of, vectors_of, part_for}
-use Rattle.tk_relay.specs.Pads.{ArePads, PadLists, Padding}
+use Rattle.tk_relay.specs.Pads.{PadLists, Padding, padding_of, paddings_of}
 use Rattle.tk_relay.specs.Parts.{blank_part}
-use Rattle.tk_relay.specs.Reads.{IsSent, IsWhole, IsAsking, IsServed, AreServed, IsReplied, part_of, reply_over}
+use Rattle.tk_relay.specs.Reads.{IsSent, IsWhole, IsServed, AreServed, IsReplied, part_of}
 use Rattle.tk_relay.specs.Relayed.{blocks_read, frames_read, pads_read, part_read, reply_read}
 use Rattle.tk_relay.specs.Running.{IsRelayed, AreRelayed}
-use Rattle.tk_relay.specs.Serving.{served_part}
+use Rattle.tk_relay.specs.Serving.{IsAsking, served_part}
 use Rattle.tk_relay.proofs.AskedTurns.{before-read, one-read, reads-in_range}
 use Rattle.tk_relay.proofs.Lists.{each-made, map-same}
 use Rattle.tk_relay.proofs.Masks.{masked-sized}
 use Rattle.tk_relay.proofs.PadLaws.{keyed-are}
+use Rattle.tk_relay.proofs.Paddings.{padding-at}
 
 -- ---- one epoch in a turn
 
@@ -41,6 +42,15 @@ serial-epoch shape g c low client_in =
     (get_or-map-range_with_len (serial_turn shape) 0 (turn_count shape) g g blank_turn low (omega arith))
     ∙ get_or-replicate shape.clients c (phases_over shape g) 0 client_in
 
+pub one-epoch : (shape : Shape) (H : History) (g c : ℕ) → H ≡ serial_history shape →
+    g < turn_count shape → c < shape.clients → epoch_at H g 0 ≡ epoch_at H g c
+one-epoch shape H g c serial turn_in client_in =
+    let some : 0 < shape.clients = omega (arith, client_in) in
+    let named : (k : ℕ) → k < shape.clients → epoch_at H g k ≡ phases_over shape g =
+    λ k low. ap (λ (h : History). epoch_at h g k) serial ∙ serial-epoch shape g k turn_in low
+    in
+    named 0 some ∙ sym (named c client_in)
+
 -- so all their reads are over the same blocks
 pub blocks-of_turn : (S : Script) (b : WordBook) (H : History) (g c : ℕ) → IsLegal S.shape H →
     H ≡ serial_history S.shape → g < turn_count S.shape → c < S.shape.clients →
@@ -49,24 +59,18 @@ pub blocks-of_turn : (S : Script) (b : WordBook) (H : History) (g c : ℕ) → I
 unfolding blocks_read
 blocks-of_turn S b H g c legal serial turn_in client_in =
     let E = placed_before S (words_of S.shape b) H (g + 1) in
-    let some : 0 < S.shape.clients = omega (arith, client_in) in
-    let named : (k : ℕ) → k < S.shape.clients → epoch_at H g k ≡ phases_over S.shape g =
-    λ k low. ap (λ (h : History). epoch_at h g k) serial ∙ serial-epoch S.shape g k turn_in low
-    in
     ap (λ (R : List Record). blocks_of (layout S.shape R))
-    (ap (before E) (named 0 some ∙ sym (named c client_in))
+    (ap (before E) (one-epoch S.shape H g c serial turn_in client_in)
     ∙ before-read S b H g c legal turn_in client_in)
 
 -- ---- a read that is sent
 
 pub sent-relayed : (S : Script) (b : WordBook) (seeds : List (List ℕ)) (H : History) (g c : ℕ)
-    (r : RelayedRead) → IsSent S.shape (frames_read S b H g c) (seed_at seeds c) g r →
+    (r : RelayedRead) → IsSent S.shape (frames_read S b H g c) (pads_read S seeds g c) r →
     IsRelayed S b seeds H g 0 c r
 unfolding part_read
 sent-relayed S b seeds H g c r sent =
     record {
-      same = sent.same;
-      pads = sent.pads;
       bundle = sent.bundle;
       parts = sent.parts;
       replies = sent.replies;
@@ -98,8 +102,6 @@ module _ {S : Script} {b : WordBook} {seeds : List (List ℕ)} {H : History} {g 
       let one = one-read S b H g c reads in
       let counted = one.counted in
       record {
-        pads = is.same;
-        masks = subst (ArePads S.shape) (sym is.pads) are;
         counted = relayed-counted;
         sized =
             subst (AllByRecursion (IsAsking S.shape)) (sym is.parts)
@@ -113,30 +115,27 @@ module _ {S : Script} {b : WordBook} {seeds : List (List ℕ)} {H : History} {g 
 -- ---- a read to which all servers have replied
 
 pub served-relayed : {S : Script} {b : WordBook} {seeds : List (List ℕ)} {H : History} {g c : ℕ}
-    {old new : RelayedRead} (blocks : List (List ℕ)) → blocks ≡ blocks_read S b H g c →
-    IsRelayed S b seeds H g 0 c old → IsServed blocks 1 S.shape.servers old new →
+    {old new : RelayedRead} (blocks : List (List ℕ)) (pads : PadLists) →
+    blocks ≡ blocks_read S b H g c → pads ≡ pads_read S seeds g c →
+    IsRelayed S b seeds H g 0 c old → IsServed S.shape blocks pads 1 S.shape.servers old new →
     IsRelayed S b seeds H g S.shape.servers c new
 unfolding reply_read
-served-relayed {S} {b} {seeds} {H} {g} {c} {old} {new} blocks over is served =
-    let servers = range_with_len 1 S.shape.servers in
-    let replied : (j : ℕ) → 1 ≤ j → j < 1 + S.shape.servers →
-    reply_over blocks old j ≡ reply_read S b seeds H g c j =
+served-relayed {S} {b} {seeds} {H} {g} {c} {old} {new} blocks pads over own is served =
+    let reply = λ (j : ℕ). served_part S.shape blocks pads j (part_of old j) in
+    let replied : (j : ℕ) → 1 ≤ j → j < 1 + S.shape.servers → reply j ≡ reply_read S b seeds H g c j =
     λ j low high.
-    ap (λ (shape : Shape). served_part shape blocks old.pads.pads j (part_of old j)) is.same
-    ∙ ap (λ (pads : PadLists). served_part S.shape blocks pads j (part_of old j)) is.pads
+    ap (λ (ps : PadLists). served_part S.shape blocks ps j (part_of old j)) own
     ∙ ap (λ (xs : List (List ℕ)). served_part S.shape xs (pads_read S seeds g c) j (part_of old j)) over
     ∙ ap (served_part S.shape (blocks_read S b H g c) (pads_read S seeds g c) j)
     (part-at is j low (omega (arith, high)))
     in
     record {
-      same = ap (λ (p : Padding). p.shape) served.pads ∙ is.same;
-      pads = ap (λ (p : Padding). p.pads) served.pads ∙ is.pads;
       bundle = served.bundle ∙ is.bundle;
       parts = ap (λ (ps : _). ps.items) served.parts ∙ is.parts;
       replies =
           served.replies
-          ∙ ap (λ (ps : List Part). ps ++ map (reply_over blocks old) servers) is.replies
-          ∙ map-same (reply_over blocks old) (reply_read S b seeds H g c) 1 S.shape.servers replied;
+          ∙ ap (λ (ps : List Part). ps ++ map reply (range_with_len 1 S.shape.servers)) is.replies
+          ∙ map-same reply (reply_read S b seeds H g c) 1 S.shape.servers replied;
     }
 
 -- ---- those of all clients
@@ -149,18 +148,23 @@ all-whole {S} {b} {seeds} {H} {g} {count} {reads} serves legal turn_in are c d l
     (reads-in_range S b H g c serves legal turn_in (omega (arith, low, are.counted)))
 
 pub all-served : {S : Script} {b : WordBook} {seeds : List (List ℕ)} {H : History} {g : ℕ}
-    {old new : List RelayedRead} (blocks : List (List ℕ)) →
+    {old new : List RelayedRead} (blocks : List (List ℕ)) (pads : List Padding) →
     ((c : ℕ) → c < S.shape.clients → blocks ≡ blocks_read S b H g c) →
-    AreRelayed S b seeds H g 0 old → AreServed blocks 1 S.shape.servers old new →
+    pads ≡ paddings_of S.shape seeds g → length pads ≡ S.shape.clients →
+    AreRelayed S b seeds H g 0 old → AreServed S.shape blocks pads 1 S.shape.servers old new →
     AreRelayed S b seeds H g S.shape.servers new
-all-served {S} {b} {seeds} {H} {g} {old} {new} blocks over are served =
+all-served {S} {b} {seeds} {H} {g} {old} {new} blocks pads over own as_many are served =
     let same = served.counted in
     record {
       counted = same ∙ are.counted;
       each = λ c d low.
           let within : c < length old = omega (arith, low, same) in
-          served-relayed blocks (over c (omega (arith, within, are.counted))) (are.each c d within)
-          (served.each c d within);
+          let client_in : c < S.shape.clients = omega (arith, within, are.counted) in
+          let p = padding_of S.shape (seed_at seeds c) g in
+          served-relayed blocks (slice_index_or pads c p).pads (over c client_in)
+          (ap (λ (x : Padding). x.pads) (padding-at S.shape seeds g pads own c p
+          (omega (arith, client_in, as_many))))
+          (are.each c d within) (served.each c p d within);
     }
 
 pub all-replied : {S : Script} {b : WordBook} {seeds : List (List ℕ)} {H : History} {g : ℕ}
@@ -174,14 +178,16 @@ all-replied are c d low =
 
 -- in a turn of the serial history, where each server replies over its blocks of the one epoch
 pub turn-served : (S : Script) (b : WordBook) (seeds : List (List ℕ)) (H : History) (g e : ℕ)
-    (old new : List RelayedRead) → IsLegal S.shape H → H ≡ serial_history S.shape →
-    g < turn_count S.shape → e ≡ epoch_at H g 0 → AreRelayed S b seeds H g 0 old →
+    (pads : List Padding) (old new : List RelayedRead) → IsLegal S.shape H →
+    H ≡ serial_history S.shape → g < turn_count S.shape → e ≡ epoch_at H g 0 →
+    pads ≡ paddings_of S.shape seeds g → length pads ≡ S.shape.clients →
+    AreRelayed S b seeds H g 0 old →
     let E = placed_before S (words_of S.shape b) H (g + 1) in
-    AreServed (blocks_of (layout S.shape (before E e))) 1 S.shape.servers old new →
+    AreServed S.shape (blocks_of (layout S.shape (before E e))) pads 1 S.shape.servers old new →
     AreRelayed S b seeds H g S.shape.servers new
-turn-served S b seeds H g e old new legal serial turn_in named are served =
+turn-served S b seeds H g e pads old new legal serial turn_in named own as_many are served =
     let E = placed_before S (words_of S.shape b) H (g + 1) in
     let blocks_at = λ (n : ℕ). blocks_of (layout S.shape (before E n)) in
-    all-served (blocks_at e)
+    all-served (blocks_at e) pads
     (λ c client_in. ap blocks_at named ∙ blocks-of_turn S b H g c legal serial turn_in client_in)
-    are served
+    own as_many are served

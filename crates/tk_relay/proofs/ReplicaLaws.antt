@@ -1,7 +1,7 @@
 -- Servers of a run that take the entries of a turn.
 use Rattle.std.proofs.Common.{◌≡◌, ap, sym, subst, ◌∙◌, arith, ℕ, ◌+◌, ◌-◌, ◌<◌, ◌≤◌, true, false, cond, List, [], ◌∷◌, ◌++◌}
-use Rattle.std.proofs.Common.{length, flat_map, append-nil, append_assoc}
-use Rattle.std.specs.Prelude.{slice_index_or}
+use Rattle.std.proofs.Common.{length, flat_map, append-nil, append_assoc, refl, Some, None, ltb-false}
+use Rattle.std.specs.Prelude.{nat_lt, slice_index_or}
 use Rattle.std.proofs.lemmas.Grind.{flat_map-append}
 use Rattle.tk_lists.proofs.Offers.{ChangedUpTo}
 use Rattle.tk_shape.specs.declared.shape.Shape.{Shape}
@@ -10,7 +10,9 @@ use Rattle.tk_frames.specs.InOrder.{IsNext, IsOrder, mark_count}
 use Rattle.tk_frames.specs.Order.{is_mark}
 use Rattle.tk_frames.specs.Spelling.{placed_frame}
 use Rattle.tk_frames.proofs.Offers.{marks-push, order-push}
-use Rattle.tk_replica.specs.Replica.{ReplicaView}
+use Rattle.tk_replica.specs.declared.error.PinError.TheVariants.{Ahead, Retired}
+use Rattle.tk_replica.specs.Refusals.{pin_refusal}
+use Rattle.tk_replica.specs.Replica.{ReplicaView, StandsFor}
 use Rattle.tk_report.specs.Displaced.{displaced_in}
 use Rattle.tk_relay.specs.declared.replicas.Replicas.{Replicas}
 use Rattle.tk_relay.specs.Replicas.{IsReplicaOf, AreReplicas, MayApply, MayApplyAll, HaveTaken}
@@ -115,3 +117,16 @@ taken-more shape E F p old new have next are seen count =
           ∙ sym (flat_map-append placed_frame F (p ∷ []));
       displaced = count ∙ ap (displaced_in shape) same;
     }
+
+-- ---- epochs
+
+-- an epoch that a replica keeps has a mark
+pub pinned-low : (s : ReplicaView) (E : List Placed) (e : ℕ) {shape : Shape} → StandsFor shape E s →
+    pin_refusal s e ≡ None → e ≤ mark_count E
+pinned-low s E e stands kept =
+    elim (nat_lt s.last e) as (λ b. nat_lt s.last e ≡ b →
+    cond b (Some (Ahead s.last)) (cond (nat_lt e s.floor) (Some (Retired s.floor)) None) ≡ None →
+    e ≤ mark_count E) [
+      | true ↦ λ above none. cc
+      | false ↦ λ above none. omega (arith, ltb-false s.last e above, stands.last)
+    ] refl kept

@@ -83,3 +83,11 @@ keyed_pads shape seed turn =
       requests = map (λ j. halves_in (vector_len shape) (request_bytes shape seed turn j)) servers;
       replies = map (λ j. halves_in (width shape) (reply_bytes shape seed turn j)) servers;
     }
+
+-- a client's pads for a turn, of its seed
+abbrev pub padding_of : Shape → List ℕ → ℕ → Padding
+padding_of shape seed turn = record { shape = shape; pads = keyed_pads shape seed turn }
+
+-- those of all clients with these seeds
+abbrev pub paddings_of : Shape → List (List ℕ) → ℕ → List Padding
+paddings_of shape seeds turn = map (λ seed. padding_of shape seed turn) seeds

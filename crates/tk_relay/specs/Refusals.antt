@@ -17,6 +17,12 @@ IsRefused memory (Some fault) e = e ≡ fault
 abbrev pub other_epoch : ℕ → Part → Option PartError
 other_epoch number p = cond (number == p.epoch) None (Some (serving.Epoch number p.epoch))
 
+-- the first of parts that is
+abbrev pub first_other_epoch : ℕ → List Part → Option PartError
+first_other_epoch number [] = None
+first_other_epoch number (p ∷ ps) =
+    option_or (other_epoch number p) (first_other_epoch number ps)
+
 -- a number of a server's part that isn't the first server's
 abbrev pub other_number : ℕ → ℕ → ℕ → Option GatherError
 other_number server want got =

@@ -33,8 +33,6 @@ client_asked S w H g c =
 -- client c's read in turn g, to which the first count servers have replied
 pub record IsRelayed (S : Script) (b : WordBook) (seeds : List (List ℕ)) (H : History)
     (g count c : ℕ) (r : RelayedRead) : Type 0 where
-  pub same : r.pads.shape ≡ S.shape
-  pub pads : r.pads.pads ≡ pads_read S seeds g c
   pub bundle : r.bundle
       ≡ bundle_frame (parts_for S.shape (pads_read S seeds g c) (frames_read S b H g c))
   pub parts : r.parts.items ≡ map (part_read S b seeds H g c) (range_with_len 1 S.shape.servers)

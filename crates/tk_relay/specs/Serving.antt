@@ -1,12 +1,14 @@
 -- What a server replies to its part of a read, and what server 1 makes of all replies.
-use Rattle.std.specs.Prelude.{◌≡◌, ℕ, List, length, map}
-use Rattle.std.specs.List.{AllByRecursion}
+use Rattle.std.specs.Prelude.{◌≡◌, ℕ, ◌≤◌, List, length, map, All}
+use Rattle.std.specs.List.{AllByRecursion, zip}
 use Rattle.tk_shape.specs.declared.shape.Shape.{Shape}
-use Rattle.tk_shape.specs.Lengths.{width}
+use Rattle.tk_shape.specs.Lengths.{vector_len, width}
 use Rattle.tk_kernel.specs.Chosen.{chosen_sum}
+use Rattle.tk_kernel.specs.Pieces.{AllSized}
+use Rattle.tk_bucket.specs.Bytes.{BlockList}
 use Rattle.tk_relay.specs.declared.part.Part.{Part}
-use Rattle.tk_relay.specs.Halves.{Halves, joined}
-use Rattle.tk_relay.specs.Pads.{PadLists, masked}
+use Rattle.tk_relay.specs.Halves.{Halves, HasHalves, joined}
+use Rattle.tk_relay.specs.Pads.{PadLists, Padding, masked}
 use Rattle.tk_relay.specs.Parts.{part_with, halves_of, first_part}
 
 -- the sums of blocks of a width that two vectors choose
@@ -26,6 +28,51 @@ served_part shape blocks pads server p =
     part_with p.client p.turn p.epoch
     (masked pads.replies server
     (sums_for shape blocks (masked pads.requests server (halves_of p))))
+
+-- ---- parts of several reads, each with the pads of its client
+
+-- a part of vectors of a shape
+abbrev pub IsAsking : Shape → Part → Type 0
+IsAsking shape p = HasHalves (vector_len shape) (halves_of p)
+
+-- parts that a server of a shape is asked with
+pub record AreAsked (shape : Shape) (server : ℕ) (pads : List Padding) (parts : List Part) : Type 0 where
+  pub low : 1 ≤ server
+  pub high : server ≤ shape.servers
+  pub counted : length pads ≡ length parts
+  pub one_shape : All (λ p. p.shape ≡ shape) pads
+  pub sized : All (IsAsking shape) parts
+
+-- blocks that a server of a shape has
+pub record AreHad (shape : Shape) (blocks : BlockList) : Type 0 where
+  pub counted : length blocks.blocks ≡ shape.buckets
+  pub wide : blocks.width ≡ width shape
+
+-- the vectors that a server is asked with by a part, without their mask
+abbrev pub vectors_asked : ℕ → Padding × Part → Halves
+vectors_asked server x = masked x.0.pads.requests server (halves_of x.1)
+
+abbrev pub first_asked : ℕ → Padding × Part → List ℕ
+first_asked server x = (vectors_asked server x).first
+
+abbrev pub second_asked : ℕ → Padding × Part → List ℕ
+second_asked server x = (vectors_asked server x).second
+
+-- the reply of a server that has these blocks to a part
+abbrev pub reply_to_asked : Shape → List (List ℕ) → ℕ → Padding × Part → Part
+reply_to_asked shape blocks server x = served_part shape blocks x.0.pads server x.1
+
+-- its replies to all of them
+abbrev pub served_parts : Shape → List (List ℕ) → ℕ → List Padding → List Part → List Part
+served_parts shape blocks server pads parts =
+    map (reply_to_asked shape blocks server) (zip pads parts)
+
+-- the sums of these blocks that the vectors choose, for the first bucket of each part and for the second
+pub record AreSums (shape : Shape) (blocks : List (List ℕ)) (server : ℕ)
+    (asked : List (Padding × Part)) (first second : List (List ℕ)) : Type 0 where
+  pub sized : AllSized (width shape) blocks
+  pub first_are : first ≡ map (chosen_sum (width shape) blocks) (map (first_asked server) asked)
+  pub second_are : second ≡ map (chosen_sum (width shape) blocks) (map (second_asked server) asked)
 
 -- ---- all replies
 

@@ -1,126 +1,101 @@
 //! The servers' replies to all reads of a turn, which are over one epoch: each server goes over its blocks once.
-ghost use Rattle.std.specs.Prelude.{◌≡◌, ◌+◌, ◌*◌, ◌≤◌, ◌++◌, ℕ, List, length, map, All, IfOk, OnOk};
-ghost use Rattle.tk_shape.specs.Lengths.{width};
+ghost use Rattle.std.specs.Prelude.{◌≡◌, ◌≤◌, List, length, map, All, IfOk, OnOk};
+ghost use Rattle.tk_shape.specs.declared.shape.Shape.{Shape};
 ghost use Rattle.tk_frames.specs.declared.entry.Placed.{Placed};
 ghost use Rattle.tk_frames.specs.Order.{before};
-ghost use Rattle.tk_kernel.specs.Chosen.{chosen_sum};
-ghost use Rattle.tk_kernel.specs.Pieces.{AllSized};
 ghost use Rattle.tk_table.specs.Table.{layout, blocks_of};
-ghost use Rattle.tk_relay.specs.Reads.{IsWhole, AreServed, AreSums, first_asked};
-ghost use Rattle.tk_relay.specs.Reads.{second_asked};
-ghost use Rattle.tk_relay.specs.Replicas.{AreReplicas};
+ghost use Rattle.tk_cluster.specs.Sets.{Stands};
+ghost use Rattle.tk_relay.specs.Reads.{IsWhole, AreServed, HaveReplies, part_of};
 
 use crate::relayed_read::RelayedRead;
+use crate::{Pads, Part, serve_parts};
 use std::alloc::Global;
-use tk_answer::{Blocks, answer_each};
-use tk_replica::ReplicaState;
-use tk_shape::{Bytes, Memory, Shape};
-use tk_table::Snapshot;
+use tk_cluster::EpochSet;
+use tk_shape::{Bytes, Memory};
 
-/// All servers reply to their parts of reads over an epoch, server by server.
+/// All servers reply to their parts of reads over the set's epoch, server by server.
 pub(crate) fn serve_all(
     alloc: Global,
-    shape: &Shape,
-    epoch: u32,
-    replicas: &[ReplicaState],
+    set: &EpochSet,
+    pads: &[Pads],
     reads: &mut [RelayedRead],
 ) -> Result<(), Memory>
-    requires stand { (E : List Placed) × AreReplicas shape.now E replicas.now }
-    requires whole { All (IsWhole shape.now) reads.old }
-    ensures { (E : List Placed) → AreReplicas shape.now E replicas.now
-        → let blocks = blocks_of (layout shape.now (before E epoch)) in
-        OnOk result (AreServed blocks 1 shape.now.servers reads.old reads.new) }
+    requires counted { length pads.now ≡ length reads.old }
+    requires one_shape { All (λ p. p.shape ≡ set.now.shape) pads.now }
+    requires whole { All (IsWhole set.now.shape) reads.old }
+    ensures { (shape : Shape) (E : List Placed) → Stands shape E set.now.number set.now
+        → let blocks = blocks_of (layout shape (before E set.now.number)) in
+        OnOk result (AreServed shape blocks pads.now 1 shape.servers reads.old reads.new) }
 {
-    'serving: for (i, replica) in replicas.iter().enumerate() {
-        // the epoch of a turn's reads is kept, so that only memory may be wanting
-        let Ok(shown) = replica.pin(epoch) else {
-            return Err(Memory);
-        };
-        serve(alloc, shape, i as u32 + 1, shown.blocks(), reads)?;
+    for server in 1..set.servers() + 1 {
+        serve(alloc, set, server, pads, reads)?;
     }
     Ok(())
 }
 
-/// A server with these blocks replies to its parts of reads.
+/// A server replies to its parts of reads.
 fn serve(
     alloc: Global,
-    shape: &Shape,
+    set: &EpochSet,
     server: u32,
-    blocks: &Snapshot,
+    pads: &[Pads],
     reads: &mut [RelayedRead],
 ) -> Result<(), Memory>
     requires low { 1 ≤ server }
-    requires high { server ≤ shape.now.servers }
-    requires counted { length blocks.now.blocks ≡ shape.now.buckets }
-    requires wide { blocks.now.width ≡ width shape.now }
-    requires whole { All (IsWhole shape.now) reads.old }
-    ensures { OnOk result (AreServed blocks.now.blocks server 1 reads.old reads.new) }
+    requires high { server ≤ set.now.shape.servers }
+    requires counted { length pads.now ≡ length reads.old }
+    requires one_shape { All (λ p. p.shape ≡ set.now.shape) pads.now }
+    requires whole { All (IsWhole set.now.shape) reads.old }
+    ensures whole { OnOk result (All (IsWhole set.now.shape) reads.new) }
+    ensures served { (shape : Shape) (E : List Placed) → Stands shape E set.now.number set.now
+        → let blocks = blocks_of (layout shape (before E set.now.number)) in
+        OnOk result (AreServed shape blocks pads.now server 1 reads.old reads.new) }
 {
-    let vectors = vectors_for(alloc, shape, server, reads)?;
-    let sums = sums_of_all(alloc, blocks, vectors)?;
-    each_wide(blocks);
-    let (first, second) = sums.as_slice().split_at(reads.len());
-    reply_all(alloc, shape, server, first, second, reads)
+    let parts = passed_on(alloc, server, reads)?;
+    // all parts are of the set's epoch, so that only memory may be wanting
+    let Ok(replies) = serve_parts(alloc, set, server, parts.as_slice(), pads) else {
+        return Err(Memory);
+    };
+    take_replies(replies, reads)?;
+    Ok(())
 }
 
-/// For each of these vectors the sum of the blocks that it chooses, all in one pass over the blocks.
-fn sums_of_all(alloc: Global, blocks: &Snapshot, vectors: Vec<Bytes>) -> Result<Vec<Bytes>, Memory>
-    requires { All (λ v. 8 * length v ≡ length blocks.now.blocks) vectors.items }
-    ensures { IfOk result (λ sums. sums.items
-        ≡ map (chosen_sum blocks.now.width blocks.now.blocks) vectors.items) }
-{
-    answer_each(alloc, blocks, vectors)
-}
-
-/// Each block is as wide as all are.
-fn each_wide(blocks: &Snapshot)
-    ensures { AllSized blocks.now.width blocks.now.blocks }
-{
-    blocks.width();
-}
-
-/// The vectors that a server is asked with: those for the first bucket of each read, and then those for the second.
-fn vectors_for(
-    alloc: Global,
-    shape: &Shape,
-    server: u32,
-    reads: &[RelayedRead],
-) -> Result<Vec<Bytes>, Memory>
+/// What server 1 passes on to a server: its parts of reads. Server 1 keeps its own.
+fn passed_on(alloc: Global, server: u32, reads: &[RelayedRead]) -> Result<Vec<Part>, Memory>
     requires low { 1 ≤ server }
-    requires high { server ≤ shape.now.servers }
-    requires whole { All (IsWhole shape.now) reads.now }
-    ensures { IfOk result (λ vectors. vectors.items
-        ≡ map (first_asked server) reads.now ++ map (second_asked server) reads.now) }
+    requires parts { All (λ r. server ≤ length r.parts.items) reads.now }
+    ensures { IfOk result (λ parts. parts.items ≡ map (λ r. part_of r server) reads.now) }
 {
-    let mut vectors = Vec::new(alloc);
-    let mut others = Vec::new(alloc);
+    let mut parts = Vec::new(alloc);
     for read in reads {
-        let both = read.vectors(alloc, server)?;
-        vectors.push(Bytes::from_vec(both.first))?;
-        others.push(Bytes::from_vec(both.second))?;
+        parts.push(copy_of(alloc, &read.parts[server as usize - 1])?)?;
     }
-    vectors.append(&mut others)?;
-    Ok(vectors)
+    Ok(parts)
 }
 
-/// A server replies to reads with these sums for the first bucket of each, and these for the second.
-fn reply_all(
-    alloc: Global,
-    shape: &Shape,
-    server: u32,
-    first: &[Bytes],
-    second: &[Bytes],
-    reads: &mut [RelayedRead],
-) -> Result<(), Memory>
-    requires low { 1 ≤ server }
-    requires high { server ≤ shape.now.servers }
-    requires whole { All (IsWhole shape.now) reads.old }
-    requires sums { (blocks : List (List ℕ)) × AreSums shape.now blocks server reads.old first.now second.now }
-    ensures { (blocks : List (List ℕ)) → AreSums shape.now blocks server reads.old first.now second.now
-        → OnOk result (AreServed blocks server 1 reads.old reads.new) }
+fn copy_of(alloc: Global, part: &Part) -> Result<Part, Memory>
+    ensures { IfOk result (λ copy. copy ≡ part.now) }
 {
-    for (i, read) in reads.iter_mut().enumerate() {
-        read.reply(alloc, server, first[i].as_slice(), second[i].as_slice())?;
+    Ok(Part {
+        client: part.client,
+        turn: part.turn,
+        epoch: part.epoch,
+        first: Bytes::from_slice(alloc, part.first.as_slice())?,
+        second: Bytes::from_slice(alloc, part.second.as_slice())?,
+    })
+}
+
+/// Each read gets a server's reply.
+fn take_replies(replies: Vec<Part>, reads: &mut [RelayedRead]) -> Result<(), Memory>
+    ensures { OnOk result (HaveReplies replies.items reads.old reads.new) }
+{
+    let mut rest = replies.into_iter();
+    for read in reads.iter_mut() {
+        // there is a reply to each read, so that only memory may be wanting
+        let Some(reply) = rest.next() else {
+            return Err(Memory);
+        };
+        read.take(reply)?;
     }
     Ok(())
 }

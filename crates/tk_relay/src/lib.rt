@@ -41,6 +41,6 @@ pub use part_frames::{decode_masked_reply, decode_part, encode_masked_reply, enc
 pub use relay_run_error::RelayRunError;
 pub use relaying::relayed;
 pub use replies::replies_for;
-pub use serving::serve_part;
+pub use serving::{serve_part, serve_parts};
 pub use splitting::split;
 pub use tk_shape::Memory;

@@ -1,71 +1,26 @@
 ghost use Rattle.std.specs.Prelude.{◌≡◌, ◌++◌, OnOk, flat_map};
 ghost use Rattle.tk_relay.specs.Parts.{masked_reply_frame};
 
-use crate::halves::Halves;
+use crate::Part;
 use crate::part_frames::{encode_masked_reply, encode_part};
-use crate::{Pads, Part};
-use std::alloc::Global;
 use tk_shape::{Bytes, Memory};
 
-/// A client's read on its way: the client's pads, the bundle, the parts that server 1 passes on, by server, and the
-/// replies to them so far.
+/// A client's read on its way: the bundle, the parts that server 1 passes on, by server, and the replies to them so far.
 #[derive(Drop)]
 pub(crate) struct RelayedRead {
-    pub pads: Pads,
     pub bundle: Bytes,
     pub parts: Vec<Part>,
     pub replies: Vec<Part>,
 }
 
 impl RelayedRead {
-    ghost use Rattle.std.specs.Prelude.{◌≡◌, ◌≤◌, ◌++◌, ◌∷◌, [], length, IfOk, OnOk};
-    ghost use Rattle.tk_shape.specs.Lengths.{width};
-    ghost use Rattle.tk_relay.specs.Reads.{IsWhole, vectors_asked, masked_part, read_seen};
+    ghost use Rattle.std.specs.Prelude.{◌≡◌, ◌≤◌, ◌++◌, length, OnOk};
+    ghost use Rattle.tk_relay.specs.Reads.{HasReply, read_seen};
 
-    /// The vectors that a server is asked with, without their mask.
-    pub(crate) fn vectors(&self, alloc: Global, server: u32) -> Result<Halves, Memory>
-        requires low { 1 ≤ server }
-        requires high { server ≤ self.now.pads.shape.servers }
-        requires whole { IsWhole self.now.pads.shape self.now }
-        ensures { IfOk result (λ x. x ≡ vectors_asked server self.now) }
+    /// Puts a server's reply after the others.
+    pub(crate) fn take(&mut self, reply: Part) -> Result<(), Memory>
+        ensures { OnOk result (HasReply reply self.old self.new) }
     {
-        let mut vectors = Halves::of(alloc, &self.parts[server as usize - 1])?;
-        if server > 1 {
-            let (first, second) = self.pads.request(server);
-            vectors.mix(first, second);
-        }
-        Ok(vectors)
-    }
-
-    /// Puts a server's reply with these sums, which are masked then, after the others.
-    pub(crate) fn reply(
-        &mut self,
-        alloc: Global,
-        server: u32,
-        first: &[u8],
-        second: &[u8],
-    ) -> Result<(), Memory>
-        requires low { 1 ≤ server }
-        requires high { server ≤ self.old.pads.shape.servers }
-        requires whole { IsWhole self.old.pads.shape self.old }
-        requires first_len { length first.now ≡ width self.old.pads.shape }
-        requires second_len { length second.now ≡ width self.old.pads.shape }
-        ensures pads { self.new.pads ≡ self.old.pads }
-        ensures bundle { self.new.bundle ≡ self.old.bundle }
-        ensures parts { self.new.parts ≡ self.old.parts }
-        ensures replies { OnOk result (self.new.replies.items ≡ self.old.replies.items
-            ++ masked_part server (record { first = first.now; second = second.now }) self.old ∷ []) }
-    {
-        let mut sums = Halves {
-            first: Vec::from_slice(alloc, first)?,
-            second: Vec::from_slice(alloc, second)?,
-        };
-        if server > 1 {
-            let (first, second) = self.pads.reply(server);
-            sums.mix(first, second);
-        }
-        let part = &self.parts[server as usize - 1];
-        let reply = sums.into_part(part.client, part.turn, part.epoch);
         self.replies.push(reply)?;
         Ok(())
     }

@@ -5,10 +5,12 @@ ghost use Rattle.tk_frames.specs.InOrder.{IsNext};
 ghost use Rattle.tk_frames.specs.Order.{is_mark};
 ghost use Rattle.tk_table.specs.Puts.{put_of};
 ghost use Rattle.tk_replica.specs.Replica.{StandsFor};
+ghost use Rattle.tk_cluster.specs.Sets.{Stands};
 ghost use Rattle.tk_relay.specs.Replicas.{IsReplicaOf, AreReplicas, MayApply, MayApplyAll};
 ghost use Rattle.tk_relay.specs.Replicas.{HaveTaken};
 
 use std::alloc::Global;
+use tk_cluster::EpochSet;
 use tk_frames::{Entry, Placed, encode_placed};
 use tk_replica::ReplicaState;
 use tk_report::{Takes, displaced_with};
@@ -87,6 +89,30 @@ fn make_room(replica: &mut ReplicaState, entry: &Entry)
     if let Entry::Mark(_) = entry {
         replica.release(replica.last());
     }
+}
+
+/// The set of the servers' epochs of a number, which all keep.
+pub(crate) fn set_of(
+    alloc: Global,
+    shape: &Shape,
+    number: u32,
+    replicas: &[ReplicaState],
+) -> Result<EpochSet, Memory>
+    requires { (E : List Placed) × AreReplicas shape.now E replicas.now }
+    ensures shape { IfOk result (λ set. set.shape ≡ shape.now) }
+    ensures number { IfOk result (λ set. set.number ≡ number) }
+    ensures stands { (E : List Placed) → AreReplicas shape.now E replicas.now
+        → IfOk result (Stands shape.now E number) }
+{
+    let mut epochs = Vec::new(alloc);
+    for replica in replicas {
+        // the epoch is kept, so that only memory may be wanting
+        let Ok(epoch) = replica.pin(number) else {
+            return Err(Memory);
+        };
+        epochs.push(epoch)?;
+    }
+    Ok(EpochSet::of(shape, number, epochs))
 }
 
 impl Takes for Replicas {

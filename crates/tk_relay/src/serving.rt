@@ -1,24 +1,29 @@
-ghost use Rattle.std.specs.Prelude.{◌≡◌, ◌*◌, ◌≤◌, List, length, None, IfOk, IfErr, OnOk};
+ghost use Rattle.std.specs.Prelude.{◌≡◌, ◌*◌, ◌≤◌, ◌++◌, ℕ, List, All, length, map, None, IfOk, IfErr, OnOk};
+ghost use Rattle.std.specs.List.{zip, AllByRecursion};
+ghost use Rattle.std.specs.Result.{result_err};
 ghost use Rattle.tk_shape.specs.declared.shape.Shape.{Shape};
 ghost use Rattle.tk_shape.specs.Lengths.{vector_len, width};
 ghost use Rattle.tk_frames.specs.declared.entry.Placed.{Placed};
 ghost use Rattle.tk_frames.specs.Order.{before};
+ghost use Rattle.tk_kernel.specs.Chosen.{chosen_sum};
+ghost use Rattle.tk_kernel.specs.Pieces.{AllSized};
 ghost use Rattle.tk_table.specs.Table.{layout, blocks_of};
 ghost use Rattle.tk_cluster.specs.Sets.{Stands};
 ghost use Rattle.tk_relay.specs.declared.part_error.PartError.TheVariants as fault;
-ghost use Rattle.tk_kernel.specs.Chosen.{chosen_sum};
-ghost use Rattle.tk_relay.specs.Halves.{HasHalves, mixed};
-ghost use Rattle.tk_relay.specs.Pads.{pad_of};
+ghost use Rattle.tk_relay.specs.Halves.{HasHalves};
+ghost use Rattle.tk_relay.specs.Pads.{masked};
 ghost use Rattle.tk_relay.specs.Parts.{halves_of, part_with};
-ghost use Rattle.tk_relay.specs.Refusals.{IsRefused, other_epoch};
-ghost use Rattle.tk_relay.specs.Serving.{served_part, sums_over};
+ghost use Rattle.tk_relay.specs.Refusals.{IsRefused, other_epoch, first_other_epoch};
+ghost use Rattle.tk_relay.specs.Serving.{served_part, served_parts, first_asked, second_asked};
+ghost use Rattle.tk_relay.specs.Serving.{AreAsked, AreHad, AreSums};
 
 use crate::halves::Halves;
 use crate::{Pads, Part, PartError};
 use std::alloc::Global;
-use tk_answer::{Blocks, answer};
+use std::slice;
+use tk_answer::{Blocks, answer_each};
 use tk_cluster::EpochSet;
-use tk_shape::Memory;
+use tk_shape::{Bytes, Memory};
 use tk_table::Snapshot;
 
 /// A server's reply to its part of a read, over the blocks of the set's epoch. For servers other than the first the mask
@@ -41,103 +46,207 @@ pub fn serve_part(
         → let blocks = blocks_of (layout shape (before E set.now.number)) in
         IfOk result (λ p. p ≡ served_part shape blocks pads.now.pads server part.now) }
 {
-    let number = set.number();
-    if number != part.epoch {
-        return Err(PartError::Epoch {
+    let parts = slice::from_ref(part);
+    let replies = serve_parts(alloc, set, server, parts, slice::from_ref(pads))?;
+    // there is one reply to one part, so that only memory may be wanting
+    let Some(reply) = replies.into_iter().next() else {
+        return Err(PartError::Memory);
+    };
+    Ok(reply)
+}
+
+/// The same of the parts of several reads, each with the pads of its client: the replies in their order, in one pass over
+/// the blocks. The first part of another epoch decides.
+pub fn serve_parts(
+    alloc: Global,
+    set: &EpochSet,
+    server: u32,
+    parts: &[Part],
+    pads: &[Pads],
+) -> Result<Vec<Part>, PartError>
+    requires server { (1 ≤ server) × (server ≤ set.now.shape.servers) }
+    requires counted { length pads.now ≡ length parts.now }
+    requires one_shape { All (λ p. p.shape ≡ set.now.shape) pads.now }
+    requires sized { All (λ p. HasHalves (vector_len set.now.shape) (halves_of p)) parts.now }
+    ensures kept { OnOk result (first_other_epoch set.now.number parts.now ≡ None) }
+    ensures refused { IfErr result
+        (IsRefused fault.Memory (first_other_epoch set.now.number parts.now)) }
+    ensures sized { IfOk result
+        (λ rs. All (λ p. HasHalves (width set.now.shape) (halves_of p)) rs.items) }
+    ensures served { (shape : Shape) (E : List Placed) → Stands shape E set.now.number set.now
+        → let blocks = blocks_of (layout shape (before E set.now.number)) in
+        IfOk result (λ rs. rs.items ≡ served_parts shape blocks server pads.now parts.now) }
+{
+    check_epochs(set.number(), parts)?;
+    Ok(replies_over(alloc, set.blocks(server), server, parts, pads)?)
+}
+
+/// Whether all parts name an epoch.
+fn check_epochs(number: u32, parts: &[Part]) -> Result<(), PartError>
+    ensures { result_err result ≡ first_other_epoch number parts.now }
+{
+    for part in parts {
+        check_epoch(number, part)?;
+    }
+    Ok(())
+}
+
+/// Whether a part names it.
+fn check_epoch(number: u32, part: &Part) -> Result<(), PartError>
+    ensures { result_err result ≡ other_epoch number part.now }
+{
+    if number == part.epoch {
+        Ok(())
+    } else {
+        Err(PartError::Epoch {
             want: number,
             got: part.epoch,
-        });
+        })
     }
-    Ok(reply_over(alloc, set.blocks(server), server, part, pads)?)
 }
 
-/// The same over these blocks.
-fn reply_over(
+/// The replies to parts over these blocks.
+fn replies_over(
     alloc: Global,
     blocks: &Snapshot,
     server: u32,
-    part: &Part,
-    pads: &Pads,
-) -> Result<Part, Memory>
+    parts: &[Part],
+    pads: &[Pads],
+) -> Result<Vec<Part>, Memory>
+    requires { (shape : Shape) × AreHad shape blocks.now
+        × AreAsked shape server pads.now parts.now }
+    ensures sized { (shape : Shape) → AreHad shape blocks.now
+        → AreAsked shape server pads.now parts.now
+        → IfOk result
+        (λ rs. AllByRecursion (λ p. HasHalves (width shape) (halves_of p)) rs.items) }
+    ensures served { (shape : Shape) → AreHad shape blocks.now
+        → AreAsked shape server pads.now parts.now
+        → IfOk result
+        (λ rs. rs.items ≡ served_parts shape blocks.now.blocks server pads.now parts.now) }
+{
+    let vectors = vectors_for(alloc, server, parts, pads)?;
+    let sums = sums_of_all(alloc, blocks, vectors)?;
+    each_wide(blocks);
+    let (first, second) = sums.as_slice().split_at(parts.len());
+    replies_with(alloc, server, parts, pads, first, second)
+}
+
+/// For each of these vectors the sum of the blocks that it chooses, all in one pass over the blocks.
+fn sums_of_all(alloc: Global, blocks: &Snapshot, vectors: Vec<Bytes>) -> Result<Vec<Bytes>, Memory>
+    requires { All (λ v. 8 * length v ≡ length blocks.now.blocks) vectors.items }
+    ensures { IfOk result (λ sums. sums.items
+        ≡ map (chosen_sum blocks.now.width blocks.now.blocks) vectors.items) }
+{
+    answer_each(alloc, blocks, vectors)
+}
+
+/// Each block is as wide as all are.
+fn each_wide(blocks: &Snapshot)
+    ensures { AllSized blocks.now.width blocks.now.blocks }
+{
+    blocks.width();
+}
+
+/// The vectors that a server is asked with by parts: those for the first bucket of each, and then those for the second.
+fn vectors_for(
+    alloc: Global,
+    server: u32,
+    parts: &[Part],
+    pads: &[Pads],
+) -> Result<Vec<Bytes>, Memory>
+    requires { (shape : Shape) × AreAsked shape server pads.now parts.now }
+    ensures sized { (shape : Shape) → AreAsked shape server pads.now parts.now
+        → IfOk result (λ vectors. AllSized (vector_len shape) vectors.items) }
+    ensures vectors { let asked = zip pads.now parts.now in
+        IfOk result (λ vectors. vectors.items
+        ≡ map (first_asked server) asked ++ map (second_asked server) asked) }
+{
+    let mut vectors = Vec::new(alloc);
+    let mut others = Vec::new(alloc);
+    for (i, part) in parts.iter().enumerate() {
+        let both = vectors_of(alloc, server, part, &pads[i])?;
+        vectors.push(Bytes::from_vec(both.first))?;
+        others.push(Bytes::from_vec(both.second))?;
+    }
+    vectors.append(&mut others)?;
+    Ok(vectors)
+}
+
+/// The replies to parts with these sums for the first bucket of each, and these for the second.
+fn replies_with(
+    alloc: Global,
+    server: u32,
+    parts: &[Part],
+    pads: &[Pads],
+    first: &[Bytes],
+    second: &[Bytes],
+) -> Result<Vec<Part>, Memory>
+    requires { (shape : Shape) × (blocks : List (List ℕ))
+        × AreAsked shape server pads.now parts.now
+        × AreSums shape blocks server (zip pads.now parts.now) first.now second.now }
+    ensures sized { (shape : Shape) → AreAsked shape server pads.now parts.now
+        → IfOk result
+        (λ rs. AllByRecursion (λ p. HasHalves (width shape) (halves_of p)) rs.items) }
+    ensures served { (shape : Shape) (blocks : List (List ℕ))
+        → AreAsked shape server pads.now parts.now
+        → AreSums shape blocks server (zip pads.now parts.now) first.now second.now
+        → IfOk result (λ rs. rs.items ≡ served_parts shape blocks server pads.now parts.now) }
+{
+    let mut replies = Vec::new(alloc);
+    for (i, part) in parts.iter().enumerate() {
+        let reply = reply_with(
+            alloc,
+            server,
+            part,
+            &pads[i],
+            first[i].as_slice(),
+            second[i].as_slice(),
+        )?;
+        replies.push(reply)?;
+    }
+    Ok(replies)
+}
+
+/// The vectors of a part, from which its mask is taken off.
+fn vectors_of(alloc: Global, server: u32, part: &Part, pads: &Pads) -> Result<Halves, Memory>
     requires server { (1 ≤ server) × (server ≤ pads.now.shape.servers) }
-    requires counted { length blocks.now.blocks ≡ pads.now.shape.buckets }
-    requires wide { blocks.now.width ≡ width pads.now.shape }
     requires sized { HasHalves (vector_len pads.now.shape) (halves_of part.now) }
-    ensures sized { IfOk result (λ p. HasHalves (width pads.now.shape) (halves_of p)) }
-    ensures served { IfOk result (λ p. p
-        ≡ served_part pads.now.shape blocks.now.blocks pads.now.pads server part.now) }
-{
-    if server == 1 {
-        plain_reply(alloc, blocks, part)
-    } else {
-        masked_reply(alloc, blocks, server, part, pads)
-    }
-}
-
-/// The reply of server 1, which has no pads.
-fn plain_reply(alloc: Global, blocks: &Snapshot, part: &Part) -> Result<Part, Memory>
-    requires first { 8 * length part.now.first ≡ length blocks.now.blocks }
-    requires second { 8 * length part.now.second ≡ length blocks.now.blocks }
-    ensures sized { IfOk result (λ p. HasHalves blocks.now.width (halves_of p)) }
-    ensures served { IfOk result (λ p. p
-        ≡ part_with part.now.client part.now.turn part.now.epoch
-        (sums_over blocks.now.width blocks.now.blocks (halves_of part.now))) }
-{
-    let sums = sums_of(alloc, blocks, part.first.as_slice(), part.second.as_slice())?;
-    Ok(sums.into_part(part.client, part.turn, part.epoch))
-}
-
-/// The reply of another server.
-fn masked_reply(
-    alloc: Global,
-    blocks: &Snapshot,
-    server: u32,
-    part: &Part,
-    pads: &Pads,
-) -> Result<Part, Memory>
-    requires server { (2 ≤ server) × (server ≤ pads.now.shape.servers) }
-    requires counted { length blocks.now.blocks ≡ 8 * vector_len pads.now.shape }
-    requires wide { blocks.now.width ≡ width pads.now.shape }
-    requires sized { HasHalves (vector_len pads.now.shape) (halves_of part.now) }
-    ensures sized { IfOk result (λ p. HasHalves blocks.now.width (halves_of p)) }
-    ensures served { let pads = pads.now.pads in
-        let vectors = mixed (halves_of part.now) (pad_of pads.requests server) in
-        IfOk result (λ p. p ≡ part_with part.now.client part.now.turn part.now.epoch
-        (mixed (sums_over blocks.now.width blocks.now.blocks vectors) (pad_of pads.replies server))) }
+    ensures sized { IfOk result (HasHalves (vector_len pads.now.shape)) }
+    ensures vectors { IfOk result
+        (λ x. x ≡ masked pads.now.pads.requests server (halves_of part.now)) }
 {
     let mut vectors = Halves::of(alloc, part)?;
-    let (first, second) = pads.request(server);
-    vectors.mix(first, second);
-    let mut sums = sums_of(alloc, blocks, &vectors.first, &vectors.second)?;
-    let (first, second) = pads.reply(server);
-    sums.mix(first, second);
+    if server > 1 {
+        let (first, second) = pads.request(server);
+        vectors.mix(first, second);
+    }
+    Ok(vectors)
+}
+
+/// The reply to a part with these sums, on which its mask is put.
+fn reply_with(
+    alloc: Global,
+    server: u32,
+    part: &Part,
+    pads: &Pads,
+    first: &[u8],
+    second: &[u8],
+) -> Result<Part, Memory>
+    requires server { (1 ≤ server) × (server ≤ pads.now.shape.servers) }
+    requires first_len { length first.now ≡ width pads.now.shape }
+    requires second_len { length second.now ≡ width pads.now.shape }
+    ensures sized { IfOk result (λ p. HasHalves (width pads.now.shape) (halves_of p)) }
+    ensures reply { IfOk result
+        (λ p. p ≡ part_with part.now.client part.now.turn part.now.epoch
+        (masked pads.now.pads.replies server (record { first = first.now; second = second.now }))) }
+{
+    let mut sums = Halves {
+        first: Vec::from_slice(alloc, first)?,
+        second: Vec::from_slice(alloc, second)?,
+    };
+    if server > 1 {
+        let (first, second) = pads.reply(server);
+        sums.mix(first, second);
+    }
     Ok(sums.into_part(part.client, part.turn, part.epoch))
-}
-
-/// The sums of the blocks that two vectors choose.
-fn sums_of(alloc: Global, blocks: &Snapshot, first: &[u8], second: &[u8]) -> Result<Halves, Memory>
-    requires first { 8 * length first.now ≡ length blocks.now.blocks }
-    requires second { 8 * length second.now ≡ length blocks.now.blocks }
-    ensures sized { IfOk result (λ sums. HasHalves blocks.now.width sums) }
-    ensures first { IfOk result (λ sums.
-        sums.first ≡ chosen_sum blocks.now.width blocks.now.blocks first.now) }
-    ensures second { IfOk result (λ sums.
-        sums.second ≡ chosen_sum blocks.now.width blocks.now.blocks second.now) }
-{
-    Ok(Halves {
-        first: sum_of(alloc, blocks, first)?,
-        second: sum_of(alloc, blocks, second)?,
-    })
-}
-
-/// The sum of the blocks that a vector chooses.
-fn sum_of(alloc: Global, blocks: &Snapshot, vector: &[u8]) -> Result<Vec<u8>, Memory>
-    requires { 8 * length vector.now ≡ length blocks.now.blocks }
-    ensures long { IfOk result (λ sum. length sum.items ≡ blocks.now.width) }
-    ensures sum { IfOk result (λ sum. sum.items
-        ≡ chosen_sum blocks.now.width blocks.now.blocks vector.now) }
-{
-    let mut sum = vec![in alloc; 0u8; blocks.width() as usize]?;
-    answer(blocks, vector, sum.as_mut_slice());
-    Ok(sum)
 }

@@ -18,10 +18,10 @@ use crate::RelayRunError;
 use crate::answering::serve_all;
 use crate::receiving::take_all;
 use crate::relayed_read::RelayedRead;
-use crate::replicas::open_replicas;
+use crate::replicas::{open_replicas, set_of};
 use crate::run::Run;
 use crate::seeing::{give_sights, sights_of};
-use crate::sending::ask_all;
+use crate::sending::{ask_all, pads_of_all};
 use std::alloc::Global;
 use tk_client::Client;
 use tk_io::Taps;
@@ -212,10 +212,13 @@ fn read_turn<D: Draws>(
         S.shape.servers reads.items) }
 {
     let shape = &plan.script.shape;
-    let mut reads = ask_all(alloc, plan, seeds, turn, clients, &replicas[0])?;
     // all clients read the epoch of the turn's phase
     let epoch = plan.history.epoch(turn, 0);
-    serve_all(alloc, shape, epoch, replicas, reads.as_mut_slice())?;
-    take_all(alloc, plan, turn, reads.as_slice(), clients)?;
+    let set = set_of(alloc, shape, epoch, replicas)?;
+    let keyed = pads_of_all(alloc, shape, seeds, turn)?;
+    let pads = keyed.as_slice();
+    let mut reads = ask_all(alloc, plan, pads, turn, clients, &set)?;
+    serve_all(alloc, &set, pads, reads.as_mut_slice())?;
+    take_all(alloc, plan, turn, pads, reads.as_slice(), clients)?;
     Ok(reads)
 }

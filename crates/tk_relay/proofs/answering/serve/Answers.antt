@@ -1,48 +1,40 @@
--- The sums of all vectors are cut in two, for the first buckets and for the second.
-use Rattle.std.proofs.Common.{◌∙◌, ap, subst, arith, length, map}
+-- What server 1 passes on are parts of the shape, and each read gets the reply to its part.
+use Rattle.std.proofs.Common.{◌∙◌, ap, sym, subst, length}
+use Rattle.std.specs.Prelude.{All}
 use Rattle.std.proofs.lemmas.List.{length-map}
-use Rattle.tk_kernel.specs.Chosen.{chosen_sum}
-use Rattle.tk_kernel.specs.Pieces.{AllSized}
-use Rattle.tk_relay.proofs.AnsweredReads.{all-vectors-sized, vectors-counted, sums-cut}
+use Rattle.tk_frames.specs.Order.{before}
+use Rattle.tk_table.specs.Table.{layout, blocks_of}
+use Rattle.tk_relay.specs.Reads.{part_of}
+use Rattle.tk_relay.specs.Serving.{IsAsking, served_parts}
+use Rattle.tk_relay.proofs.AnsweredReads.{parts-there, parts-asking, served-by, replied-whole}
 use Rattle.tk_relay.proofs.answering.serve.Goals as goal
 
-pub sums_of_all-requires : goal.sums_of_all-requires
-sums_of_all-requires c =
-    all-vectors-sized c.args.shape.now c.args.server (length c.args.blocks.now.blocks)
-    c.args.reads.now c.in_ok-vectors.vectors.items c.requires.whole c.requires.low c.requires.high
-    c.requires.counted c.in_ok-vectors.ensures
+pub passed_on-requires-clause-parts : goal.passed_on-requires-clause-parts
+passed_on-requires-clause-parts c =
+    parts-there c.args.set.now.shape c.args.server c.args.reads.now c.requires.high c.requires.whole
 
-pub split_at-requires : goal.split_at-requires
-split_at-requires c =
-    let blocks = c.args.blocks.now in
-    let vectors = c.in_ok-vectors.vectors.items in
-    let counted = vectors-counted c.args.server c.args.reads.now vectors c.in_ok-vectors.ensures in
-    let sums = ap length c.in_ok-sums.ensures
-    ∙ length-map vectors (chosen_sum blocks.width blocks.blocks)
-    in
-    omega (arith, counted, sums, ap length c.as_slice.ensures.value)
+pub serve_parts-requires-clause-counted : goal.serve_parts-requires-clause-counted
+serve_parts-requires-clause-counted c =
+    c.requires.counted
+    ∙ sym (ap length (c.as_slice.ensures.value ∙ c.in_ok-parts.ensures)
+    ∙ length-map c.args.reads.now (λ r. part_of r c.args.server))
 
-pub reply_all-requires-clause-sums : goal.reply_all-requires-clause-sums
-reply_all-requires-clause-sums c =
-    let shape = c.args.shape.now in
-    let blocks = c.args.blocks.now.blocks in
-    let wide = c.requires.wide in (
-      blocks,
-      sums-cut {shape = shape} {blocks = blocks}
-          (subst (λ n. AllSized n blocks) wide c.each_wide.ensures) c.in_ok-vectors.ensures
-          (c.as_slice.ensures.value ∙ c.in_ok-sums.ensures
-          ∙ ap (λ n. map (chosen_sum n blocks) c.in_ok-vectors.vectors.items) wide)
-          c.split_at.ensures.front c.split_at.ensures.back,
-    )
+pub serve_parts-requires-clause-sized : goal.serve_parts-requires-clause-sized
+serve_parts-requires-clause-sized c =
+    subst (All (IsAsking c.args.set.now.shape))
+    (sym (c.as_slice.ensures.value ∙ c.in_ok-parts.ensures))
+    (parts-asking c.args.set.now.shape c.args.server c.args.reads.now c.requires.low c.requires.high
+    c.requires.whole)
 
-pub returns : goal.returns
-returns c =
-    let shape = c.args.shape.now in
-    let blocks = c.args.blocks.now.blocks in
-    let wide = c.requires.wide in
-    c.reply_all.ensures blocks
-    (sums-cut {shape = shape} {blocks = blocks}
-    (subst (λ n. AllSized n blocks) wide c.each_wide.ensures) c.in_ok-vectors.ensures
-    (c.as_slice.ensures.value ∙ c.in_ok-sums.ensures
-    ∙ ap (λ n. map (chosen_sum n blocks) c.in_ok-vectors.vectors.items) wide)
-    c.split_at.ensures.front c.split_at.ensures.back)
+pub returns-clause-whole : goal.returns-clause-whole
+returns-clause-whole c = replied-whole c.in_ok-take_replies.ensures c.requires.whole
+
+pub returns-clause-served : goal.returns-clause-served
+returns-clause-served c = λ shape E stands.
+    let blocks = blocks_of (layout shape (before E c.args.set.now.number)) in
+    served-by shape blocks c.args.server c.args.pads.now c.args.reads.now c.take_replies.new.reads
+    c.in-Ok.replies.items c.requires.counted
+    (c.in-Ok.ensures.served shape E stands
+    ∙ ap (served_parts shape blocks c.args.server c.args.pads.now)
+    (c.as_slice.ensures.value ∙ c.in_ok-parts.ensures))
+    c.in_ok-take_replies.ensures

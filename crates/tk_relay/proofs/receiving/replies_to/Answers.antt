@@ -27,7 +27,7 @@ replies_for-requires-clause-sized c =
 pub returns : goal.returns
 returns c =
     let shape = c.args.shape.now in
-    let pads = c.args.read.now.pads.pads in
+    let pads = c.args.pads.now.pads in
     c.in_ok-replies_for.ensures.ok
     ∙ ap₂ (λ (xs : List (List ℕ)) (p : Part). xs ++ map reply_frame (replies_from shape pads p))
     c.new-replies.ensures.items (c.in-Ok.ensures.gathered ∙ ap gathered_part c.as_slice.ensures.value)

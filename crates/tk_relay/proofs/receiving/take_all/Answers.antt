@@ -2,6 +2,7 @@
 use Rattle.std.proofs.Common.{◌∙◌, ◌<◌, ◌≤◌, refl, sym, subst, arith, length, length-set}
 use Rattle.tk_report.proofs.Offers.{split-none, split-next, split-all}
 use Rattle.tk_relay.specs.Running.{IsRelayed}
+use Rattle.tk_relay.proofs.Paddings.{padding-at}
 use Rattle.tk_relay.proofs.receiving.take_all.Goals as goal
 
 pub taking-init : goal.taking-init
@@ -20,6 +21,16 @@ take_one-requires-clause-number_in g c κs met =
       c.requires.clients.counted,
     )
 
+pub bounds-pads-i : goal.bounds-pads-i
+bounds-pads-i g c =
+    omega (
+      arith,
+      c.taking-test.true,
+      c.taking.invariant.counted,
+      c.requires.clients.counted,
+      c.requires.counted,
+    )
+
 pub take_one-requires-clause-read : goal.take_one-requires-clause-read
 take_one-requires-clause-read g c κs met =
     let S = c.args.plan.now.script.now in
@@ -27,16 +38,16 @@ take_one-requires-clause-read g c κs met =
     let H = c.args.plan.now.history.now in
     let i = c.taking.i in
     let seeds = c.requires.reads.0 in
-    let are = c.requires.reads.1 in (
+    let are = c.requires.reads.2 in
+    let low : i < S.shape.clients =
+    omega (arith, c.taking-test.true, c.taking.invariant.counted, c.requires.clients.counted)
+    in (
       seeds,
+      c.index-pads-i.is
+          ∙ padding-at S.shape seeds c.args.turn c.args.pads.now c.requires.reads.1 i
+          c.index-pads-i.result (omega (arith, low, c.requires.counted)),
       subst (IsRelayed S book seeds H c.args.turn S.shape.servers i) (sym c.index-reads-i.is)
-          (are.each i c.index-reads-i.result (omega (
-            arith,
-            c.taking-test.true,
-            c.taking.invariant.counted,
-            c.requires.clients.counted,
-            are.counted,
-          ))),
+          (are.each i c.index-reads-i.result (omega (arith, low, are.counted))),
     )
 
 pub take_one-requires-clause-client : goal.take_one-requires-clause-client

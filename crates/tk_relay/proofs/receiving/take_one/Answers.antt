@@ -7,7 +7,7 @@ use Rattle.tk_words.specs.Words.{IsBook, words_of}
 use Rattle.tk_frames.specs.Spelling.{reply_frame}
 use Rattle.tk_relay.specs.declared.part.Part.{Part}
 use Rattle.tk_relay.specs.Halves.{HasHalves}
-use Rattle.tk_relay.specs.Pads.{PadLists}
+use Rattle.tk_relay.specs.Pads.{PadLists, Padding}
 use Rattle.tk_relay.specs.Parts.{halves_of}
 use Rattle.tk_relay.specs.Replies.{replies_from}
 use Rattle.tk_relay.specs.Serving.{gathered_part}
@@ -17,10 +17,10 @@ use Rattle.tk_relay.proofs.TakenTurns.{client-takes}
 use Rattle.tk_relay.proofs.receiving.take_one.Goals as goal
 
 pub replies_to-requires-clause-one_shape : goal.replies_to-requires-clause-one_shape
-replies_to-requires-clause-one_shape g c = c.requires.read.1.same
+replies_to-requires-clause-one_shape g c = ap (λ (p : Padding). p.shape) c.requires.read.1
 
 pub replies_to-requires-clause-counted : goal.replies_to-requires-clause-counted
-replies_to-requires-clause-counted g c = replied-counted c.requires.read.1
+replies_to-requires-clause-counted g c = replied-counted c.requires.read.2
 
 pub replies_to-requires-clause-sized : goal.replies_to-requires-clause-sized
 replies_to-requires-clause-sized g c =
@@ -33,7 +33,7 @@ replies_to-requires-clause-sized g c =
     (laws.serves c.args.plan.now.draws.now)
     in
     subst (AllByRecursion (λ (p : Part). HasHalves (width S.shape) (halves_of p)))
-    (sym (c.requires.read.1.replies
+    (sym (c.requires.read.2.replies
     ∙ served-are S book c.requires.read.0 c.args.plan.now.history.now c.args.turn
     c.args.number serves c.args.plan.now.legal c.requires.turn_in
     c.requires.number_in))
@@ -61,7 +61,7 @@ take_replies-requires-clause-counted g c κs met =
     let S = c.args.plan.now.script.now in
     let words = words_of S.shape (g.D.Draws.book c.args.plan.now.draws.now) in
     let read = c.args.read.now in
-    made-counted S.shape read.pads.pads (gathered_part read.replies.items) c.as_slice.result.now
+    made-counted S.shape c.args.pads.now.pads (gathered_part read.replies.items) c.as_slice.result.now
     (c.as_slice.ensures.value ∙ c.in_ok-replies.ensures)
     ∙ ap (λ (shape : Shape). shape.servers)
     (sym (asked-shape S words c.args.plan.now.history.now c.args.turn c.args.number
@@ -77,7 +77,7 @@ returns g c =
     subst (λ (shape : Shape). IsBook shape book) c.args.plan.now.one_shape
     (laws.serves c.args.plan.now.draws.now)
     in
-    let is = c.requires.read.1 in
+    let is = c.requires.read.2 in
     let replies =
     is.replies
     ∙ served-are S book c.requires.read.0 c.args.plan.now.history.now c.args.turn
@@ -88,5 +88,6 @@ returns g c =
     c.requires.client
     (c.as_slice.ensures.value ∙ c.in_ok-replies.ensures
     ∙ ap₂ (λ (pads : PadLists) (ps : List Part). map reply_frame
-    (replies_from S.shape pads (gathered_part ps))) is.pads replies)
+    (replies_from S.shape pads (gathered_part ps)))
+    (ap (λ (p : Padding). p.pads) c.requires.read.1) replies)
     c.in-Ok.ensures.taken

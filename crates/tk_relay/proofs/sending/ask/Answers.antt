@@ -1,11 +1,11 @@
 -- A client that has written asks each server what it is to ask in the turn.
 use Rattle.std.proofs.Common.{◌∙◌, ◌+◌, ◌++◌, ◌<◌, ◌≤◌, List, ℕ, ap, sym, subst, map}
-use Rattle.std.specs.Arc.{arc_value}
 use Rattle.tk_shape.specs.declared.shape.Shape.{Shape}
 use Rattle.tk_shape.specs.Lengths.{turn_count}
 use Rattle.tk_words.specs.Words.{words_of, IsBook}
+use Rattle.tk_frames.specs.Order.{before}
 use Rattle.tk_frames.specs.Spelling.{read_frame}
-use Rattle.tk_replica.specs.declared.epoch.Epoch.{Epoch}
+use Rattle.tk_table.specs.Shown.{is_shown}
 use Rattle.tk_client.specs.Asked.{asked}
 use Rattle.tk_client.specs.Client.{target_over}
 use Rattle.tk_report.specs.Turns.{placed_before}
@@ -46,9 +46,9 @@ read_frames-requires-clause-epoch_in g c κs within =
     let H = c.args.plan.now.history.now in
     let turn = c.args.turn in
     let number = c.args.number in
-    subst (λ (shape : Shape). c.epoch-epoch.result ≤ shape.phases)
+    subst (λ (shape : Shape). c.number-epoch.result ≤ shape.phases)
     (sym (wrote-shape S words H turn number c.args.client.now c.requires.client))
-    (subst (λ (e : ℕ). e ≤ S.shape.phases) (sym c.epoch-epoch.ensures)
+    (subst (λ (e : ℕ). e ≤ S.shape.phases) (sym (c.number-epoch.ensures ∙ c.requires.epoch))
     (epoch-most S H turn number c.args.plan.now.legal c.requires.turn_in c.requires.number_in))
 
 pub returns-clause-client : goal.returns-clause-client
@@ -57,12 +57,13 @@ returns-clause-client g c =
     let book = g.D.Draws.book c.args.plan.now.draws.now in
     let words = words_of S.shape book in
     let H = c.args.plan.now.history.now in
+    let E = placed_before S words H (c.args.turn + 1) in
     always c.read_all.result
-    (client-opens S book H c.args.turn c.args.number c.epoch-epoch.result (arc_value c.in-Ok.shown)
-    c.filter.result.now c.args.client.now c.args.plan.now.legal c.requires.turn_in
-    c.requires.number_in c.epoch-epoch.ensures
-    (c.in-Ok.ensures.stands S.shape (placed_before S words H (c.args.turn + 1)) c.requires.replica)
-    (c.filter.ensures ∙ ap (λ (e : Epoch). e.filter) c.deref.ensures) c.requires.client
+    (client-opens S book H c.args.turn c.args.number c.number-epoch.result c.filter.result.now
+    c.args.client.now c.args.plan.now.legal c.requires.turn_in c.requires.number_in
+    (c.number-epoch.ensures ∙ c.requires.epoch)
+    (λ hits. c.filter.ensures.shows S.shape E c.requires.set hits
+    ∙ ap (λ n. is_shown S.shape (before E n) hits) (sym c.number-epoch.ensures)) c.requires.client
     c.read_frames.new.self c.in_ok-read_frames.ensures.opened)
 
 pub returns-clause-frames : goal.returns-clause-frames
@@ -71,8 +72,9 @@ returns-clause-frames g c =
     let book = g.D.Draws.book c.args.plan.now.draws.now in
     let words = words_of S.shape book in
     let H = c.args.plan.now.history.now in
+    let E = placed_before S words H (c.args.turn + 1) in
     let client = c.args.client.now in
-    let epoch = c.epoch-epoch.result in
+    let epoch = c.number-epoch.result in
     let marks = c.filter.result.now in
     let target = target_over (words_of client.shape book) marks epoch client in
     let world = g.world in
@@ -82,10 +84,11 @@ returns-clause-frames g c =
     (laws.serves c.args.plan.now.draws.now)
     in
     let asks =
-    client-asks S book H c.args.turn c.args.number epoch (arc_value c.in-Ok.shown) marks client
-    c.args.plan.now.legal c.requires.turn_in c.requires.number_in c.epoch-epoch.ensures
-    (c.in-Ok.ensures.stands S.shape (placed_before S words H (c.args.turn + 1)) c.requires.replica)
-    (c.filter.ensures ∙ ap (λ (e : Epoch). e.filter) c.deref.ensures) c.requires.client
+    client-asks S book H c.args.turn c.args.number epoch marks client
+    c.args.plan.now.legal c.requires.turn_in c.requires.number_in
+    (c.number-epoch.ensures ∙ c.requires.epoch)
+    (λ hits. c.filter.ensures.shows S.shape E c.requires.set hits
+    ∙ ap (λ n. is_shown S.shape (before E n) hits) (sym c.number-epoch.ensures)) c.requires.client
     in
     c.read_all.ensures (frames_read S book H c.args.turn c.args.number)
     (reads-in_range S book H c.args.turn c.args.number serves c.args.plan.now.legal

@@ -1,5 +1,5 @@
 -- The client at the place asks, and its read goes on its way.
-use Rattle.std.proofs.Common.{◌∙◌, ◌<◌, ◌≤◌, ℕ, List, refl, arith, ap, sym, subst, length, length-set}
+use Rattle.std.proofs.Common.{◌∙◌, ◌<◌, ◌≤◌, List, refl, arith, ap, sym, subst, length, length-set}
 use Rattle.std.specs.List.{AllByRecursion}
 use Rattle.tk_shape.specs.declared.shape.Shape.{Shape}
 use Rattle.tk_words.specs.Words.{IsBook}
@@ -8,11 +8,13 @@ use Rattle.tk_frames.specs.Ranges.{IsRead}
 use Rattle.tk_lists.proofs.Offers.{length-next}
 use Rattle.tk_report.proofs.Offers.{split-none, split-next, split-all}
 use Rattle.tk_relay.specs.Bundles.{AreOneRead}
+use Rattle.tk_relay.specs.Pads.{Padding, ArePads}
 use Rattle.tk_relay.specs.Reads.{IsSent}
 use Rattle.tk_relay.specs.Relayed.{frames_read}
 use Rattle.tk_relay.specs.Running.{IsRelayed}
 use Rattle.tk_relay.proofs.AskedTurns.{one-read, reads-in_range}
-use Rattle.tk_relay.proofs.RelayedReads.{sent-relayed}
+use Rattle.tk_relay.proofs.Paddings.{padding-at, padding-masks, paddings-shape}
+use Rattle.tk_relay.proofs.RelayedReads.{one-epoch, sent-relayed}
 use Rattle.tk_relay.proofs.Sent.{each-next}
 use Rattle.tk_relay.proofs.sending.ask_all.Goals as goal
 
@@ -23,7 +25,7 @@ asking-init g c =
       counted = refl;
       clients = split-none c.requires.clients.each;
       sent = none;
-      reads = λ k d low. absurd (omega (arith, low, none));
+      reads = λ seeds are k d low. absurd (omega (arith, low, none));
     }
 
 pub ask-requires-clause-number_in : goal.ask-requires-clause-number_in
@@ -41,15 +43,53 @@ ask-requires-clause-client g c κs met =
     so_far.clients.due_are c.asking.i c.index-clients-i.result (omega arith)
     (omega (arith, c.asking-test.true, so_far.counted))
 
-pub seed_of-seed-requires : goal.seed_of-seed-requires
-seed_of-seed-requires g c =
+pub ask-requires-clause-epoch : goal.ask-requires-clause-epoch
+ask-requires-clause-epoch g c κs met =
+    let S = c.args.plan.now.script.now in
+    c.requires.epoch
+    ∙ one-epoch S.shape c.args.plan.now.history.now c.args.turn c.asking.i c.requires.serial
+    c.requires.turn_in (omega (
+      arith,
+      c.asking-test.true,
+      c.asking.invariant.counted,
+      c.requires.clients.counted,
+    ))
+
+pub bounds-pads-i : goal.bounds-pads-i
+bounds-pads-i g c =
     omega (
       arith,
       c.asking-test.true,
       c.asking.invariant.counted,
       c.requires.clients.counted,
-      c.requires.seeds,
+      c.requires.counted,
     )
+
+pub send-requires-clause-one_shape : goal.send-requires-clause-one_shape
+send-requires-clause-one_shape g c =
+    let S = c.args.plan.now.script.now in
+    ap (λ (p : Padding). p.shape) c.index-pads-i.is
+    ∙ paddings-shape S.shape c.requires.pads.0 c.args.turn c.args.pads.now c.requires.pads.1
+    c.asking.i c.index-pads-i.result (omega (
+      arith,
+      c.asking-test.true,
+      c.asking.invariant.counted,
+      c.requires.clients.counted,
+      c.requires.counted,
+    ))
+
+pub send-requires-clause-masks : goal.send-requires-clause-masks
+send-requires-clause-masks g c =
+    let S = c.args.plan.now.script.now in
+    subst (λ (p : Padding). ArePads S.shape p.pads) (sym c.index-pads-i.is)
+    (padding-masks S.shape c.requires.pads.0 c.args.turn c.args.pads.now c.requires.pads.1
+    c.asking.i c.index-pads-i.result (omega (
+      arith,
+      c.asking-test.true,
+      c.asking.invariant.counted,
+      c.requires.clients.counted,
+      c.requires.counted,
+    )))
 
 pub send-requires-clause-one_read : goal.send-requires-clause-one_read
 send-requires-clause-one_read g c =
@@ -99,25 +139,30 @@ asking-preserved g c =
     let book = g.D.Draws.book c.args.plan.now.draws.now in
     let H = c.args.plan.now.history.now in
     let turn = c.args.turn in
-    let seeds = c.args.seeds.now in
     let i = c.asking.i in
     let clients = c.asking.clients in
     let so_far = c.asking.invariant in
     let within : i < length clients = omega (arith, c.asking-test.true, so_far.counted) in
-    let read = c.in_ok-send.field-0 in
-    let sent =
-    subst (λ (seed : List ℕ). IsSent S.shape (frames_read S book H turn i) seed turn read) c.seed_of-seed.ensures
-    (subst (λ (frames : List ReadFrame). IsSent S.shape frames c.seed_of-seed.result.now turn read)
-    (c.as_slice.ensures.value ∙ c.in_ok-frames.ensures.frames) c.in_ok-send.ensures)
+    let low : i < length c.args.pads.now =
+    omega (arith, within, so_far.counted, c.requires.clients.counted, c.requires.counted)
     in
+    let read = c.in_ok-send.field-0 in
     let pushed = c.in_ok-push.ensures.items in
     record {
       counted = length-set clients i c.ask.new.client ∙ so_far.counted;
       clients = split-next c.ask.new.client so_far.clients within c.in_ok-frames.ensures.client;
       sent = length-next c.asking.reads.items c.push.new.self.items read i pushed so_far.sent;
-      reads =
+      reads = λ seeds are.
+          let own = c.index-pads-i.is
+          ∙ padding-at S.shape seeds turn c.args.pads.now are i c.index-pads-i.result low
+          in
+          let sent =
+          subst (λ (p : Padding). IsSent S.shape (frames_read S book H turn i) p.pads read) own
+          (subst (λ (frames : List ReadFrame). IsSent S.shape frames c.index-pads-i.result.pads read)
+          (c.as_slice.ensures.value ∙ c.in_ok-frames.ensures.frames) c.in_ok-send.ensures)
+          in
           each-next (λ k r. IsRelayed S book seeds H turn 0 k r) c.asking.reads.items
-          c.push.new.self.items read i pushed so_far.sent so_far.reads
+          c.push.new.self.items read i pushed so_far.sent (so_far.reads seeds are)
           (sent-relayed S book seeds H turn i read sent);
     }
 
@@ -133,7 +178,7 @@ returns-clause-clients g c =
     }
 
 pub returns-clause-reads : goal.returns-clause-reads
-returns-clause-reads g c =
+returns-clause-reads g c = λ seeds are.
     let so_far = c.asking.invariant in
     record {
       counted = omega (
@@ -143,5 +188,5 @@ returns-clause-reads g c =
         so_far.sent,
         c.requires.clients.counted,
       );
-      each = so_far.reads;
+      each = so_far.reads seeds are;
     }
