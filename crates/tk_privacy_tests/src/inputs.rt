@@ -1,156 +1,131 @@
-//! Two scripts of one shape in either format, and words over which servers see the same of both.
+//! Scripts of one shape in either format and for two servers or three, and words over which servers see the same of both.
 ghost use Rattle.std.specs.Prelude.{◌≡◌, length, IfOk};
 ghost use Rattle.tk_shape.specs.Lengths.{tape_len};
 
-use std::alloc::Global;
+use std::alloc::{AllocError, Global};
 use std::test::Fail;
 use tk_script::{Form, Script, parse};
 use tk_words::Tape;
 
-/// The text of a script, and of the words that it is run over.
-pub type Input = (&'static [u8], &'static [u8]);
+/// Two clients, of whom the second follows the first, over one turn, and drawn words.
+#[derive(Clone, Copy)]
+pub struct Input {
+    pub format: u32,
+    pub servers: u32,
+    /// Whether the first client says something; over these words servers are shown the same either way.
+    pub speaks: bool,
+    /// The vectors that are drawn for the second client's read, in digits.
+    pub vectors: &'static str,
+}
 
-/// Two clients and three servers, and a text for the second client.
-pub const SPEAKING: &[u8] = b"talek 1
-shape 3 8 4 4 24 64 1 0 2 1 1 1
-drawn
-log 0 1
-say 1 1 0 hi
-end
-";
-
-/// The same without a text.
-pub const SILENT: &[u8] = b"talek 1
-shape 3 8 4 4 24 64 1 0 2 1 1 1
-drawn
-log 0 1
-end
-";
-
-/// Words for them.
-pub const WORDS: &[u8] = b"tape
-fill 15 36
-fill 12 36
-fill 21 12
-x 0000000000000000a00bc00d
-fill 31 36
-end
-";
-
-/// The words over which the silent script shows the same to all servers but the first, to all but the second, and to
-/// all but the last.
-pub const HIDING_1: &[u8] = b"tape
-fill 31 13
-x 335958
-fill 31 20
-fill 12 36
-fill 21 12
-x 0000000000000000820be20d
-fill 15 36
-end
-";
-
-pub const HIDING_2: &[u8] = b"tape
-fill 31 13
-x 335958
-fill 31 20
-fill 12 36
-fill 21 12
-x 0000000000000000a029c02f
-fill 15 36
-end
-";
-
-pub const HIDING_3: &[u8] = b"tape
-fill 31 13
-x 335958
-fill 31 20
-fill 12 36
-fill 21 12
-x 0000000000000000a00bc00d
-fill 15 36
-end
-";
-
-/// The same scripts in format 2, in which each vector of a read comes with a seed.
-pub const SEEDED_SPEAKING: &[u8] = b"talek 2
-shape 3 8 4 4 24 64 1 0 2 1 1 1
-drawn
-log 0 1
-say 1 1 0 hi
-end
-";
-
-pub const SEEDED_SILENT: &[u8] = b"talek 2
-shape 3 8 4 4 24 64 1 0 2 1 1 1
-drawn
-log 0 1
-end
-";
-
-/// Words for them: two write cells, two read cells, and a keyed cell. In the second read cell each seed has bytes of
-/// its own.
-pub const SEEDED_WORDS: &[u8] = b"tape
-fill 15 36
-fill 12 36
-fill 21 140
-fill 00 8
-fill 51 32
-x a0
-fill 52 32
-x 0b
-fill 53 32
-x c0
-fill 54 32
-x 0d
-fill 31 36
-end
-";
-
-/// The words over which the silent script shows the same to all servers but the first: its vectors are replaced, and
-/// its seeds stay.
-pub const SEEDED_HIDING_1: &[u8] = b"tape
-fill 31 13
-x 335958
-fill 31 20
-fill 12 36
-fill 21 140
-fill 00 8
-fill 51 32
-x 82
-fill 52 32
-x 0b
-fill 53 32
-x e2
-fill 54 32
-x 0d
-fill 15 36
-end
-";
-
-/// A server, and inputs of which all servers but that one see the same.
-pub const ALIKE: [(u32, Input, Input); 4] = [
-    (1, (SPEAKING, WORDS), (SILENT, HIDING_1)),
-    (2, (SPEAKING, WORDS), (SILENT, HIDING_2)),
-    (3, (SPEAKING, WORDS), (SILENT, HIDING_3)),
-    (
-        1,
-        (SEEDED_SPEAKING, SEEDED_WORDS),
-        (SEEDED_SILENT, SEEDED_HIDING_1),
-    ),
+/// How many servers there are, the one that sees both scripts, and the vectors with which all others see the same: where
+/// the client speaks, and where it is silent. They are the same in either format, where they come with seeds.
+pub const ALIKE: [(u32, u32, &str, &str); 5] = [
+    (2, 1, "a0c0", "82e2"),
+    (2, 2, "a0c0", "a0c0"),
+    (3, 1, "a00bc00d", "820be20d"),
+    (3, 2, "a00bc00d", "a029c02f"),
+    (3, 3, "a00bc00d", "a00bc00d"),
 ];
 
-/// The script and the words that an input spells.
-pub fn read(alloc: Global, input: Input) -> Result<(Script, Tape), Fail>
+/// Two inputs of which all servers but one see the same.
+pub fn alike(format: u32, servers: u32, vectors: [&'static str; 2]) -> (Input, Input) {
+    let [speaking, silent] = vectors;
+    let input = |speaks, vectors| Input {
+        format,
+        servers,
+        speaks,
+        vectors,
+    };
+    (input(true, speaking), input(false, silent))
+}
+
+/// The first lines of a script of one turn.
+pub fn front(format: u32, servers: u32) -> &'static str {
+    match (format, servers) {
+        (1, 2) => "talek 1\nshape 2 8 4 4 24 64 1 0 2 1 1 1\n",
+        (1, _) => "talek 1\nshape 3 8 4 4 24 64 1 0 2 1 1 1\n",
+        (_, 2) => "talek 2\nshape 2 8 4 4 24 64 1 0 2 1 1 1\n",
+        _ => "talek 2\nshape 3 8 4 4 24 64 1 0 2 1 1 1\n",
+    }
+}
+
+/// What the first client says.
+pub const SAID: &str = "say 1 1 0 hi\n";
+
+/// The seeds of a read's vectors.
+const SEEDS: [&str; 4] = [
+    "fill 51 32\n",
+    "fill 52 32\n",
+    "fill 53 32\n",
+    "fill 54 32\n",
+];
+
+impl Input {
+    /// The texts of the script and of its tape.
+    pub fn text(&self, alloc: Global) -> Result<Vec<u8>, AllocError> {
+        let said = if self.speaks { SAID } else { "" };
+        let (write, key) = if self.speaks {
+            ("fill 15 36\n", "fill 31 36\n")
+        } else {
+            ("fill 31 13\nx 335958\nfill 31 20\n", "fill 15 36\n")
+        };
+        let mut text = joined(
+            alloc,
+            &[
+                front(self.format, self.servers),
+                "drawn\nlog 0 1\n",
+                said,
+                "end\ntape\n",
+                write,
+                "fill 12 36\n",
+                read_of_nothing(self.format, self.servers),
+                "fill 00 8\n",
+            ],
+        )?;
+        for (vector, seed) in self.vectors.as_bytes().chunks_exact(2).zip(SEEDS) {
+            if self.format == 2 {
+                text.extend_from_slice(seed.as_bytes())?;
+            }
+            for part in [b"x ", vector, b"\n"] {
+                text.extend_from_slice(part)?;
+            }
+        }
+        text.extend_from_slice(key.as_bytes())?;
+        text.extend_from_slice(b"end\n")?;
+        Ok(text)
+    }
+
+    pub fn read(&self, alloc: Global) -> Result<(Script, Tape), Fail>
+        ensures { IfOk result (λ both. length both.1 ≡ tape_len both.0.shape) }
+    {
+        read(alloc, &self.text(alloc)?)
+    }
+}
+
+/// The words of the first client's read, which is for nothing.
+fn read_of_nothing(format: u32, servers: u32) -> &'static str {
+    match (format, servers) {
+        (1, 2) => "fill 21 10\n",
+        (1, _) => "fill 21 12\n",
+        (_, 2) => "fill 21 74\n",
+        _ => "fill 21 140\n",
+    }
+}
+
+pub fn joined(alloc: Global, parts: &[&str]) -> Result<Vec<u8>, AllocError> {
+    let mut text = Vec::new(alloc);
+    for part in parts {
+        text.extend_from_slice(part.as_bytes())?;
+    }
+    Ok(text)
+}
+
+/// The script and the words that a text spells.
+pub fn read(alloc: Global, text: &[u8]) -> Result<(Script, Tape), Fail>
     ensures { IfOk result (λ both. length both.1 ≡ tape_len both.0.shape) }
 {
-    let (script, words) = input;
-    let mut text = Vec::new(alloc);
-    text.extend_from_slice(script)?;
-    text.extend_from_slice(words)?;
-    let input = parse(alloc, text.as_slice(), Form::Run)
-        .ok()
-        .ok_or("a script")?;
+    let input = parse(alloc, text, Form::Run).ok().ok_or("a script")?;
     let bytes = input.tape.ok_or("its words")?.bytes.into_vec();
     let shape = input.first.shape;
     let tape = Tape::from_bytes(&shape, bytes).ok().ok_or("its length")?;

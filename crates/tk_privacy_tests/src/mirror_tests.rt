@@ -1,4 +1,4 @@
-use crate::inputs::{ALIKE, Input, SEEDED_SILENT, SEEDED_WORDS, SILENT, SPEAKING, WORDS, read};
+use crate::inputs::{ALIKE, Input, alike, read};
 use std::alloc::Global;
 use std::test::Fail;
 use tk_privacy::{MirrorError, mirror};
@@ -6,15 +6,13 @@ use tk_schedule::History;
 use tk_shape::{Differs, Field};
 use tk_words::Tape;
 
-/// Three servers, over two phases.
+/// Three servers, over two phases, and words for them.
 const LONGER: &[u8] = b"talek 1
 shape 3 8 4 4 24 64 1 0 2 2 1 1
 drawn
 log 0 1
 end
-";
-
-const LONGER_WORDS: &[u8] = b"tape
+tape
 fill 11 264
 end
 ";
@@ -22,8 +20,8 @@ end
 /// What the mirror of two scripts is over the serial history, with the words of the first.
 fn mirrored(
     alloc: Global,
-    first: Input,
-    second: Input,
+    first: &[u8],
+    second: &[u8],
     hidden: u32,
 ) -> Result<Result<Tape, MirrorError>, Fail> {
     let (a, tape) = read(alloc, first)?;
@@ -33,18 +31,23 @@ fn mirrored(
 }
 
 /// Whether the mirror of two scripts has the words of the second.
-fn gives(alloc: Global, first: Input, second: Input, hidden: u32) -> Result<bool, Fail> {
-    let found = mirrored(alloc, first, second, hidden)?;
-    let (_script, there) = read(alloc, second)?;
+fn gives(alloc: Global, first: &Input, second: &Input, hidden: u32) -> Result<bool, Fail> {
+    let (first, second) = (first.text(alloc)?, second.text(alloc)?);
+    let found = mirrored(alloc, &first, &second, hidden)?;
+    let (_script, there) = read(alloc, &second)?;
     Ok(found.ok().ok_or("mirrored")?.as_bytes() == there.as_bytes())
 }
 
 #[test]
 fn mirrored_words(rt: HostRuntime) -> Result<(), Fail> {
     let alloc = rt.alloc();
-    for (hidden, speaking, silent) in ALIKE {
-        assert!(rt; gives(alloc, speaking, silent, hidden)?, "{hidden}");
-        assert!(rt; gives(alloc, silent, speaking, hidden)?, "{hidden} back");
+    for format in [1, 2] {
+        for (servers, hidden, speaking, silent) in ALIKE {
+            let (speaking, silent) = alike(format, servers, [speaking, silent]);
+            let there = gives(alloc, &speaking, &silent, hidden)?;
+            let back = gives(alloc, &silent, &speaking, hidden)?;
+            assert!(rt; there & back, "{format}, {servers}, {hidden}");
+        }
     }
     Ok(())
 }
@@ -62,23 +65,28 @@ fn mirrors_refused(rt: HostRuntime) -> Result<(), Fail> {
         a: 1,
         b: 2,
     });
+    let (speaking, silent) = alike(1, 3, ["a00bc00d", "820be20d"]);
+    let (_, seeded) = alike(2, 3, ["a00bc00d", "820be20d"]);
+    let first = speaking.text(alloc)?;
+    let silent = silent.text(alloc)?;
+    let seeded = seeded.text(alloc)?;
     for (second, hidden, error) in [
-        ((LONGER, LONGER_WORDS), 1, phases),
+        (LONGER, 1, phases),
         // the shapes come first
-        ((LONGER, LONGER_WORDS), 4, phases),
-        ((SEEDED_SILENT, SEEDED_WORDS), 1, formats),
+        (LONGER, 4, phases),
+        (seeded.as_slice(), 1, formats),
         (
-            (SILENT, WORDS),
+            silent.as_slice(),
             4,
             MirrorError::Hidden { got: 4, servers: 3 },
         ),
         (
-            (SILENT, WORDS),
+            silent.as_slice(),
             0,
             MirrorError::Hidden { got: 0, servers: 3 },
         ),
     ] {
-        let found = mirrored(alloc, (SPEAKING, WORDS), second, hidden)?;
+        let found = mirrored(alloc, &first, second, hidden)?;
         assert!(rt; found.err() == Some(error));
     }
     Ok(())
