@@ -1,203 +1,164 @@
-//! Scripts of one shape, the words that they are run over, and the replies of a server that makes a text up.
+//! Scripts of one shape in either format and for two servers or three, the words that they are run over, and the replies
+//! of a server that makes a text up.
 ghost use Rattle.std.specs.Prelude.{◌≡◌, ◌≤◌, length, IfOk, OnOk};
 ghost use Rattle.tk_shape.specs.Lengths.{tape_len};
 
-use std::alloc::Global;
+use std::alloc::{AllocError, Global};
 use std::test::Fail;
 use tk_hostile::Replies;
 use tk_script::{Form, Script, parse};
 use tk_shape::Shape;
 use tk_words::Tape;
 
-/// Two clients and three servers, and a text for the second client.
-pub const SPEAKING: &[u8] = b"talek 1
-shape 3 8 4 4 24 64 1 0 2 1 1 1
-drawn
-log 0 1
-say 1 1 0 hi
-end
-";
+/// A server, or none of them, that makes up a text.
+pub type Liar = Option<u32>;
 
-/// The same without a text.
-pub const SILENT: &[u8] = b"talek 1
-shape 3 8 4 4 24 64 1 0 2 1 1 1
-drawn
-log 0 1
-end
-";
-
-/// Words for them.
-pub const WORDS: &[u8] = b"tape
-fill 15 36
-fill 12 36
-fill 21 12
-x 0000000000000000a00bc00d
-fill 31 36
-end
-";
-
-/// The words over which the silent one shows the same to all servers but the first.
-pub const MIRRORED: &[u8] = b"tape
-fill 31 13
-x 335958
-fill 31 20
-fill 12 36
-fill 21 12
-x 0000000000000000820be20d
-fill 15 36
-end
-";
-
-/// The same over two turns.
-pub const SPEAKING_TWICE: &[u8] = b"talek 1
-shape 3 8 4 4 24 64 1 0 2 2 1 1
-drawn
-log 0 1
-say 1 1 0 hi
-end
-";
-
-pub const SILENT_TWICE: &[u8] = b"talek 1
-shape 3 8 4 4 24 64 1 0 2 2 1 1
-drawn
-log 0 1
-end
-";
-
-/// Words for them, in which the two numbers of the log have buckets of their own.
-pub const TWO_TURNS: &[u8] = b"tape
-fill 15 144
-fill 21 12
-x 0000000000000000a00bc00d
-fill 21 12
-x 0000000000000000a00bc00d
-fill 31 36
-fill 32 36
-end
-";
-
-/// The words over which the speaking one shows what the silent one shows to all servers but the first, where
-/// the second gives the first number of the log at once, and where it doesn't.
-pub const TWO_TURNS_MIRRORED: [&[u8]; 2] = [
-    b"tape
-fill 31 36
-fill 15 108
-fill 21 12
-x 0000000000000000820be20d
-fill 21 12
-x 0000000000000000840be40d
-fill 15 13
-x 177d7c
-fill 15 20
-fill 32 36
-end
-",
-    b"tape
-fill 31 36
-fill 15 108
-fill 21 12
-x 0000000000000000820be20d
-fill 21 12
-x 0000000000000000820be20d
-fill 15 13
-x 177d7c
-fill 15 20
-fill 32 36
-end
-",
+/// How many servers there are, the hidden one, and the vectors with which the speaking script shows all others what the
+/// silent one shows: those of the first turn, and those of the second where a text was made up by a server that isn't
+/// hidden. Without it they are those of the first. They are the same in either format, where they come with seeds.
+pub const HIDDEN: [(u32, u32, &str, &str); 5] = [
+    (2, 1, "82e2", "84e4"),
+    (2, 2, "a0c0", "a0c0"),
+    (3, 1, "820be20d", "840be40d"),
+    (3, 2, "a029c02f", "a02fc029"),
+    (3, 3, "a00bc00d", "a00bc00d"),
 ];
 
-/// The same in format 2, where each vector of a read comes with a seed.
-pub const SEEDED_TWICE: [&[u8]; 2] = [
-    b"talek 2
-shape 3 8 4 4 24 64 1 0 2 2 1 1
-drawn
-log 0 1
-end
-",
-    b"talek 2
-shape 3 8 4 4 24 64 1 0 2 2 1 1
-drawn
-log 0 1
-say 1 1 0 hi
-end
-",
+/// The server of that number, none for 0; and whether its replies are used where this one is hidden.
+pub fn liar_of(number: u32, hidden: u32) -> (Liar, bool) {
+    if number == 0 {
+        (None, false)
+    } else {
+        (Some(number), number != hidden)
+    }
+}
+
+/// Two clients, of whom the second follows the first, over two turns, and drawn words, in which the two numbers of the log
+/// have buckets of their own.
+#[derive(Clone, Copy)]
+pub struct Input {
+    pub format: u32,
+    pub servers: u32,
+    /// Whether the first client says something; over these words servers are shown the same either way.
+    pub speaks: bool,
+    /// The vectors that are drawn for the second client's reads, in digits.
+    pub vectors: [&'static str; 2],
+}
+
+/// The seeds of a read's vectors.
+const SEEDS: [&str; 4] = [
+    "fill 51 32\n",
+    "fill 52 32\n",
+    "fill 53 32\n",
+    "fill 54 32\n",
 ];
 
-pub const SEEDED_TURNS: [&[u8]; 2] = [
-    b"tape
-fill 15 144
-fill 21 140
-fill 00 8
-fill 51 32
-x a0
-fill 52 32
-x 0b
-fill 53 32
-x c0
-fill 54 32
-x 0d
-fill 21 140
-fill 00 8
-fill 51 32
-x a0
-fill 52 32
-x 0b
-fill 53 32
-x c0
-fill 54 32
-x 0d
-fill 31 36
-fill 32 36
-end
-",
-    b"tape
-fill 31 36
-fill 15 108
-fill 21 140
-fill 00 8
-fill 51 32
-x 82
-fill 52 32
-x 0b
-fill 53 32
-x e2
-fill 54 32
-x 0d
-fill 21 140
-fill 00 8
-fill 51 32
-x 84
-fill 52 32
-x 0b
-fill 53 32
-x e4
-fill 54 32
-x 0d
-fill 15 13
-x 177d7c
-fill 15 20
-fill 32 36
-end
-",
-];
+impl Input {
+    /// That of the script in which nobody speaks.
+    pub fn silent(format: u32, servers: u32) -> Input {
+        let vectors = if servers == 2 { "a0c0" } else { "a00bc00d" };
+        Input {
+            format,
+            servers,
+            speaks: false,
+            vectors: [vectors, vectors],
+        }
+    }
+
+    /// That of the script in which one speaks, with these vectors.
+    pub fn speaking(format: u32, servers: u32, vectors: [&'static str; 2]) -> Input {
+        Input {
+            format,
+            servers,
+            speaks: true,
+            vectors,
+        }
+    }
+
+    /// The script and the words.
+    pub fn read(&self, alloc: Global) -> Result<(Script, Tape), Fail>
+        ensures { IfOk result (λ both. length both.1 ≡ tape_len both.0.shape) }
+    {
+        read(alloc, &self.text(alloc)?)
+    }
+
+    /// The texts of both.
+    fn text(&self, alloc: Global) -> Result<Vec<u8>, AllocError> {
+        let mut text = Vec::new(alloc);
+        push(&mut text, front(self.format, self.servers))?;
+        if self.speaks {
+            push(
+                &mut text,
+                "say 1 1 0 hi\nend\ntape\nfill 31 36\nfill 15 108\n",
+            )?;
+        } else {
+            push(&mut text, "end\ntape\nfill 15 144\n")?;
+        }
+        let [first, second] = self.vectors;
+        self.push_reads(&mut text, first)?;
+        self.push_reads(&mut text, second)?;
+        if self.speaks {
+            push(
+                &mut text,
+                "fill 15 13\nx 177d7c\nfill 15 20\nfill 32 36\nend\n",
+            )?;
+        } else {
+            push(&mut text, "fill 31 36\nfill 32 36\nend\n")?;
+        }
+        Ok(text)
+    }
+
+    /// The words of the reads of a turn: of the first client's, which is for nothing, and of the second's.
+    fn push_reads(&self, text: &mut Vec<u8>, vectors: &str) -> Result<(), AllocError> {
+        push(text, read_of_nothing(self.format, self.servers))?;
+        push(text, "fill 00 8\n")?;
+        for (vector, seed) in vectors.as_bytes().chunks_exact(2).zip(SEEDS) {
+            if self.format == 2 {
+                push(text, seed)?;
+            }
+            for part in [b"x ", vector, b"\n"] {
+                text.extend_from_slice(part)?;
+            }
+        }
+        Ok(())
+    }
+}
+
+fn push(text: &mut Vec<u8>, part: &str) -> Result<(), AllocError> {
+    text.extend_from_slice(part.as_bytes())
+}
+
+/// The first lines of a script.
+fn front(format: u32, servers: u32) -> &'static str {
+    match (format, servers) {
+        (1, 2) => "talek 1\nshape 2 8 4 4 24 64 1 0 2 2 1 1\ndrawn\nlog 0 1\n",
+        (1, _) => "talek 1\nshape 3 8 4 4 24 64 1 0 2 2 1 1\ndrawn\nlog 0 1\n",
+        (_, 2) => "talek 2\nshape 2 8 4 4 24 64 1 0 2 2 1 1\ndrawn\nlog 0 1\n",
+        _ => "talek 2\nshape 3 8 4 4 24 64 1 0 2 2 1 1\ndrawn\nlog 0 1\n",
+    }
+}
+
+/// The words of a read that is for nothing.
+fn read_of_nothing(format: u32, servers: u32) -> &'static str {
+    match (format, servers) {
+        (1, 2) => "fill 21 10\n",
+        (1, _) => "fill 21 12\n",
+        (_, 2) => "fill 21 74\n",
+        _ => "fill 21 140\n",
+    }
+}
 
 /// A slot that opens to `hi` as the first number of the log, in its buckets by the words above.
-pub const SLOT: &[u8] = &[
+const SLOT: &[u8] = &[
     0, 0, 0, 0, 0, 0, 0, 9, 0, 0, 0, 1, 0, 0, 0, 1, 0x31, 0x33, 0x59, 0x58, 0x31, 0x31, 0x31, 0x31,
     0x31, 0x31, 0x31, 0x31, 0x31, 0x31, 0x31, 0x31, 0x31, 0x31, 0x31, 0x31, 0x31, 0x31, 0x31, 0x31,
 ];
 
-/// The script and the words that these sections spell.
-pub fn read(alloc: Global, script: &[u8], words: &[u8]) -> Result<(Script, Tape), Fail>
+/// The script and the words that a text spells.
+pub fn read(alloc: Global, text: &[u8]) -> Result<(Script, Tape), Fail>
     ensures { IfOk result (λ both. length both.1 ≡ tape_len both.0.shape) }
 {
-    let mut text = Vec::new(alloc);
-    text.extend_from_slice(script)?;
-    text.extend_from_slice(words)?;
-    let input = parse(alloc, text.as_slice(), Form::Run)
-        .ok()
-        .ok_or("a script")?;
+    let input = parse(alloc, text, Form::Run).ok().ok_or("a script")?;
     let bytes = input.tape.ok_or("its words")?.bytes.into_vec();
     let shape = input.first.shape;
     let tape = Tape::from_bytes(&shape, bytes).ok().ok_or("its length")?;
@@ -206,11 +167,11 @@ pub fn read(alloc: Global, script: &[u8], words: &[u8]) -> Result<(Script, Tape)
 
 /// Replies of which none are set, or of which this server gives that slot in the first bucket of the
 /// follower's first read.
-pub fn replies_of(alloc: Global, shape: &Shape, server: Option<u32>) -> Result<Replies, Fail>
+pub fn replies_of(alloc: Global, shape: &Shape, liar: Liar) -> Result<Replies, Fail>
     ensures { IfOk result (λ replies. replies.shape ≡ shape.now) }
 {
     let mut replies = Replies::new(alloc, shape)?;
-    let Some(server) = server else {
+    let Some(server) = liar else {
         return Ok(replies);
     };
     let width = shape.width() as usize;
