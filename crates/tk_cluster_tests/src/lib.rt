@@ -4,6 +4,8 @@
 #[cfg(test)]
 mod hold_tests;
 #[cfg(test)]
+mod kind_tests;
+#[cfg(test)]
 mod set_tests;
 #[cfg(test)]
 mod testing;

@@ -1,5 +1,5 @@
 //! What the tests share: a small shape, frames of clients, and a cluster to call.
-ghost use Rattle.std.specs.Prelude.{◌≡◌, ◌+◌, IfSome, IfOk};
+ghost use Rattle.std.specs.Prelude.{◌≡◌, ◌+◌, ◌≤◌, IfSome, IfOk};
 ghost use Rattle.tk_cluster.specs.Clusters.{Opened};
 ghost use Rattle.tk_cluster.specs.Passes.{Stays};
 
@@ -16,8 +16,17 @@ use tk_shape::{Bytes, Memory, Shape, Words};
 pub(crate) fn blank(alloc: Global, phases: u32) -> Option<Blank>
     ensures { IfSome result (λ b. b.seats ≡ b.shape.clients + 1) }
 {
+    blank_of(alloc, 1, phases)
+}
+
+/// The same in a format.
+pub(crate) fn blank_of(alloc: Global, format: u32, phases: u32) -> Option<Blank>
+    requires low { 1 ≤ format }
+    requires high { format ≤ 2 }
+    ensures { IfSome result (λ b. b.seats ≡ b.shape.clients + 1) }
+{
     let numbers = [2, 8, 4, 4, 24, 64, 1, 0, 2, phases, 1, 1];
-    let Ok(shape) = Shape::new(numbers) else {
+    let Ok(shape) = Shape::of(format, numbers) else {
         return None;
     };
     let Ok(blank) = Blank::new(alloc, &shape, shape.clients + 1) else {
