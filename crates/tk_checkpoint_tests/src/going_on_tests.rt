@@ -1,9 +1,12 @@
 //! States that go on from a checkpoint as ones that never stopped.
-use crate::testing::{FULL, SMALL, TIGHT, apply_turn, open, saved, shape};
+use crate::testing::{
+    FULL, SMALL, TIGHT, after_one_turn, apply_next, apply_turn, open, saved, shape,
+};
 use std::alloc::Global;
 use std::test::Fail;
+use tk_answer::Blocks;
 use tk_checkpoint::restore;
-use tk_replica::PinError;
+use tk_replica::{Epoch, PinError};
 use tk_shape::Shape;
 
 /// The checkpoint after these turns of a state that goes on from another checkpoint.
@@ -72,15 +75,40 @@ fn a_table_with_room_goes_on_from_each_mark(rt: HostRuntime) -> Result<(), Fail>
     Ok(())
 }
 
+/// The bytes of all buckets.
+fn bytes_of(epoch: &Epoch) -> &[u8] {
+    let blocks = epoch.blocks();
+    if blocks.count() == 0 {
+        &[]
+    } else {
+        blocks.run(0)
+    }
+}
+
+/// Whether two epochs have the same number, blocks and filter.
+fn are_same(a: &Epoch, b: &Epoch) -> bool {
+    let numbers = (a.number(), a.upto()) == (b.number(), b.upto());
+    let bits = (0..64).all(|bit| a.filter().shows(&[bit]) == b.filter().shows(&[bit]));
+    numbers && bits && bytes_of(a) == bytes_of(b)
+}
+
+/// Behind the checkpoint of the first turn of a run the second one is as if it had never been written, and what was before
+/// it is let go.
 #[test]
-fn epochs_before_a_checkpoint_are_retired(rt: HostRuntime) -> Result<(), Fail> {
+fn second_turn_behind_a_checkpoint(rt: HostRuntime) -> Result<(), Fail> {
     let alloc = rt.alloc();
     let small = shape(1, SMALL)?;
-    let bytes = gone_through(alloc, &small, 1)?;
-    let mut state = restore(alloc, &small, bytes.as_slice())
-        .ok()
-        .ok_or("restore")?;
-    apply_turn(alloc, &mut state, 1)?;
+    let mut whole = after_one_turn(alloc)?;
+    let bytes = saved(alloc, &whole)?;
+    let mut state = restore(alloc, &small, &bytes).ok().ok_or("restore")?;
+    apply_next(alloc, &mut whole, 3)?;
+    apply_next(alloc, &mut state, 3)?;
+    let wanted = whole.pin(2).ok().ok_or("never stopped")?;
+    let found = state.pin(2).ok().ok_or("gone on")?;
+    assert!(rt; are_same(&wanted, &found));
+    // the dummies of the second turn have hits 19 and 20
+    let filter = found.filter();
+    assert!(rt; (found.upto(), filter.shows(&[19]), filter.shows(&[20])) == (6, true, true));
     assert!(rt; state.pin(0).err() == Some(PinError::Retired { floor: 1 }));
     Ok(())
 }

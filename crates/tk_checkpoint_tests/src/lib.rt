@@ -7,6 +7,8 @@ mod byte_tests;
 #[cfg(test)]
 mod going_on_tests;
 #[cfg(test)]
+mod one_text;
+#[cfg(test)]
 mod refusal_tests;
 #[cfg(test)]
 mod testing;

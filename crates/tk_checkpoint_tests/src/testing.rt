@@ -3,6 +3,7 @@ ghost use Rattle.std.specs.Prelude.{◌≡◌, ◌+◌, true};
 ghost use Rattle.tk_frames.specs.InOrder.{IsNextAt};
 ghost use Rattle.tk_frames.specs.Ranges.{IsPlaced};
 
+use crate::one_text::entries;
 use std::alloc::Global;
 use std::test::Fail;
 use tk_checkpoint::{RestoreError, checkpoint, restore};
@@ -28,7 +29,7 @@ pub(crate) fn shape(format: u32, numbers: [u32; 12]) -> Result<Shape, Fail> {
 }
 
 /// A write of a client in a turn to a bucket twice, whose hits and block are these numbers.
-pub(crate) fn write(
+fn write(
     alloc: Global,
     shape: &Shape,
     client: u32,
@@ -62,7 +63,7 @@ fn is_next(state: &ReplicaState, placed: &Placed) -> bool
 }
 
 /// Applies the next entry, as its bytes give it.
-pub(crate) fn apply(alloc: Global, state: &mut ReplicaState, entry: Entry) -> Result<(), Fail> {
+fn apply(alloc: Global, state: &mut ReplicaState, entry: Entry) -> Result<(), Fail> {
     let placed = Placed {
         position: state.applied().saturating_add(1),
         entry,
@@ -92,7 +93,7 @@ fn buckets_of(shape: &Shape, turn: u32) -> (u32, u32) {
     }
 }
 
-/// Applies the two writes of a turn, in turn 0 with hits 49 and 18, and the mark that ends it.
+/// Applies the two writes of a turn, which have their own hits, and the mark that ends it.
 pub(crate) fn apply_turn(alloc: Global, state: &mut ReplicaState, turn: u32) -> Result<(), Fail> {
     let shape = *state.shape();
     let later = (turn & 7) as u8;
@@ -110,10 +111,24 @@ pub(crate) fn apply_turn(alloc: Global, state: &mut ReplicaState, turn: u32) -> 
     apply(alloc, state, Entry::Mark(turn.saturating_add(1)))
 }
 
-/// The state of a small shape after its first turn.
+/// Applies the next so many entries of the run of one text.
+pub(crate) fn apply_next(alloc: Global, state: &mut ReplicaState, count: u64) -> Result<(), Fail> {
+    let shape = *state.shape();
+    let start = state.applied();
+    let mut position = 0u64;
+    for entry in entries(alloc, &shape)? {
+        if start <= position && position - start < count {
+            apply(alloc, state, entry)?;
+        }
+        position = position.saturating_add(1);
+    }
+    Ok(())
+}
+
+/// The state of a small shape after the first turn of that run.
 pub(crate) fn after_one_turn(alloc: Global) -> Result<ReplicaState, Fail> {
     let mut state = open(alloc, &shape(1, SMALL)?)?;
-    apply_turn(alloc, &mut state, 0)?;
+    apply_next(alloc, &mut state, 3)?;
     Ok(state)
 }
 

@@ -1,5 +1,5 @@
 //! What is written of a state, and when.
-use crate::testing::{SMALL, after_one_turn, apply, open, saved, shape, write};
+use crate::testing::{SMALL, after_one_turn, apply_next, open, saved, shape};
 use std::test::Fail;
 use tk_checkpoint::{
     CheckpointError, checkpoint, saved_is_sound, saved_reads_back, written_at_marks,
@@ -45,12 +45,31 @@ fn behind_a_mark_the_window_is_written(rt: HostRuntime) -> Result<(), Fail> {
     Ok(())
 }
 
+/// The buckets after the first turn: of one slot each has a position, its two buckets, and a block, which for the text has
+/// these bytes in front.
+fn buckets() -> [u8; 1280] {
+    let mut bytes = [0; 1280];
+    (bytes[167], bytes[171], bytes[175]) = (1, 1, 1);
+    bytes[176..200].fill(0x31);
+    bytes[176..180].copy_from_slice(&[0x31, 0x33, 0x59, 0x58]);
+    (bytes[327], bytes[331], bytes[335]) = (2, 2, 2);
+    bytes[336..360].fill(0x12);
+    bytes
+}
+
+#[test]
+fn behind_a_mark_the_buckets_are_written(rt: HostRuntime) -> Result<(), Fail> {
+    let alloc = rt.alloc();
+    let bytes = saved(alloc, &after_one_turn(alloc)?)?;
+    assert!(rt; bytes.as_slice().ends_with(&buckets()));
+    Ok(())
+}
+
 #[test]
 fn behind_a_write_nothing_is_written(rt: HostRuntime) -> Result<(), Fail> {
     let alloc = rt.alloc();
     let mut state = after_one_turn(alloc)?;
-    let small = *state.shape();
-    apply(alloc, &mut state, write(alloc, &small, 0, 1, 1, 49)?)?;
+    apply_next(alloc, &mut state, 1)?;
     let mut bytes = vec![in alloc; 7u8; 3]?;
     let refused = CheckpointError::NotAtMark {
         applied: 4,
