@@ -1,5 +1,6 @@
 //! The frames of relayed reads, and what is refused of them.
 use crate::reads::{bundled, pads_of, shape_of};
+use crate::serving::mix;
 use std::alloc::Global;
 use std::test::Fail;
 use tk_frames::{FrameError, Name};
@@ -9,24 +10,32 @@ use tk_relay::{
 };
 use tk_shape::{Bytes, Shape};
 
-/// The vectors of a read of bucket 3 twice and those of bucket 5 twice, drawn alike, and the request pads with which the
-/// bundle of either is the same.
-const ALIKE: [([[u8; 2]; 2], [u8; 2]); 2] = [
-    ([[0x21, 0x22], [0x29, 0x2a]], [0x50, 0x51]),
-    ([[0x21, 0x22], [0x01, 0x02]], [0x78, 0x79]),
-];
+/// The vectors of a read of bucket 3 twice, and those of a read of bucket 5 twice, drawn alike.
+const ALIKE: [[[u8; 2]; 2]; 2] = [[[0x21, 0x22], [0x29, 0x2a]], [[0x21, 0x22], [0x01, 0x02]]];
 
-/// That bundle.
+/// The bundle of the first read with the request pads 50 and 51, and of the second with what those become.
 const BUNDLE: [u8; 18] = [
     8, 1, 0, 0, 0, 0, 0, 0, 0, 0, 0, 0, 0, 0, 0x21, 0x22, 0x79, 0x7b,
 ];
 
+/// The request pads with which the second read's bundle is that of the first with these: the bit of the old bucket and that
+/// of the new one are turned over in each.
+fn moved(pads: [u8; 2]) -> [u8; 2] {
+    let mut moved = pads;
+    mix(&mut moved, &[1 << 3; 2]);
+    mix(&mut moved, &[1 << 5; 2]);
+    moved
+}
+
 #[test]
 fn a_bundle_hides_the_buckets(rt: HostRuntime) -> Result<(), Fail> {
     let alloc = rt.alloc();
+    let pads = [0x50, 0x51];
+    assert!(rt; moved(pads) == [0x78, 0x79] && moved(moved(pads)) == pads);
+    let [first, second] = ALIKE;
     for format in [1, 2] {
         let shape = shape_of(format, 2, 8).ok_or("shape")?;
-        for (vectors, front) in ALIKE {
+        for (vectors, front) in [(first, pads), (second, moved(pads))] {
             let pads = pads_of(alloc, &shape, &front, 0).ok_or("pads")?;
             let bundle = bundled(alloc, &shape, 0, &vectors, &pads).ok_or("bundle")?;
             assert!(rt; bundle.as_slice() == BUNDLE.as_slice(), "{format}");
@@ -141,16 +150,16 @@ fn wrong_heads_are_refused(rt: HostRuntime) -> Result<(), Fail> {
 fn part_of(alloc: Global, size: usize) -> Option<Part> {
     Some(Part {
         client: 1,
-        turn: 3,
+        turn: 1,
         epoch: 2,
         first: Bytes::from_vec(vec![in alloc; 6u8; size].ok()?),
         second: Bytes::from_vec(vec![in alloc; 7u8; size].ok()?),
     })
 }
 
-/// What a frame of a part, or of a reply to one, begins with, of client 1's read in turn 3 over epoch 2.
+/// What a frame of a part, or of a reply to one, begins with, of client 1's read in turn 1 over epoch 2.
 fn head_of(kind: u8) -> [u8; 14] {
-    [kind, 1, 0, 0, 0, 1, 0, 0, 0, 3, 0, 0, 0, 2]
+    [kind, 1, 0, 0, 0, 1, 0, 0, 0, 1, 0, 0, 0, 2]
 }
 
 fn are_same(a: &Part, b: &Part) -> bool {

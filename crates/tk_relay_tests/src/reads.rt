@@ -9,12 +9,12 @@ use tk_frames::{ReadFrame, Seeds};
 use tk_relay::{GatherError, Pads, Part, bundle, gather, replies_for};
 use tk_shape::{Bytes, Memory, Shape};
 
-/// So many servers and buckets of four slots, and two clients in four phases of a tick, in a format.
+/// So many servers and buckets of four slots, and two clients in two phases of a tick, in a format.
 pub(crate) fn shape_of(format: u32, servers: u32, buckets: u32) -> Option<Shape> {
     if format < 1 || format > 2 {
         return None;
     }
-    Shape::of(format, [servers, buckets, 4, 4, 24, 64, 1, 0, 2, 4, 1, 1]).ok()
+    Shape::of(format, [servers, buckets, 4, 4, 24, 64, 1, 0, 2, 2, 1, 1]).ok()
 }
 
 /// The frames of a read of client 0 in turn 0: each server's two vectors have one byte over and over. Nothing where there
