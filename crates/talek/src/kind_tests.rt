@@ -1,5 +1,5 @@
-//! Each form of the words over each kind of input that it takes: words that are drawn and words of keys, either format, two
-//! servers and three. That memory ran out is said by no contract to be wrong, so that only a run shows what is done.
+//! Each form of the words over each kind of input that it takes: words that are drawn and words of keys, either format,
+//! two servers and three. That memory ran out is said by no contract to be wrong, so that only a run shows what is done.
 ghost use Rattle.std.specs.Prelude.{◌≡◌};
 
 use crate::testing::{REPORT, joined, retold, tried};
@@ -216,15 +216,20 @@ fn digits(alloc: Global, bytes: &[u8]) -> Result<String, Fail> {
 
 /// Whether a text is the report for the history that it tells, of the run of an input.
 fn is_retold(alloc: Global, input: &[u8], text: &[u8]) -> Result<bool, Fail> {
-    let input = parse(alloc, input, Form::Run).ok().ok_or("an input")?;
-    let Input {
-        first: script,
-        tape,
-        ..
-    } = input;
-    let told = match script.book(alloc, tape).ok().ok_or("a book")? {
-        Book::Drawn(draws) => retold(alloc, &script, &draws, text)?,
-        Book::Keyed(draws) => retold(alloc, &script, &draws, text)?,
+    let Ok(
+        Input {
+            first: script,
+            tape,
+            ..
+        },
+    ) = parse(alloc, input, Form::Run)
+    else {
+        return Err("an input".into());
+    };
+    let told = match script.book(alloc, tape) {
+        Ok(Book::Drawn(draws)) => retold(alloc, &script, &draws, text)?,
+        Ok(Book::Keyed(draws)) => retold(alloc, &script, &draws, text)?,
+        Err(_) => return Err("a book".into()),
     };
     Ok(told.as_slice() == text)
 }

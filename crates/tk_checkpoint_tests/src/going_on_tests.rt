@@ -92,8 +92,8 @@ fn are_same(a: &Epoch, b: &Epoch) -> bool {
     numbers && bits && bytes_of(a) == bytes_of(b)
 }
 
-/// Behind the checkpoint of the first turn of a run the second one is as if it had never been written, and what was before
-/// it is let go.
+/// Behind the checkpoint of the first turn of a run the second one is as if it had never been written, and what was
+/// before it is let go.
 #[test]
 fn second_turn_behind_a_checkpoint(rt: HostRuntime) -> Result<(), Fail> {
     let alloc = rt.alloc();

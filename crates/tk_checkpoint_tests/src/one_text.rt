@@ -1,5 +1,5 @@
-//! The entries of a run of two clients over two turns, in which the first says `hi` in the first turn, as a tape of drawn
-//! words makes them.
+//! The entries of a run of two clients over two turns, in which the first says `hi` in the first turn, as a tape of
+//! drawn words makes them.
 ghost use Rattle.std.specs.Prelude.{◌≡◌, IfOk};
 
 use std::alloc::Global;

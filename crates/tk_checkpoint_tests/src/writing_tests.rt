@@ -45,8 +45,8 @@ fn behind_a_mark_the_window_is_written(rt: HostRuntime) -> Result<(), Fail> {
     Ok(())
 }
 
-/// The buckets after the first turn: of one slot each has a position, its two buckets, and a block, which for the text has
-/// these bytes in front.
+/// The buckets after the first turn: two have a slot with a position, its two buckets and a block, which for the text
+/// has these bytes in front.
 fn buckets() -> [u8; 1280] {
     let mut bytes = [0; 1280];
     (bytes[167], bytes[171], bytes[175]) = (1, 1, 1);

@@ -12,8 +12,8 @@ use tk_cluster::{EpochSet, Pass, Publisher};
 use tk_order::{Blank, Naming};
 use tk_shape::Bytes;
 
-/// The kind of a read, and what comes after its asker: a vector with bucket 2 and then one with an empty bucket alone, as
-/// they are, by the seeds that expand to them, and after other seeds.
+/// The kind of a read, and what comes after its asker: a vector with bucket 2 and then one with an empty bucket alone,
+/// as they are, by the seeds that expand to them, and after other seeds.
 const READS: [(u8, &[&[u8]]); 3] = [
     (2, &[b"\x76\x08"]),
     (6, &[&[0; 32], &[0x2b; 32]]),

@@ -1,5 +1,5 @@
-//! Scripts of one shape in either format and for two servers or three, the words that they are run over, and the replies
-//! of a server that makes a text up.
+//! Scripts of one shape in either format and for two servers or three, the words that they are run over, and the
+//! replies of a server that makes a text up.
 ghost use Rattle.std.specs.Prelude.{◌≡◌, ◌≤◌, length, IfOk, OnOk};
 ghost use Rattle.tk_shape.specs.Lengths.{tape_len};
 
@@ -33,8 +33,8 @@ pub fn liar_of(number: u32, hidden: u32) -> (Liar, bool) {
     }
 }
 
-/// Two clients, of whom the second follows the first, over two turns, and drawn words, in which the two numbers of the log
-/// have buckets of their own.
+/// Two clients, of whom the second follows the first, over two turns, and drawn words, in which the two numbers of the
+/// log have buckets of their own.
 #[derive(Clone, Copy)]
 pub struct Input {
     pub format: u32,

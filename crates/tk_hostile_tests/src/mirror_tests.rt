@@ -4,8 +4,8 @@ use std::test::Fail;
 use tk_hostile::wrong_mirror;
 use tk_schedule::History;
 
-/// Whether the mirror of the first script's words, where this server is hidden and that one makes a text up, are those of
-/// the second.
+/// Whether the mirror of the first script's words, where this server is hidden and that one makes a text up, are those
+/// of the second.
 fn mirrors_to(
     alloc: Global,
     first: &Input,

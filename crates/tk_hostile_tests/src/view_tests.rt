@@ -56,8 +56,8 @@ fn last_vectors(servers: u32) -> [[u8; 2]; 2] {
     }
 }
 
-// the last server sees the follower ask for the second number at last, where it was given the first, and honest ones for
-// the first
+// the last server sees the follower ask for the second number at last, where it was given the first, and honest ones
+// for the first
 #[test]
 fn later_read_changed(rt: HostRuntime) -> Result<(), Fail> {
     let alloc = rt.alloc();

@@ -1,4 +1,4 @@
-//! Scripts of one shape in either format and for two servers or three, and words over which servers see the same of both.
+//! Scripts of one shape in either format, for two servers or three, and words over which servers see the same of both.
 ghost use Rattle.std.specs.Prelude.{◌≡◌, length, IfOk};
 ghost use Rattle.tk_shape.specs.Lengths.{tape_len};
 
@@ -18,8 +18,8 @@ pub struct Input {
     pub vectors: &'static str,
 }
 
-/// How many servers there are, the one that sees both scripts, and the vectors with which all others see the same: where
-/// the client speaks, and where it is silent. They are the same in either format, where they come with seeds.
+/// How many servers there are, the hidden one, and the vectors with which all others see the same: where the client
+/// speaks, and where it is silent. They are the same in either format; in format 2 they come with seeds.
 pub const ALIKE: [(u32, u32, &str, &str); 5] = [
     (2, 1, "a0c0", "82e2"),
     (2, 2, "a0c0", "a0c0"),

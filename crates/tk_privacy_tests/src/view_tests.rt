@@ -55,8 +55,8 @@ const SEEN: [&str; 2] = [
 ",
 ];
 
-/// The entries of a turn in which the first of two clients speaks, where words are drawn and where they come of keys: two
-/// records and a mark.
+/// The entries of a turn in which the first of two clients speaks, where words are drawn and where they come of keys:
+/// two records and a mark.
 const ENTRIES: [&str; 2] = [
     "050100000000000000010000000000000000000000010000000100000031313359583131313131313131313131313131313131313131
 050100000000000000020000000100000000000000020000000200000012121212121212121212121212121212121212121212121212
@@ -198,14 +198,20 @@ const KEYED: [(u32, u32, [&str; 3]); 4] = [
 
 /// The frames that a server sees over the serial history, a line of hexadecimal digits each.
 fn seen(alloc: Global, text: &[u8], server: u32) -> Result<Vec<u8>, Fail> {
-    let Input {
-        first: script,
-        tape,
-        ..
-    } = parse(alloc, text, Form::Run).ok().ok_or("an input")?;
-    match script.book(alloc, tape).ok().ok_or("a book")? {
-        Book::Drawn(draws) => seen_over(alloc, &script, &draws, server),
-        Book::Keyed(draws) => seen_over(alloc, &script, &draws, server),
+    let Ok(
+        Input {
+            first: script,
+            tape,
+            ..
+        },
+    ) = parse(alloc, text, Form::Run)
+    else {
+        return Err("an input".into());
+    };
+    match script.book(alloc, tape) {
+        Ok(Book::Drawn(draws)) => seen_over(alloc, &script, &draws, server),
+        Ok(Book::Keyed(draws)) => seen_over(alloc, &script, &draws, server),
+        Err(_) => Err("a book".into()),
     }
 }
 

@@ -18,8 +18,8 @@ const BUNDLE: [u8; 18] = [
     8, 1, 0, 0, 0, 0, 0, 0, 0, 0, 0, 0, 0, 0, 0x21, 0x22, 0x79, 0x7b,
 ];
 
-/// The request pads with which the second read's bundle is that of the first with these: the bit of the old bucket and that
-/// of the new one are turned over in each.
+/// The request pads with which the second read's bundle is that of the first with these: the bit of the old bucket and
+/// that of the new one are turned over in each.
 fn moved(pads: [u8; 2]) -> [u8; 2] {
     let mut moved = pads;
     mix(&mut moved, &[1 << 3; 2]);
