@@ -46,3 +46,7 @@ pub mod SendingsLaws
 pub mod PairLaws
 pub mod examples
 pub mod LiftedLaws
+pub mod JoiningLaws
+pub mod SoundReads
+pub mod ServingLaws
+pub mod AnewLaws

@@ -9,6 +9,8 @@ pub use Rattle.tk_report.proofs.WrittenLaws.{write_at-client, write_at-turn, tur
 pub use Rattle.tk_report.proofs.WrittenLaws.{entries-placed}
 pub use Rattle.tk_report.proofs.WrittenLaws.{pair-low, each-is_written, before-front}
 pub use Rattle.tk_report.proofs.WrittenLaws.{epochs-ordered}
+pub use Rattle.tk_report.proofs.RecordLaws.{ordered-front}
+pub use Rattle.tk_report.proofs.EachLaws.{each-front}
 pub use Rattle.tk_report.proofs.MarkedLaws.{entries-agree, turn_entries-agree, before-standing}
 pub use Rattle.tk_report.proofs.MarkedLaws.{before-made, before-over, before-agree, phases-marked}
 pub use Rattle.tk_report.proofs.StorableLaws.{length-written, epochs-storable}
@@ -24,6 +26,13 @@ pub use Rattle.tk_report.proofs.AgreementLaws.{views-agree, alike-after_turn, al
 pub use Rattle.tk_report.proofs.AgreementLaws.{alike-where_old, fronts-agree, flat_map-agree}
 pub use Rattle.tk_report.proofs.AgreementLaws.{turns-agree}
 pub use Rattle.tk_report.proofs.LaidOutLaws.{layout-gives-lookup, bytes-give-lookup}
+-- the reads of a run, and what is taken of their replies
+pub use Rattle.tk_report.proofs.SoundReads.{map-map, map_same, AreMade, all-made, epoch-most}
+pub use Rattle.tk_report.proofs.SoundReads.{blocks-whole, text-taken, asked-read_at}
+pub use Rattle.tk_report.proofs.SoundReads.{IsSound, all-sound}
+-- runs whose servers reply what they will
+pub use Rattle.tk_report.proofs.ServingLaws.{honest-readers, honest-exchange, honest-report}
+pub use Rattle.tk_report.proofs.AnewLaws.{alike-runs, anew-readers, anew-from-own, more-entries}
 -- the end of a run, and its report
 pub use Rattle.tk_report.proofs.LeavingLaws.{ends-leave, ends-text, writing-logs, reader-logs}
 pub use Rattle.tk_report.proofs.LeavingLaws.{followers-in, got-ended, reports-agree}
@@ -47,7 +56,7 @@ pub use Rattle.tk_report.proofs.ClientsLaws.{length-next}
 pub use Rattle.tk_report.proofs.ReadingLaws.{before-next}
 -- how many writes of an order are displaced: none of no entries, and there is room for one more
 pub use Rattle.tk_report.proofs.DisplacedLaws.{none-displaced}
-pub use Rattle.tk_report.proofs.OrderCounts.{next-room}
+pub use Rattle.tk_report.proofs.OrderCounts.{next-few, next-room, displaced-most}
 -- numbers, one after the other
 pub use Rattle.tk_report.proofs.ClientsLaws.{range-next, flat_map-next}
 -- what each client sends, listed, and who writes a log

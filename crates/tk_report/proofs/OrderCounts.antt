@@ -64,6 +64,19 @@ displaced-told shape E p before put told so_far is this =
     ap₂ (λ (n : ℕ) (x : Option Put). n + one_where_displaced x) so_far (sym this ∙ is)
     ∙ sym (displaced-next shape E p p.entry refl)
 
+one-at-most : (put : Option Put) → one_where_displaced put ≤ 1
+one-at-most None = omega arith
+one-at-most (Some Placed) = omega arith
+one-at-most (Some Displaced) = omega arith
+
+-- that is one at most
+pub displaced-most : (shape : Shape) (E : List AtPlace) (p : AtPlace) (before : ℕ)
+    (put : Option Put) → before ≡ displaced_in shape E → put ≡ put_of shape E p →
+    displaced_in shape (E ++ p ∷ []) ≤ before + 1
+displaced-most shape E p before put so_far is =
+    let told = displaced-told shape E p before put put so_far is refl in
+    omega (arith, told, one-at-most put)
+
 -- ---- there are few entries
 
 -- no place is higher than 32 bits can count

@@ -22,3 +22,5 @@ pub mod Listings
 pub mod Rooms
 pub mod Blanks
 pub mod Lifted
+pub mod Serving
+pub mod Anew

@@ -1,4 +1,5 @@
 //! What all runs have in common.
+ghost use Rattle.tk_report.specs.Anew.{AlikeRuns, AnewFromOwn};
 ghost use Rattle.tk_report.specs.Agreement.{EntriesAgree, TurnEntriesAgree, MarkedSoFar};
 ghost use Rattle.tk_report.specs.Agreement.{ReadersAgree, AlikeReadsAgree, AlikeFramesAgree};
 ghost use Rattle.tk_report.specs.Agreement.{AlikeViewsAgree, AlikeAfterTurn, AlikeWhereOpen};
@@ -14,6 +15,7 @@ ghost use Rattle.tk_report.specs.Lifted.{LiftedReports};
 ghost use Rattle.tk_report.specs.Outcomes.{OutcomesReport};
 ghost use Rattle.tk_report.specs.PassingOver.{HonestPassingOver, RecordsAreShown};
 ghost use Rattle.tk_report.specs.Queues.{QueuesSend};
+ghost use Rattle.tk_report.specs.Serving.{HonestReaders, HonestExchange, HonestReport};
 
 /// A number that is recorded as absent was rightly passed over: its record, if there is one, wasn't
 /// retained in the epoch from which the reader got the next number that it did get. This holds for
@@ -103,4 +105,19 @@ pub fn ends()
 /// A script in format 2 has the report that it has in its own format.
 pub fn lifted()
     ensures { LiftedReports }
+{}
+
+/// A run whose servers tell and reply what they do of what they hold is the run: each client knows
+/// what it knows in it, each server sees the same, and the report is the same.
+pub fn honest_servers()
+    ensures readers { HonestReaders }
+    ensures exchange { HonestExchange }
+    ensures report { HonestReport }
+{}
+
+/// Servers that are alike make the same run. Those that before a turn hold anew the entries so far
+/// make the run.
+pub fn servers_alike()
+    ensures alike { AlikeRuns }
+    ensures anew { AnewFromOwn }
 {}

@@ -1,5 +1,5 @@
 -- What a client asks in a turn.
-use Rattle.std.proofs.Common.{◌≡◌, refl, ap, ap₂, ◌∙◌, ℕ, ◌+◌, ◌<◌, Bool, List, [], ◌∷◌, map, Option, None}
+use Rattle.std.proofs.Common.{◌≡◌, ap, ◌∙◌, ℕ, ◌+◌, ◌<◌, Bool, List, map, Option, None}
 use Rattle.std.specs.List.{range_with_len}
 use Rattle.tk_schedule.specs.declared.history.History.{History}
 use Rattle.tk_schedule.specs.Schedule.{epoch_at}
@@ -7,34 +7,19 @@ use Rattle.tk_script.specs.declared.script.Script.{Script}
 use Rattle.tk_words.specs.Words.{WordBook, words_of, BookWords}
 use Rattle.tk_frames.specs.Spelling.{read_frame}
 use Rattle.tk_bloom.specs.Filters.{all_marked}
-use Rattle.tk_client.specs.Asked.{frame_for, asked, shown_by}
+use Rattle.tk_client.specs.Asked.{asked, shown_by}
 use Rattle.tk_client.specs.declared.target.Target.{Target}
 use Rattle.tk_client.specs.Reader.{target, at_epoch}
 use Rattle.tk_client.specs.Client.{ClientState, opened, target_over}
 use Rattle.tk_table.specs.Shown.{is_shown}
 use Rattle.tk_report.specs.Report.{target_at, read_over, reader_before}
-use Rattle.tk_report.specs.Exchange.{read_pair, read_at}
+use Rattle.tk_report.specs.Exchange.{read_at}
 use Rattle.tk_run.specs.Clients.{client_knowing, client_wrote, client_asked}
 use Rattle.tk_frames.specs.Order.{Record, before}
 use Rattle.tk_replica.specs.declared.epoch.Epoch.{Epoch}
 use Rattle.tk_replica.specs.Epochs.{IsEpochOf}
 use Rattle.tk_run.specs.Turns.{placed_before}
-use Rattle.tk_run.proofs.ReadingLaws.{map-map, AreMade}
-
-pub map_same : {X Y : Type 0} (f g : X → Y) → ((x : X) → f x ≡ g x) → (xs : List X) →
-    map f xs ≡ map g xs
-map_same f g same [] = refl
-map_same f g same (x ∷ xs) = ap₂ (λ y ys. y ∷ ys) (same x) (map_same f g same xs)
-
--- what is asked in a run's turn is what each server reads
-pub asked-read_at : (S : Script) (b : WordBook) (H : History) (g c : ℕ) →
-    asked S.shape b g c (epoch_at H g c) (target_at S (words_of S.shape b) H g c)
-    ≡ map (read_at S b H g c) (range_with_len 1 S.shape.servers)
-unfolding read_at read_pair
-asked-read_at S b H g c =
-    let pair = read_pair S (words_of S.shape b) H g c in
-    map_same (frame_for S.shape b g c (epoch_at H g c) pair) (read_at S b H g c) (λ j. refl)
-    (range_with_len 1 S.shape.servers)
+use Rattle.tk_report.proofs.Offers.{map-map, AreMade, asked-read_at}
 
 -- a filter that shows what the writes before the epoch's mark do
 abbrev pub Shows : Script → WordBook → History → ℕ → ℕ → List Bool → Type 0

@@ -12,7 +12,6 @@ pub mod Placing
 pub mod Entering
 pub mod Fronts
 pub mod ReadingLaws
-pub mod JoiningLaws
 pub mod AnswerLaws
 pub mod AskingLaws
 pub mod Changes
@@ -42,6 +41,5 @@ pub mod TalkSteps
 pub mod BatchLaws
 pub mod AnsweredLaws
 pub mod OrderedPlaces
-pub mod ServingLaws
 pub mod KeepingLaws
-pub mod AnewLaws
+pub mod RangedLaws

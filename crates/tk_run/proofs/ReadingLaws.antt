@@ -1,15 +1,13 @@
 -- The reads of a turn: what clients ask, what servers reply, and what clients know then.
-use Rattle.std.proofs.Common.{◌≡◌, refl, ap, ap₂, sym, ◌∙◌, arith, ℕ, zero, suc, ◌+◌, ◌<◌, ◌≤◌, List, [], ◌∷◌, ◌++◌}
-use Rattle.std.proofs.Common.{map, flat_map, add-one, le_trans, div-mul-le_self, le_of_mul-le-mul_right}
+use Rattle.std.proofs.Common.{◌≡◌, refl, ap, ap₂, sym, ◌∙◌, arith, ℕ, zero, suc, ◌+◌, ◌<◌, List, [], ◌∷◌, ◌++◌}
+use Rattle.std.proofs.Common.{map, flat_map, add-one}
 use Rattle.std.specs.List.{range_with_len}
 use Rattle.std.proofs.lemmas.List.{map-append}
 use Rattle.std.proofs.lemmas.List.Folds.{flat_map-map}
 use Rattle.std.proofs.lemmas.List.FromFn.{map-range_with_len_more}
-use Rattle.tk_shape.specs.Lengths.{turn_count}
 use Rattle.tk_schedule.specs.declared.history.History.{History}
-use Rattle.tk_schedule.specs.Schedule.{IsLegal, epoch_at, phases_over}
-use Rattle.tk_report.specs.Entries.{write_at}
-use Rattle.tk_report.proofs.Offers.{before-over, flat_map-next}
+use Rattle.tk_schedule.specs.Schedule.{epoch_at}
+use Rattle.tk_report.proofs.Offers.{flat_map-next, map-map, AreMade}
 use Rattle.tk_run.specs.Rows.{Frame, AreRows, AreAdded}
 use Rattle.tk_run.proofs.RowsLaws.{rows-next, frames-told}
 use Rattle.tk_script.specs.declared.script.Script.{Script}
@@ -20,7 +18,6 @@ use Rattle.tk_frames.specs.Order.{before}
 use Rattle.tk_client.specs.Asked.{frame_with}
 use Rattle.tk_report.specs.Exchange.{read_at, read_answered, with_reply, bytes_of}
 use Rattle.tk_table.specs.Replies.{reply_to}
-use Rattle.tk_report.specs.Report.{read_over}
 use Rattle.tk_replica.specs.Replies.{reply_for}
 use Rattle.tk_run.specs.Servers.{answered}
 use Rattle.tk_run.specs.Turns.{placed_before, entries_seen, reads_for, posed, reply_at, replies_to, replied, turn_seen}
@@ -57,13 +54,6 @@ unfolding replies_to
 replied-none S b H g c = refl
 
 -- ---- what a server answers
-
--- In a turn each read is over the writes before the mark of its epoch among the entries so far.
-abbrev pub AreMade : Script → WordBook → History → ℕ → Type 0
-AreMade S b H g =
-    (c : ℕ) → c < S.shape.clients →
-    before (placed_before S (words_of S.shape b) H (g + 1)) (epoch_at H g c)
-    ≡ read_over S (words_of S.shape b) H g c
 
 read_at-epoch : (S : Script) (b : WordBook) (H : History) (g c j : ℕ) →
     (read_at S b H g c j).epoch ≡ epoch_at H g c
@@ -103,11 +93,6 @@ map-below f h (suc n) same =
     ∙ sym (map-range_with_len_more h 0 n n (omega arith))
     ∙ ap (λ k. map h (range_with_len 0 k)) (add-one n)
 
-pub map-map : {X Y Z : Type 0} (f : Y → Z) (h : X → Y) (xs : List X) →
-    map f (map h xs) ≡ map (λ x. f (h x)) xs
-map-map f h [] = refl
-map-map f h (x ∷ xs) = ap (λ rest. f (h x) ∷ rest) (map-map f h xs)
-
 -- what a server saw of a turn, when it has answered all reads
 pub seen-answered : (S : Script) (b : WordBook) (H : History) (g j : ℕ) → AreMade S b H g →
     let E = placed_before S (words_of S.shape b) H (g + 1) in
@@ -145,26 +130,6 @@ replies-by_client S b H g j made =
     ∙ map-below (λ c. reply_frame (reply_for S.shape E (read_at S b H g c j)))
     (λ c. reply_frame (reply_at S b H g j c)) S.shape.clients
     (λ c low. ap reply_frame (reply-at S b H g c j made low))
-
--- what stands before the mark of an epoch that is read in a turn stands there when its entries do
-pub all-made : (S : Script) (b : WordBook) (H : History) (g : ℕ) → IsLegal S.shape H →
-    g < turn_count S.shape → AreMade S b H g
-all-made S b H g legal low c client_in =
-    let ahead = (legal.each_turn g low).none_ahead c client_in in
-    sym (before-over S.shape (write_at S (words_of S.shape b)) H (g + 1) (turn_count S.shape)
-    (epoch_at H g c) legal (omega (arith, low)) (omega arith) ahead)
-
--- no epoch is read that has no phase
-pub epoch-most : (S : Script) (H : History) (g c : ℕ) → IsLegal S.shape H →
-    g < turn_count S.shape → c < S.shape.clients → epoch_at H g c ≤ S.shape.phases
-epoch-most S H g c legal low client_in =
-    let ahead = (legal.each_turn g low).none_ahead c client_in in
-    let most : phases_over S.shape (g + 1) ≤ S.shape.phases =
-    le_of_mul-le-mul_right
-    (le_trans (div-mul-le_self (g + 1) S.shape.ticks) (omega (arith, low)))
-    S.shape.in_range.ticks_low
-    in
-    omega (arith, ahead, most)
 
 -- ---- rows of frames
 

@@ -21,7 +21,7 @@ use Rattle.tk_run.specs.Turns.{placed_before}
 use Rattle.tk_run.specs.Courses.{MayAskIn, MayRead, AreBlank, IsBlank}
 use Rattle.tk_run.specs.Reading.{MayReadOn, readers, talks_of}
 use Rattle.tk_run.proofs.Cuts.{take_one_more}
-use Rattle.tk_run.proofs.ReadingLaws.{epoch-most}
+use Rattle.tk_report.proofs.Offers.{epoch-most}
 use Rattle.tk_run.proofs.AskingLaws.{wrote-shape, wrote-number, wrote-closed}
 
 -- ---- before

@@ -13,10 +13,10 @@ use Rattle.tk_report.specs.Exchange.{read_at}
 use Rattle.tk_run.specs.Rows.{Frame}
 use Rattle.tk_run.specs.Clients.{client_asked, client_before}
 use Rattle.tk_run.specs.Turns.{placed_before, reply_at, replies_to, replied}
-use Rattle.tk_run.proofs.ReadingLaws.{map-map, reply-at, AreMade, all-made}
+use Rattle.tk_run.proofs.ReadingLaws.{reply-at}
 use Rattle.tk_run.proofs.ServerLaws.{replies-are}
-use Rattle.tk_run.proofs.AskingLaws.{map_same}
-use Rattle.tk_run.proofs.AnswerLaws.{IsSound, all-sound, client-took}
+use Rattle.tk_report.proofs.Offers.{map-map, map_same, AreMade, all-made, IsSound, all-sound}
+use Rattle.tk_run.proofs.AnswerLaws.{client-took}
 
 -- the replies to its frames are those that the servers owe it
 pub talk-replies : (S : Script) (b : WordBook) (H : History) (g c : ℕ)

@@ -31,8 +31,8 @@ use Rattle.tk_run.specs.Courses.{IsTalk, AreTalks, MayRead, AreBlank}
 use Rattle.tk_run.specs.declared.pinned_write.PinnedWrite.{PinnedWrite}
 use Rattle.tk_run.specs.Reading.{MayReadOn, HasAsked, MayTake, HasTaken, EachAt, readers, talks_of}
 use Rattle.tk_run.specs.Answering.{MayAnswer, IsAnswered, AllStand, set_of}
-use Rattle.tk_run.proofs.ReadingLaws.{map-map}
-use Rattle.tk_run.proofs.AnswerLaws.{all-sound, asked-shape, asked-open}
+use Rattle.tk_report.proofs.Offers.{map-map, all-sound}
+use Rattle.tk_run.proofs.AnswerLaws.{asked-shape, asked-open}
 use Rattle.tk_run.proofs.OrderedPlaces.{Numbers, numbers-told, numbers-moved, numbers-kept, in_places}
 use Rattle.tk_run.proofs.PosingLaws.{asked-of}
 use Rattle.tk_run.proofs.TalkAll.{Begins, all-begin}

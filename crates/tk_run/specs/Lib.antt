@@ -9,6 +9,5 @@ pub mod Courses
 pub mod Reading
 pub mod Answering
 pub mod Threads
-pub mod Serving
 pub mod Keeping
-pub mod Anew
+pub mod Ranged

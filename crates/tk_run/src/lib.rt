@@ -34,7 +34,7 @@ mod turn_reads;
 mod turns;
 
 pub use keeper::{Keeper, Shelf};
-pub use laws::{honest_servers, servers_alike};
+pub use laws::servers_ranged;
 pub use run_error::RunError;
 pub use serially::{resumed, resumed_by, serial};
 pub use threaded::threads;

@@ -12,7 +12,7 @@ use Rattle.tk_cluster.specs.declared.set.EpochSet.{EpochSet}
 use Rattle.tk_cluster.specs.Sets.{Stands}
 use Rattle.tk_run.specs.Rows.{Frame}
 use Rattle.tk_run.specs.Turns.{placed_before}
-use Rattle.tk_run.proofs.ReadingLaws.{all-made}
+use Rattle.tk_report.proofs.Offers.{all-made}
 use Rattle.tk_run.proofs.AskingLaws.{Shows, client-asked, frames-are}
 use Rattle.tk_run.proofs.ask_threads.ask.Goals as goal
 

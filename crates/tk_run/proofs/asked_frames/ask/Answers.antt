@@ -9,7 +9,7 @@ use Rattle.tk_replica.specs.declared.epoch.Epoch.{Epoch}
 use Rattle.tk_client.specs.Asked.{asked}
 use Rattle.tk_client.specs.Client.{target_over}
 use Rattle.tk_run.specs.Turns.{placed_before}
-use Rattle.tk_run.proofs.ReadingLaws.{all-made, epoch-most}
+use Rattle.tk_report.proofs.Offers.{all-made, epoch-most}
 use Rattle.tk_run.proofs.AskingLaws.{wrote-shape, wrote-closed, filter-shows, frames-are}
 use Rattle.tk_run.proofs.AskingLaws.{client-asked}
 use Rattle.tk_run.proofs.asked_frames.ask.Goals as goal

@@ -5,7 +5,8 @@ use Rattle.tk_words.specs.Words.{IsBook, words_of}
 use Rattle.tk_run.specs.Servers.{IsServer}
 use Rattle.tk_run.specs.Turns.{placed_before, entries_seen, reads_for}
 use Rattle.tk_run.proofs.AnswerLaws.{posed-are}
-use Rattle.tk_run.proofs.ReadingLaws.{all-made, replies-by_client, seen-answered}
+use Rattle.tk_report.proofs.Offers.{all-made}
+use Rattle.tk_run.proofs.ReadingLaws.{replies-by_client, seen-answered}
 use Rattle.tk_run.proofs.turn_reads.answer_one.Goals as goal
 
 pub answer-requires : goal.answer-requires

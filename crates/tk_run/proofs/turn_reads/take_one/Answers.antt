@@ -2,7 +2,8 @@
 use Rattle.std.proofs.Common.{◌∙◌, ap, sym, subst}
 use Rattle.tk_shape.specs.declared.shape.Shape.{Shape}
 use Rattle.tk_words.specs.Words.{IsBook, words_of}
-use Rattle.tk_run.proofs.AnswerLaws.{all-sound, asked-shape, asked-open, replied-counted}
+use Rattle.tk_report.proofs.Offers.{all-sound}
+use Rattle.tk_run.proofs.AnswerLaws.{asked-shape, asked-open, replied-counted}
 use Rattle.tk_run.proofs.AnswerLaws.{client-took}
 use Rattle.tk_run.proofs.turn_reads.take_one.Goals as goal
 

@@ -1,11 +1,10 @@
 -- Servers that are alike make the same run; so do those that begin anew from their own checkpoints.
-use Rattle.std.proofs.Common.{◌≡◌, refl, ap, ap₂, sym, subst, ◌∙◌, arith, inl, inr, ℕ, zero, suc, ◌+◌, ◌-◌, ◌<◌, ◌≤◌}
-use Rattle.std.proofs.Common.{List, [], ◌∷◌, ◌++◌, length, map, drop, flat_map, Option, Bool, true, nat_lt, nat_le, cond}
-use Rattle.std.proofs.Common.{add-one, ltb-true, le-leb, append_assoc, append-nil, zero-add}
+use Rattle.std.proofs.Common.{◌≡◌, refl, ap, ap₂, sym, ◌∙◌, arith, inl, inr, ℕ, zero, suc, ◌+◌, ◌-◌, ◌<◌, ◌≤◌}
+use Rattle.std.proofs.Common.{List, [], ◌∷◌, ◌++◌, length, map, drop, Bool, cond}
+use Rattle.std.proofs.Common.{le-leb, append_assoc, append-nil, zero-add}
 use Rattle.std.proofs.lemmas.Bool.{cases_lt, lt-leb}
 use Rattle.std.proofs.lemmas.List.{drop_at}
-use Rattle.std.specs.Prelude.{codes}
-use Rattle.std.specs.List.{range_with_len, list_all}
+use Rattle.std.specs.List.{range_with_len}
 use Rattle.tk_shape.specs.Lengths.{turn_count}
 use Rattle.tk_schedule.specs.declared.history.History.{History}
 use Rattle.tk_schedule.specs.Schedule.{IsLegal, epoch_at}
@@ -15,25 +14,23 @@ use Rattle.tk_words.specs.Words.{WordBook, BookWords, IsBook, words_of}
 use Rattle.tk_frames.specs.declared.entry.Placed.{Placed}
 use Rattle.tk_frames.specs.declared.read_frame.ReadFrame.{ReadFrame}
 use Rattle.tk_frames.specs.declared.reply_frame.ReplyFrame.{ReplyFrame}
-use Rattle.tk_frames.specs.Order.{Record, before}
-use Rattle.tk_frames.specs.Spelling.{placed_frame, read_frame, reply_frame}
+use Rattle.tk_frames.specs.Order.{before}
+use Rattle.tk_frames.specs.Spelling.{read_frame, reply_frame}
 use Rattle.tk_table.specs.Replies.{reply_to}
 use Rattle.tk_table.specs.Shown.{is_shown}
 use Rattle.tk_client.specs.Reader.{Reader, at_epoch, after_read, target, got_in}
 use Rattle.tk_client.specs.Asked.{frame_for, pair_for}
 use Rattle.tk_client.specs.Replies.{answer_in}
 use Rattle.tk_report.specs.Entries.{write_at, entries_at, entries_before}
-use Rattle.tk_report.specs.Exchange.{frames_before, turn_frames}
-use Rattle.tk_report.specs.Report.{role_in, line, log_lines, unsent_line, history_lines, report_text}
-use Rattle.tk_report.specs.Report.{read_over}
+use Rattle.tk_report.specs.Report.{read_over, reader_before}
 use Rattle.tk_report.specs.Turns.{placed_before}
-use Rattle.tk_report.proofs.Offers.{turns-agree, reports-agree}
-use Rattle.tk_run.specs.Serving.{Serving, honest, reader_under, reader_after, frame_under, read_replied}
-use Rattle.tk_run.specs.Serving.{got_under}
-use Rattle.tk_run.specs.Anew.{Alike, SameRun, AlikeRuns, held_anew, anew, AnewFromOwn}
-use Rattle.tk_run.specs.Anew.{in_ranges, ranged, RangedFromOwn}
-use Rattle.tk_run.proofs.ReadingLaws.{all-made}
-use Rattle.tk_run.proofs.ServingLaws.{honest-exchange, honest-report}
+use Rattle.tk_report.proofs.AgreementLaws.{turns-agree}
+use Rattle.tk_report.proofs.LeavingLaws.{reports-agree}
+use Rattle.tk_report.specs.Serving.{Serving, honest, reader_under, read_replied}
+use Rattle.tk_report.specs.Serving.{got_under}
+use Rattle.tk_report.specs.Anew.{Alike, AlikeRuns, held_anew, anew, AnewFromOwn}
+use Rattle.tk_report.proofs.SoundReads.{all-made}
+use Rattle.tk_report.proofs.ServingLaws.{honest-readers, honest-exchange, honest-report}
 
 -- a client's read under what it is told and replied
 module _ (S : Script) (b : WordBook) (H : History) (g c : ℕ) where
@@ -76,6 +73,7 @@ pub alike-runs : AlikeRuns
 alike-runs S b H V W alike =
     let turns = turn_count S.shape in
     record {
+      readers = same-readers S b H V W alike;
       exchange = λ j.
           turns-agree S b H H turns (read_replied S b H V j) (read_replied S b H W j) (λ k low. refl)
           (λ g c turn_in client_in. same-read S b H V W alike g c j turn_in client_in);
@@ -90,7 +88,7 @@ alike-runs S b H V W alike =
 -- ---- servers that begin anew
 
 -- entries of a later turn begin with those of an earlier one
-more-entries : (S : Script) (w : BookWords) (H : History) (due k : ℕ) →
+pub more-entries : (S : Script) (w : BookWords) (H : History) (due k : ℕ) →
     (F : List Placed) × (placed_before S w H (k + due) ≡ placed_before S w H due ++ F)
 unfolding entries_before
 more-entries S w H due zero = (
@@ -147,31 +145,24 @@ own-alike S b H due given legal own =
           reply_to S.shape (over g c j turn_in client_in i) r;
     }
 
+-- each client knows what it knows in the run
+pub anew-readers : (S : Script) (b : WordBook) (H : History) (due : ℕ) (given : ℕ → List Placed)
+    (c g : ℕ) → IsBook S.shape b → IsLegal S.shape H →
+    ((i : ℕ) → given i ≡ placed_before S (words_of S.shape b) H due) →
+    c < S.shape.clients → g ≤ turn_count S.shape →
+    reader_under S b H (anew S (words_of S.shape b) H due given) c g
+    ≡ reader_before S (words_of S.shape b) H c g
+anew-readers S b H due given c g serves legal own client_in within =
+    let w = words_of S.shape b in
+    (alike-runs S b H (anew S w H due given) (honest S w H)
+    (own-alike S b H due given legal own)).readers c g client_in within
+    ∙ honest-readers S b H c g serves legal client_in within
+
 pub anew-from-own : AnewFromOwn
 anew-from-own S b H due j given serves legal own =
     let same = alike-runs S b H (anew S (words_of S.shape b) H due given)
     (honest S (words_of S.shape b) H) (own-alike S b H due given legal own)
     in (
-      same.exchange j ∙ honest-exchange S b H j serves legal,
-      same.report ∙ honest-report S b H serves legal,
-    )
-
--- ---- servers that make sums over ranges
-
-pub ranged-from-own : RangedFromOwn
-ranged-from-own S b H j ranges sum serves legal right =
-    let w = words_of S.shape b in
-    let V = ranged S w H ranges sum in
-    let alike : Alike S V (honest S w H) = record {
-      shows = λ g c turn_in client_in. refl;
-      reply = λ g c turn_in client_in. λ i k r.
-          record (reply_to S.shape (read_over S w H g c) r) {
-            first = right g c turn_in client_in r.first i;
-            second = right g c turn_in client_in r.second i;
-          };
-    }
-    in
-    let same = alike-runs S b H V (honest S w H) alike in (
       same.exchange j ∙ honest-exchange S b H j serves legal,
       same.report ∙ honest-report S b H serves legal,
     )

@@ -1,25 +1,19 @@
--- A run whose servers begin anew before a turn, each from some entries; and a run whose servers make
--- their sums over blocks in ranges. This says what the run is whatever they are given and make.
-use Rattle.std.specs.Prelude.{◌≡◌, ℕ, ◌+◌, ◌<◌, nat_le, cond, Bool, List, ◌++◌, length, drop}
-use Rattle.tk_shape.specs.declared.shape.Shape.{Shape}
-use Rattle.tk_shape.specs.Lengths.{turn_count, width}
+-- Runs whose servers are alike where it counts; and a run whose servers begin anew before a turn, each
+-- from some entries, whatever they are given.
+use Rattle.std.specs.Prelude.{◌≡◌, ℕ, ◌+◌, ◌<◌, ◌≤◌, nat_le, cond, Bool, List, ◌++◌, length, drop}
+use Rattle.tk_shape.specs.Lengths.{turn_count}
 use Rattle.tk_schedule.specs.declared.history.History.{History}
 use Rattle.tk_schedule.specs.Schedule.{IsLegal, epoch_at}
 use Rattle.tk_script.specs.declared.script.Script.{Script}
 use Rattle.tk_words.specs.Words.{WordBook, BookWords, IsBook, words_of}
 use Rattle.tk_frames.specs.declared.entry.Placed.{Placed}
-use Rattle.tk_frames.specs.declared.read_frame.ReadFrame.{ReadFrame}
-use Rattle.tk_frames.specs.Order.{Record, before}
+use Rattle.tk_frames.specs.Order.{before}
 use Rattle.tk_table.specs.Replies.{reply_to}
 use Rattle.tk_table.specs.Shown.{is_shown}
-use Rattle.tk_table.specs.Table.{layout, blocks_of}
-use Rattle.tk_kernel.specs.Chosen.{chosen_sum}
-use Rattle.tk_shards.specs.Division.{ranges_of}
-use Rattle.tk_shards.specs.Shards.{Sharded}
 use Rattle.tk_report.specs.Exchange.{exchange}
-use Rattle.tk_report.specs.Report.{read_over, report}
+use Rattle.tk_report.specs.Report.{report}
 use Rattle.tk_report.specs.Turns.{placed_before}
-use Rattle.tk_run.specs.Serving.{Serving, honest, exchange_under, report_under}
+use Rattle.tk_report.specs.Serving.{Serving, honest, reader_under, exchange_under, report_under}
 
 -- ---- servers that are alike where it counts
 
@@ -28,8 +22,10 @@ pub record Alike (S : Script) (V W : Serving) : Type 0 where
   pub shows : (g c : ℕ) → g < turn_count S.shape → c < S.shape.clients → V.shows g c ≡ W.shows g c
   pub reply : (g c : ℕ) → g < turn_count S.shape → c < S.shape.clients → V.reply g c ≡ W.reply g c
 
--- then all see the same, and the report is the same
+-- then each client knows the same before each turn, all see the same, and the report is the same
 pub record SameRun (S : Script) (b : WordBook) (H : History) (V W : Serving) : Type 0 where
+  pub readers : (c g : ℕ) → c < S.shape.clients → g ≤ turn_count S.shape →
+      reader_under S b H V c g ≡ reader_under S b H W c g
   pub exchange : (j : ℕ) → exchange_under S b H V j ≡ exchange_under S b H W j
   pub report : report_under S b H V ≡ report_under S b H W
 
@@ -63,34 +59,3 @@ AnewFromOwn =
     ((i : ℕ) → given i ≡ placed_before S (words_of S.shape b) H due) →
     (exchange_under S b H (anew S (words_of S.shape b) H due given) j ≡ exchange S b H j)
     × (report_under S b H (anew S (words_of S.shape b) H due given) ≡ report S b H)
-
--- ---- servers that make sums over ranges
-
--- what makes a sum for a vector over blocks in ranges
-abbrev pub Summing : Type 0
-Summing = Sharded → List ℕ → List ℕ
-
-abbrev pub in_ranges : Shape → List Record → List (ℕ × ℕ) → Sharded
-in_ranges shape R ranges =
-    record { width = width shape; blocks = blocks_of (layout shape R); ranges = ranges }
-
-abbrev pub ranged : Script → BookWords → History → List (ℕ × ℕ) → Summing → Serving
-ranged S w H ranges sum =
-    record (honest S w H) {
-      reply = λ g c j r. let set = in_ranges S.shape (read_over S w H g c) ranges in
-          record (reply_to S.shape (read_over S w H g c) r) {
-            first = sum set r.first;
-            second = sum set r.second;
-          };
-    }
-
--- sums over ranges that are those over all blocks make the run
-abbrev pub RangedFromOwn : Type 0
-RangedFromOwn =
-    (S : Script) (b : WordBook) (H : History) (j : ℕ) (ranges : List (ℕ × ℕ)) (sum : Summing) →
-    IsBook S.shape b → IsLegal S.shape H →
-    ((g c : ℕ) → g < turn_count S.shape → c < S.shape.clients → (v : List ℕ) →
-    let set = in_ranges S.shape (read_over S (words_of S.shape b) H g c) ranges in
-    sum set v ≡ chosen_sum set.width set.blocks v) →
-    (exchange_under S b H (ranged S (words_of S.shape b) H ranges sum) j ≡ exchange S b H j)
-    × (report_under S b H (ranged S (words_of S.shape b) H ranges sum) ≡ report S b H)

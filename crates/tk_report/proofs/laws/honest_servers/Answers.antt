@@ -1,5 +1,5 @@
-use Rattle.tk_run.proofs.ServingLaws.{honest-readers, honest-exchange, honest-report}
-use Rattle.tk_run.proofs.laws.honest_servers.Goals as goal
+use Rattle.tk_report.proofs.ServingLaws.{honest-readers, honest-exchange, honest-report}
+use Rattle.tk_report.proofs.laws.honest_servers.Goals as goal
 
 pub returns-clause-readers : goal.returns-clause-readers
 returns-clause-readers c = honest-readers

@@ -1,10 +1,8 @@
 -- A run whose servers are honest is the run.
-use Rattle.std.proofs.Common.{◌≡◌, refl, ap, ap₂, sym, subst, ◌∙◌, arith, ℕ, zero, suc, ◌+◌, ◌<◌, ◌≤◌}
-use Rattle.std.proofs.Common.{List, [], ◌∷◌, ◌++◌, map, flat_map, Option, Some, None, Bool, true, nat_lt}
-use Rattle.std.proofs.Common.{add-one, ltb-true}
-use Rattle.std.specs.Prelude.{codes}
-use Rattle.std.specs.List.{range_with_len, list_all}
-use Rattle.std.proofs.lemmas.Bool.{and_parts as parts}
+use Rattle.std.proofs.Common.{◌≡◌, refl, ap, sym, subst, ◌∙◌, arith, ℕ, zero, suc, ◌+◌, ◌<◌}
+use Rattle.std.proofs.Common.{List, map, Option, Some, None}
+use Rattle.std.proofs.Common.{add-one}
+use Rattle.std.specs.List.{range_with_len}
 use Rattle.tk_shape.specs.Lengths.{turn_count}
 use Rattle.tk_schedule.specs.declared.history.History.{History}
 use Rattle.tk_schedule.specs.Schedule.{IsLegal, epoch_at}
@@ -12,24 +10,22 @@ use Rattle.tk_script.specs.declared.script.Script.{Script}
 use Rattle.tk_script.specs.Sent.{unsent_count}
 use Rattle.tk_words.specs.Words.{WordBook, IsBook, words_of}
 use Rattle.tk_frames.specs.declared.reply_frame.ReplyFrame.{ReplyFrame}
-use Rattle.tk_frames.specs.Spelling.{placed_frame}
 use Rattle.tk_table.specs.Replies.{reply_to}
 use Rattle.tk_table.specs.Stands.{IsPair}
 use Rattle.tk_client.specs.declared.target.Target.{Target}
 use Rattle.tk_client.specs.Asked.{asked, pair_for}
 use Rattle.tk_client.specs.Reader.{Reader, at_epoch, after_read, got_in}
 use Rattle.tk_client.specs.Replies.{answer_in, first_joined, second_joined}
-use Rattle.tk_report.specs.Entries.{write_at, entries_at}
-use Rattle.tk_report.specs.Exchange.{read_answered, read_at, read_pair, frames_before, turn_frames, with_reply}
-use Rattle.tk_report.specs.Report.{answered, read_over, reader_before, target_at, role_in, line}
-use Rattle.tk_report.specs.Report.{log_lines, unsent_line, history_lines, got_of, report_of, report_text}
-use Rattle.tk_report.proofs.Offers.{before-next, turns-agree, reports-agree}
-use Rattle.tk_run.specs.Serving.{honest, frame_under, replies_under, reader_under, reader_after}
-use Rattle.tk_run.specs.Serving.{read_replied, got_under}
-use Rattle.tk_run.specs.Serving.{HonestReaders, HonestExchange, HonestReport}
-use Rattle.tk_run.proofs.AnswerLaws.{IsSound, all-sound, text-taken}
-use Rattle.tk_run.proofs.AskingLaws.{asked-read_at}
-use Rattle.tk_run.proofs.ReadingLaws.{map-map}
+use Rattle.tk_report.specs.Exchange.{read_answered, read_at, read_pair, with_reply}
+use Rattle.tk_report.specs.Report.{answered, read_over, reader_before, target_at}
+use Rattle.tk_report.specs.Report.{got_of, report_of}
+use Rattle.tk_report.proofs.ReadingLaws.{before-next}
+use Rattle.tk_report.proofs.AgreementLaws.{turns-agree}
+use Rattle.tk_report.proofs.LeavingLaws.{reports-agree}
+use Rattle.tk_report.specs.Serving.{honest, frame_under, replies_under, reader_under, reader_after}
+use Rattle.tk_report.specs.Serving.{read_replied, got_under}
+use Rattle.tk_report.specs.Serving.{HonestReaders, HonestExchange, HonestReport}
+use Rattle.tk_report.proofs.SoundReads.{IsSound, all-sound, text-taken, map-map}
 
 -- what honest servers reply to a read gives what is looked up
 answer-told : (S : Script) (b : WordBook) (H : History) (g c : ℕ) (t : Option Target) →
