@@ -1,16 +1,13 @@
 -- What a client takes from the replies to its read.
-use Rattle.std.proofs.Common.{◌≡◌, refl, None, ap, sym, subst, ◌∙◌, arith, ℕ, ◌+◌, ◌<◌, List, [], ◌∷◌}
-use Rattle.std.proofs.Common.{length, map, Option, Some, zero, suc, ◌≤◌, inl, inr}
+use Rattle.std.proofs.Common.{◌≡◌, refl, None, ap, sym, subst, ◌∙◌, ℕ, ◌+◌, List, [], ◌∷◌}
+use Rattle.std.proofs.Common.{length, map, Option, Some}
 use Rattle.std.specs.Prelude.{IsSome}
-use Rattle.std.proofs.lemmas.Bool.{cases_lt}
-use Rattle.std.proofs.lemmas.List.FromFn.{length-map-range_with_len}
 use Rattle.std.specs.List.{AllByRecursion, range_with_len}
-use Rattle.std.proofs.lemmas.List.{length-map}
 use Rattle.tk_shape.specs.declared.shape.Shape.{Shape}
-use Rattle.tk_shape.specs.Lengths.{width, turn_count}
+use Rattle.tk_shape.specs.Lengths.{width}
 use Rattle.tk_kernel.specs.Chosen.{chosen_sum, chosen_from}
 use Rattle.tk_kernel.proofs.Offers.{length-xor_all, AllSized-chosen_from}
-use Rattle.tk_words.specs.Words.{WordBook, BookWords, words_of, fresh_vectors, IsBook}
+use Rattle.tk_words.specs.Words.{WordBook, BookWords, words_of, fresh_vectors}
 use Rattle.tk_frames.specs.declared.read_frame.ReadFrame.{ReadFrame}
 use Rattle.tk_frames.specs.declared.reply_frame.ReplyFrame.{ReplyFrame}
 use Rattle.tk_frames.specs.Ranges.{IsRead, IsReply}
@@ -28,7 +25,7 @@ use Rattle.tk_client.specs.Replies.{answer_in, frames_in, first_joined, second_j
 use Rattle.tk_client.proofs.Offers.{frames_in-spelled}
 use Rattle.tk_client.specs.Asked.{asked, AreWhole, pair_for}
 use Rattle.tk_schedule.specs.declared.history.History.{History}
-use Rattle.tk_schedule.specs.Schedule.{IsLegal, epoch_at}
+use Rattle.tk_schedule.specs.Schedule.{epoch_at}
 use Rattle.tk_report.proofs.Offers.{before-next}
 use Rattle.tk_script.specs.declared.script.Script.{Script}
 use Rattle.tk_report.specs.Queues.{writing_before}
@@ -36,9 +33,7 @@ use Rattle.tk_report.specs.Report.{answered, read_over, target_at, reader_before
 use Rattle.tk_table.specs.Replies.{reply_to}
 use Rattle.tk_report.specs.Exchange.{read_at}
 use Rattle.tk_run.specs.Clients.{idle, client_before, client_knowing, client_asked}
-use Rattle.tk_run.specs.Rows.{Frame}
-use Rattle.tk_run.specs.Servers.{AreReads}
-use Rattle.tk_run.specs.Turns.{reads_for, posed, reply_at, replies_to, replied}
+use Rattle.tk_run.specs.Turns.{replies_to, replied}
 use Rattle.tk_report.proofs.Offers.{map-map, asked-read_at, IsSound, blocks-whole, text-taken}
 
 -- so the answer to a read is what is looked up for its target
@@ -84,7 +79,7 @@ sum-long shape R vector ordered storable =
     (blocks-whole shape R ordered storable).sized)
 
 -- a reply to a read in range is in range
-reply-in_range : (shape : Shape) (R : List Record) (r : ReadFrame) → AreOrdered shape R →
+pub reply-in_range : (shape : Shape) (R : List Record) (r : ReadFrame) → AreOrdered shape R →
     AllByRecursion (IsStorable shape) R → IsRead shape r → IsReply shape (reply_to shape R r)
 reply-in_range shape R r ordered storable in_range =
     record {
@@ -139,52 +134,6 @@ client-took {S} {b} {H} {g} {c} {old} {new} {replies} sound asked_is replies_are
     (after_read S.shape (at_epoch e r) t o)) answer
     ∙ ap (idle S.shape c (writing_before S c (g + 1))) (sym (before-next S w H c g))
 
--- ---- the reads for a server
-
-each-of : {X : Type 0} (P : X → Type 0) (f : ℕ → X) (a n : ℕ) →
-    AllByRecursion P (map f (range_with_len a n)) → (k : ℕ) → a ≤ k → k < a + n → P (f k)
-each-of P f a zero all k low high = absurd (omega (arith, low, high))
-each-of P f a (suc n) all k low high =
-    elim (cases_lt a k) [
-      | inl later ↦
-          each-of P f (a + 1) n all.1 k (omega (arith, later)) (omega (arith, high))
-      | inr first ↦
-          let same : a ≡ k = omega (arith, low, first) in
-          subst (λ (i : ℕ). P (f i)) same all.0
-    ]
-
-all-of : {X : Type 0} (P : X → Type 0) (f : ℕ → X) (a n : ℕ) →
-    ((k : ℕ) → a ≤ k → k < a + n → P (f k)) → AllByRecursion P (map f (range_with_len a n))
-all-of P f a zero each = tt
-all-of P f a (suc n) each = (
-  each a (omega arith) (omega arith),
-  all-of P f (a + 1) n (λ k low high. each k (omega (arith, low)) (omega (arith, high))),
-)
-
--- what all clients ask of a server in a turn is in range
-reads-in_range : (S : Script) (b : WordBook) (H : History) (g j : ℕ) → IsBook S.shape b →
-    IsLegal S.shape H → g < turn_count S.shape → 1 ≤ j → j ≤ S.shape.servers →
-    AllByRecursion (IsRead S.shape) (reads_for S b H g S.shape.clients j)
-unfolding reads_for
-reads-in_range S b H g j serves legal turn_in low high =
-    all-of (IsRead S.shape) (λ (c : ℕ). read_at S b H g c j) 0 S.shape.clients
-    (λ c from below.
-    each-of (IsRead S.shape) (read_at S b H g c) 1 S.shape.servers
-    (all-sound S b H g c serves legal turn_in (omega (arith, below))).reads j low
-    (omega (arith, high)))
-
--- so what lies for a server are the frames of reads in range
-pub posed-are : (S : Script) (b : WordBook) (H : History) (g i : ℕ) (frames : List Frame) →
-    IsBook S.shape b → IsLegal S.shape H → g < turn_count S.shape → i < S.shape.servers →
-    frames ≡ posed S b H g S.shape.clients i →
-    AreReads S.shape (reads_for S b H g S.shape.clients (i + 1)) frames
-posed-are S b H g i frames serves legal turn_in low are =
-    record {
-      in_range =
-          reads-in_range S b H g (i + 1) serves legal turn_in (omega arith) (omega (arith, low));
-      spelled = are;
-    }
-
 -- ---- what a client is before it takes replies
 
 module _ (S : Script) (w : BookWords) (H : History) (g c : ℕ) (client : ClientState)
@@ -196,11 +145,3 @@ module _ (S : Script) (w : BookWords) (H : History) (g c : ℕ) (client : Client
   pub asked-open : IsSome client.read
   unfolding client_asked client_knowing
   asked-open = subst (λ (s : ClientState). IsSome s.read) (sym is) refl
-
--- as many replies come as there are servers
-pub replied-counted : (S : Script) (b : WordBook) (H : History) (g n c : ℕ)
-    (replies : List (List ℕ)) → replies ≡ replied S b H g n c → length replies ≡ n
-unfolding replies_to
-replied-counted S b H g n c replies are =
-    ap length are ∙ length-map (map (λ j. reply_at S b H g j c) (range_with_len 1 n)) _
-    ∙ length-map-range_with_len (λ j. reply_at S b H g j c) 1 n

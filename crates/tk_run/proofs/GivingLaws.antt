@@ -9,7 +9,7 @@ use Rattle.tk_shape.specs.declared.shape.Shape.{Shape}
 use Rattle.tk_frames.specs.declared.entry.Placed.{Placed}
 use Rattle.tk_io.specs.Content.{gained}
 use Rattle.tk_run.specs.declared.server.Server.{Server}
-use Rattle.tk_run.specs.Servers.{IsServer, AreServers, nothing_seen}
+use Rattle.tk_run.specs.Servers.{IsServer, AreServers, IsReady, AreReady, nothing_seen}
 use Rattle.tk_io.specs.Tapped.{GainsFront, TapsGain, TapsGainFronts}
 use Rattle.tk_io.proofs.Offers.{gained-nothing}
 use Rattle.tk_run.proofs.Cuts.{take_none}
@@ -27,9 +27,10 @@ fronts-none n a t j low high =
     (0, sym (ap (gained (t j)) (take_none (a j)) ∙ gained-nothing (t j)))
 
 -- a server has what another has, and has seen nothing since
-abbrev pub IsGiven : Server → Server → Type 0
-IsGiven s t = (shape : Shape) (E : List Placed) (bytes : List ℕ) →
-    IsServer shape E bytes s → IsServer shape E [] t
+pub record IsGiven (s t : Server) : Type 0 where
+  pub ready : (shape : Shape) (E : List Placed) → IsReady shape E s → IsReady shape E t
+  pub server : (shape : Shape) (E : List Placed) (bytes : List ℕ) →
+      IsServer shape E bytes s → IsServer shape E [] t
 
 -- the first n servers gave what they saw to their taps, and nothing else came about
 pub record GaveTo (n : ℕ) (from to : List Server) (old new : ℕ → Option (List ℕ)) : Type 0 where
@@ -93,34 +94,46 @@ gave-more {n} {from} {to} {old} {mid} {new} {s} next gave within here is tap sta
 
 -- ---- when all gave, or one of them couldn't
 
-server_at : (shape : Shape) (E : List Placed) (seen : ℕ → List ℕ) (from : List Server) →
-    AreServers shape E seen from → (k : ℕ) (d : Server) → k < length from →
+server_at : (shape : Shape) (Es : ℕ → List Placed) (seen : ℕ → List ℕ) (from : List Server) →
+    AreServers shape Es seen from → (k : ℕ) (d : Server) → k < length from →
     (slice_index_or from k d).seen.items ≡ seen (k + 1)
-server_at shape E seen from are k d within = (are.each k d within).seen
+server_at shape Es seen from are k d within = (are.each k d within).seen
 
 pub gave-servers : {n : ℕ} {from to : List Server} {old new : AllTaps} →
     GaveTo n from to old new → length to ≤ n →
-    (shape : Shape) (E : List Placed) (seen : ℕ → List ℕ) →
-    AreServers shape E seen from → AreServers shape E nothing_seen to
-gave-servers gave all shape E seen are =
+    (shape : Shape) (Es : ℕ → List Placed) (seen : ℕ → List ℕ) →
+    AreServers shape Es seen from → AreServers shape Es nothing_seen to
+gave-servers gave all shape Es seen are =
     record {
       counted = gave.counted ∙ are.counted;
       each = λ k d within.
-          gave.given k d (omega (arith, within, all)) shape E (seen (k + 1))
+          (gave.given k d (omega (arith, within, all))).server shape (Es (k + 1)) (seen (k + 1))
+          (are.each k d (omega (arith, within, gave.counted)));
+    }
+
+pub gave-ready : {n : ℕ} {from to : List Server} {old new : AllTaps} →
+    GaveTo n from to old new → length to ≤ n → (shape : Shape) (E : List Placed) →
+    AreReady shape E from → AreReady shape E to
+gave-ready gave all shape E are =
+    record {
+      counted = gave.counted ∙ are.counted;
+      order = are.order;
+      each = λ k d within.
+          (gave.given k d (omega (arith, within, all))).ready shape E
           (are.each k d (omega (arith, within, gave.counted)));
     }
 
 -- the tap of a server by its number
 tap_of : {n : ℕ} {from to : List Server} {old new : AllTaps} → GaveTo n from to old new →
-    (shape : Shape) (E : List Placed) (seen : ℕ → List ℕ) →
-    AreServers shape E seen from → (d : Server) (j : ℕ) → 1 ≤ j → j ≤ n →
+    (shape : Shape) (Es : ℕ → List Placed) (seen : ℕ → List ℕ) →
+    AreServers shape Es seen from → (d : Server) (j : ℕ) → 1 ≤ j → j ≤ n →
     j ≤ length from → new j ≡ gained (old j) (seen j)
-tap_of {n} {from} {to} {old} {new} gave shape E seen are d j low below high =
+tap_of {n} {from} {to} {old} {new} gave shape Es seen are d j low below high =
     let back : (j - 1) + 1 ≡ j = omega (arith, low) in
     subst (λ (i : ℕ). new i ≡ gained (old i) (seen i)) back
     (gave.taps (j - 1) d (omega (arith, low, below))
     ∙ ap (gained (old ((j - 1) + 1)))
-    (server_at shape E seen from are (j - 1) d (omega (arith, low, high))))
+    (server_at shape Es seen from are (j - 1) d (omega (arith, low, high))))
 
 any_server : (from : List Server) (j : ℕ) → 1 ≤ j → j ≤ length from → Server
 any_server [] j low high = absurd (omega (arith, low, high))
@@ -128,11 +141,11 @@ any_server (s ∷ from) j low high = s
 
 pub gave-taps : {n : ℕ} {from to : List Server} {old new : AllTaps} →
     GaveTo n from to old new → length to ≤ n →
-    (shape : Shape) (E : List Placed) (seen : ℕ → List ℕ) →
-    AreServers shape E seen from → TapsGain shape.servers seen old new
-gave-taps {n} {from} gave all shape E seen are j low high =
+    (shape : Shape) (Es : ℕ → List Placed) (seen : ℕ → List ℕ) →
+    AreServers shape Es seen from → TapsGain shape.servers seen old new
+gave-taps {n} {from} gave all shape Es seen are j low high =
     let within : j ≤ length from = omega (arith, high, are.counted) in
-    tap_of gave shape E seen are (any_server from j low within) j low
+    tap_of gave shape Es seen are (any_server from j low within) j low
     (omega (arith, within, all, gave.counted)) within
 
 -- one of them gave a front, and those after it nothing
@@ -140,14 +153,14 @@ pub gave-fronts : {n : ℕ} {from to : List Server} {old mid : AllTaps} {s : Ser
     GaveTo n from to old mid → n < length to → s ≡ slice_index_or to n s →
     GainsFront (mid (n + 1)) (new (n + 1)) s.seen.items →
     ((j : ℕ) → j ≢ n + 1 → new j ≡ mid j) →
-    (shape : Shape) (E : List Placed) (seen : ℕ → List ℕ) →
-    AreServers shape E seen from → TapsGainFronts shape.servers seen old new
-gave-fronts {n} {from} {to} {old} {mid} {s} new gave within here front stay shape E seen are =
+    (shape : Shape) (Es : ℕ → List Placed) (seen : ℕ → List ℕ) →
+    AreServers shape Es seen from → TapsGainFronts shape.servers seen old new
+gave-fronts {n} {from} {to} {old} {mid} {s} new gave within here front stay shape Es seen are =
     fronts-here n shape.servers seen old mid new
-    (λ j low high. tap_of gave shape E seen are s j low high (omega (arith, high, within, gave.counted)))
+    (λ j low high. tap_of gave shape Es seen are s j low high (omega (arith, high, within, gave.counted)))
     gave.others (subst (GainsFront (mid (n + 1)) (new (n + 1))) saw front) stay
   where
     saw : s.seen.items ≡ seen (n + 1)
     saw =
         ap (λ (x : Server). x.seen.items) (here ∙ gave.left n s (omega arith))
-        ∙ server_at shape E seen from are n s (omega (arith, within, gave.counted))
+        ∙ server_at shape Es seen from are n s (omega (arith, within, gave.counted))

@@ -1,77 +1,98 @@
 -- What is kept of a run turn after turn, and what a shelf gives back.
-use Rattle.std.proofs.Common.{◌≡◌, refl, ap, ap₂, sym, subst, ◌∙◌, arith, inl, inr, ℕ, zero, suc, ◌+◌, ◌-◌, ◌*◌, ◌<◌, ◌≤◌}
-use Rattle.std.proofs.Common.{List, [], ◌∷◌, ◌++◌, length, Option, Some, None, Bool, cond, nat_le, ◌==◌}
-use Rattle.std.proofs.Common.{le-leb, eq-eqb, ne_eqb, length-append}
-use Rattle.std.proofs.lemmas.Bool.{cases_lt, lt-leb}
+use Rattle.std.proofs.Common.{◌≡◌, refl, ap, sym, subst, ◌∙◌, arith, inl, inr, ℕ, ◌+◌, ◌-◌, ◌*◌, ◌<◌, ◌≤◌}
+use Rattle.std.proofs.Common.{List, [], ◌∷◌, ◌++◌, length, Option, Some, None, Bool, true, false, cond}
+use Rattle.std.proofs.Common.{le-leb, eq-eqb, length-append, append-nil}
+use Rattle.std.proofs.lemmas.Bool.{cases_Bool, cases_lt, lt-leb, eqb-true, false≢true}
 use Rattle.std.proofs.lemmas.List.{get_or_push}
 use Rattle.std.proofs.Math.Nat.{mul-le-mul_right}
 use Rattle.std.specs.Prelude.{slice_index_or}
 use Rattle.tk_shape.specs.declared.shape.Shape.{Shape}
 use Rattle.tk_shape.specs.Lengths.{turn_count}
-use Rattle.tk_schedule.specs.declared.history.History.{History}
 use Rattle.tk_script.specs.declared.script.Script.{Script}
-use Rattle.tk_words.specs.Words.{WordBook}
-use Rattle.tk_checkpoint.specs.Saved.{saved}
-use Rattle.tk_report.specs.Entries.{entries_before}
-use Rattle.tk_run.specs.Keeping.{kept_at, kept_up_to, saved_before}
+use Rattle.tk_run.specs.Keeping.{is_due, kept_up_to, turn_due}
 
--- what a test keeps, and what two tests keep
+-- ---- the turn that is due
+
+pub is-due : (S : Script) (due : Option ℕ) (g : ℕ) → is_due due g ≡ true → turn_due S due ≡ g
+is-due S None g is = absurd (false≢true is)
+is-due S (Some due) g is = eqb-true due g is
+
+pub not-due : (S : Script) (due : Option ℕ) (g : ℕ) → g ≤ turn_count S.shape →
+    is_due due g ≡ false → turn_due S due ≡ g → ⊥
+not-due S None g low isnt same = omega (arith, low, same)
+not-due S (Some due) g low isnt same = false≢true (sym isnt ∙ eq-eqb due g same)
+
+-- where a turn isn't due, what was due up to it was due before it
+pub none-before : (S : Script) (due : Option ℕ) (g : ℕ) → g + 1 ≤ turn_count S.shape →
+    is_due due (g + 1) ≡ false → turn_due S due ≤ g + 1 → turn_due S due ≤ g
+none-before S due g within isnt low =
+    elim (cases_lt g (turn_due S due)) [
+      | inl later ↦ absurd (not-due S due (g + 1) within isnt (omega (arith, later, low)))
+      | inr earlier ↦ omega (arith, earlier)
+    ]
+
+-- so what holds of a keeper since the turn that was due held of it before this one, if it is another
+pub still-before : {K : Type 0} (S : Script) (due : Option ℕ) (g : ℕ) →
+    g + 1 ≤ turn_count S.shape → (was now : K) (P : K → Type 0) →
+    (is_due due (g + 1) ≡ false → now ≡ was) → (turn_due S due ≤ g + 1 → P now) →
+    turn_due S due ≤ g → P was
+still-before S due g within was now P same may low =
+    elim (cases_Bool (is_due due (g + 1))) [
+      | inl is ↦ absurd (omega (arith, low, is-due S due (g + 1) is))
+      | inr isnt ↦ subst P (same isnt) (may (omega (arith, low)))
+    ]
+
+-- ---- what is kept
+
 abbrev one : Bool → List ℕ → List (List ℕ)
 one test a = cond test (a ∷ []) []
 
-abbrev both : Bool → Bool → List ℕ → List ℕ → List (List ℕ)
-both before here a b = one before a ++ one here b
+-- from the turn that is due on its checkpoint, and before it nothing
+pub kept-since : (S : Script) (due : Option ℕ) (at : ℕ → List ℕ) (g : ℕ) → g ≤ turn_count S.shape →
+    turn_due S due ≤ g → kept_up_to due at g ≡ at (turn_due S due) ∷ []
+kept-since S None at g within low = absurd (omega (arith, within, low))
+kept-since S (Some due) at g within low = ap (λ (p : Bool). one p (at due)) (le-leb due g low)
 
-pub kept-first : (due : Option ℕ) (at : ℕ → List ℕ) → kept_at due 0 (at 0) ≡ kept_up_to due at 0
-kept-first None at = refl
-kept-first (Some due) at =
-    elim (cases_lt 0 due) [
-      | inl later ↦
-          ap (λ (p : Bool). one p (at 0)) (ne_eqb due 0 (omega (arith, later)))
-          ∙ sym (ap (λ (p : Bool). one p (at due)) (lt-leb due 0 later))
-      | inr here ↦
-          let same : due ≡ 0 = omega (arith, here) in
-          ap (λ (p : Bool). one p (at 0)) (eq-eqb due 0 same)
-          ∙ ap (λ n. at n ∷ []) (sym same)
-          ∙ sym (ap (λ (p : Bool). one p (at due)) (le-leb due 0 here))
-    ]
+pub kept-none : (S : Script) (due : Option ℕ) (at : ℕ → List ℕ) (g : ℕ) → g < turn_due S due →
+    kept_up_to due at g ≡ []
+kept-none S None at g later = refl
+kept-none S (Some due) at g later = ap (λ (p : Bool). one p (at due)) (lt-leb due g later)
 
-pub kept-next : (due : Option ℕ) (at : ℕ → List ℕ) (g : ℕ) →
-    kept_up_to due at g ++ kept_at due (g + 1) (at (g + 1)) ≡ kept_up_to due at (g + 1)
-kept-next None at g = refl
-kept-next (Some due) at g =
-    elim (cases_lt g due) [
+-- before a turn that is due nothing was kept, and then the checkpoint
+pub kept-then : (S : Script) (due : Option ℕ) (at : ℕ → List ℕ) (g : ℕ)
+    (before old new : List (List ℕ)) → g + 1 ≤ turn_count S.shape → is_due due (g + 1) ≡ true →
+    old ≡ before ++ kept_up_to due at g → new ≡ old ++ at (g + 1) ∷ [] →
+    new ≡ before ++ kept_up_to due at (g + 1)
+kept-then S due at g before old new within is was now =
+    let here = is-due S due (g + 1) is in
+    now
+    ∙ ap (λ (xs : List (List ℕ)). xs ++ at (g + 1) ∷ [])
+    (was ∙ ap (λ (xs : List (List ℕ)). before ++ xs) (kept-none S due at g (omega (arith, here)))
+    ∙ append-nil before)
+    ∙ ap (λ (n : ℕ). before ++ at n ∷ []) (sym here)
+    ∙ sym (ap (λ (xs : List (List ℕ)). before ++ xs)
+    (kept-since S due at (g + 1) within (omega (arith, here))))
+
+-- and where it isn't due what was kept stays
+pub kept-still : (S : Script) (due : Option ℕ) (at : ℕ → List ℕ) (g : ℕ) →
+    g + 1 ≤ turn_count S.shape → is_due due (g + 1) ≡ false →
+    kept_up_to due at g ≡ kept_up_to due at (g + 1)
+kept-still S due at g within isnt =
+    elim (cases_lt g (turn_due S due)) [
       | inl later ↦
-          elim (cases_lt (g + 1) due) [
-            | inl after ↦
-                ap₂ (λ (p q : Bool). both p q (at due) (at (g + 1))) (lt-leb due g later)
-                (ne_eqb due (g + 1) (omega (arith, after)))
-                ∙ sym (ap (λ (p : Bool). one p (at due)) (lt-leb due (g + 1) after))
-            | inr here ↦
-                let same : due ≡ g + 1 = omega (arith, later, here) in
-                ap₂ (λ (p q : Bool). both p q (at due) (at (g + 1))) (lt-leb due g later)
-                (eq-eqb due (g + 1) same)
-                ∙ ap (λ n. at n ∷ []) (sym same)
-                ∙ sym (ap (λ (p : Bool). one p (at due)) (le-leb due (g + 1) (omega (arith, here))))
+          elim (cases_lt (g + 1) (turn_due S due)) [
+            | inl after ↦ kept-none S due at g later ∙ sym (kept-none S due at (g + 1) after)
+            | inr here ↦ absurd (not-due S due (g + 1) within isnt (omega (arith, later, here)))
           ]
       | inr earlier ↦
-          ap₂ (λ (p q : Bool). both p q (at due) (at (g + 1))) (le-leb due g (omega (arith, earlier)))
-          (ne_eqb due (g + 1) (omega (arith, earlier)))
-          ∙ sym (ap (λ (p : Bool). one p (at due)) (le-leb due (g + 1) (omega (arith, earlier))))
+          kept-since S due at g (omega (arith, within)) (omega (arith, earlier))
+          ∙ sym (kept-since S due at (g + 1) within (omega (arith, earlier)))
     ]
-
-pub kept-all : (due n : ℕ) (at : ℕ → List ℕ) → due ≤ n → kept_up_to (Some due) at n ≡ at due ∷ []
-kept-all due n at low = ap (λ (p : Bool). one p (at due)) (le-leb due n low)
 
 -- the turn in which an epoch begins is one of the run's, or its end
 pub due-in : (shape : Shape) (epoch : ℕ) → epoch ≤ shape.phases →
     epoch * shape.ticks ≤ turn_count shape
 due-in shape epoch within = mul-le-mul_right shape.ticks within
-
-pub saved-first : (S : Script) (b : WordBook) (H : History) →
-    saved S.shape [] ≡ saved_before S b H 0
-unfolding entries_before
-saved-first S b H = refl
 
 last-of : (xs : List (List ℕ)) (x : List ℕ) →
     slice_index_or (xs ++ x ∷ []) (length (xs ++ x ∷ []) - 1) [] ≡ x

@@ -43,3 +43,6 @@ pub mod AnsweredLaws
 pub mod OrderedPlaces
 pub mod KeepingLaws
 pub mod RangedLaws
+pub mod UnderLaws
+pub mod HoldingLaws
+pub mod EndLaws

@@ -1,5 +1,5 @@
 -- A server that takes an entry, and one that answers reads.
-use Rattle.std.proofs.Common.{◌≡◌, refl, ap, ap₂, sym, ◌∙◌, arith, ℕ, zero, suc, ◌+◌, ◌-◌, ◌<◌, ◌≤◌, List, [], ◌∷◌, ◌++◌}
+use Rattle.std.proofs.Common.{◌≡◌, refl, ap, ap₂, sym, subst, ◌∙◌, arith, ℕ, zero, suc, ◌+◌, ◌-◌, ◌<◌, ◌≤◌, List, [], ◌∷◌, ◌++◌}
 use Rattle.std.proofs.Common.{length, map, take, flat_map, append_assoc, append-nil, add-one, cond, true, false}
 use Rattle.std.specs.Prelude.{slice_index_or}
 use Rattle.std.specs.List.{AllByRecursion}
@@ -8,14 +8,20 @@ use Rattle.tk_shape.specs.declared.shape.Shape.{Shape}
 use Rattle.tk_frames.specs.declared.entry.Placed.{Placed}
 use Rattle.tk_frames.specs.declared.read_frame.ReadFrame.{ReadFrame}
 use Rattle.tk_frames.specs.Order.{before, is_mark}
-use Rattle.tk_frames.specs.Ranges.{IsRead}
+use Rattle.tk_frames.specs.declared.entry.Entry.{Entry}
+use Rattle.tk_frames.specs.declared.entry.Entry.TheVariants.{Write, Mark}
+use Rattle.tk_frames.specs.Ranges.{IsRead, IsPlaced}
 use Rattle.tk_frames.specs.Spelling.{read_frame, reply_frame}
-use Rattle.tk_frames.specs.InOrder.{mark_count}
+use Rattle.tk_frames.specs.InOrder.{mark_count, IsNext, IsNextAt, HasNumber}
 use Rattle.tk_frames.proofs.Offers.{marks-push, read-again}
+use Rattle.tk_replica.specs.Replica.{ReplicaView}
+use Rattle.tk_replica.specs.Keeping.{Numbers, numbers_of, numbers_with, numbers_behind, Applied}
 use Rattle.tk_replica.specs.Replies.{reply_for, reply_due, reply_bytes}
 use Rattle.tk_report.specs.Exchange.{bytes_of, with_reply}
 use Rattle.tk_run.specs.Rows.{Frame, in_pairs}
-use Rattle.tk_run.specs.Servers.{AreReads, answered}
+use Rattle.tk_report.proofs.Offers.{none-displaced}
+use Rattle.tk_run.specs.declared.server.Server.{Server}
+use Rattle.tk_run.specs.Servers.{AreReads, IsReady, IsServer, answered}
 
 -- ---- an entry
 
@@ -28,6 +34,41 @@ floor-next E p floor last low at =
       | true ↦ λ counted. omega (arith, at, counted)
       | false ↦ λ counted. omega (arith, low, counted)
     ] (marks-push E p)
+
+-- a server before any entry
+pub ready-opened : (shape : Shape) (s : Server) → IsServer shape [] [] s → IsReady shape [] s
+ready-opened shape s is =
+    record {
+      same = is.state.same;
+      last = is.state.last;
+      some = is.state.some;
+      displaced = omega (arith, is.displaced, none-displaced shape);
+    }
+
+-- what may stand next for a state of these numbers
+pub ready-next : (shape : Shape) (E : List Placed) (s : ReplicaView) (p : Placed) →
+    s.shape ≡ shape → s.last ≡ mark_count E → p.position - 1 ≡ s.applied → IsNext shape E p →
+    IsNextAt s.shape (s.applied + 1) (s.last + 1) p
+ready-next shape E s p same last applied next =
+    record {
+      at = omega (arith, applied, next.in_range.position_low);
+      in_range = subst (λ sh. IsPlaced sh p) (sym same) next.in_range;
+      number = subst (λ n. HasNumber (n + 1) p.entry) (sym last) next.number;
+    }
+
+last-with : (n : Numbers) (x : Entry) (m : ℕ) → n.last ≡ m → HasNumber (m + 1) x →
+    (numbers_with n x).last ≡ m + cond (is_mark x) 1 0
+last-with n (Write w) m at due = omega (arith, at)
+last-with n (Mark e) m at due = due
+
+-- a state has seen one mark more where the entry is one
+pub last-next : (E : List Placed) (p : Placed) (old new : ReplicaView) →
+    old.last ≡ mark_count E → HasNumber (mark_count E + 1) p.entry →
+    numbers_of new ≡ numbers_behind (numbers_of old) (Applied p) →
+    new.last ≡ mark_count (E ++ p ∷ [])
+last-next E p old new at due numbers =
+    ap (λ (n : Numbers). n.last) numbers
+    ∙ last-with (numbers_of old) p.entry (mark_count E) at due ∙ sym (marks-push E p)
 
 -- ---- reads
 

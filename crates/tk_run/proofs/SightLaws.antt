@@ -24,7 +24,7 @@ use Rattle.tk_run.specs.Turns.{reply_at, entries_seen}
 use Rattle.tk_run.specs.Ran.{Ran}
 use Rattle.tk_run.specs.Rows.{AreRows}
 use Rattle.tk_run.specs.Courses.{GoesOn, IsTalk, AreTalks, HasTalked, talk_seen, AreSights, IsCourse, HasWritten}
-use Rattle.tk_run.proofs.SeenLaws.{turn_seen-parts}
+use Rattle.tk_run.proofs.SeenLaws.{turn-parts}
 use Rattle.tk_run.proofs.GoesOnLaws.{filled, filled_legal, filled_begins}
 
 -- what a list gives, place by place
@@ -102,7 +102,7 @@ module _ {S : Script} {b : WordBook} {H : History} {g : ℕ} where
             rows.each i d low
             ∙ (ap₂ (λ (x y : List ℕ). x ++ y) are
             (back ∙ ap (λ n. flat_map reads (range_with_len 0 n)) spoken.counted)
-            ∙ turn_seen-parts S b H g (i + 1));
+            ∙ turn-parts S b H (read_answered S b H) g (i + 1));
       }
 
 -- when all have read, the run stands before the next turn

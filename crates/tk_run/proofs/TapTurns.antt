@@ -11,7 +11,7 @@ use Rattle.tk_words.specs.Words.{WordBook}
 use Rattle.tk_io.specs.Tapped.{GainsFront, TapsGain, TapsGainFronts, TapsKeepBut}
 use Rattle.tk_io.proofs.Offers.{taps-same}
 use Rattle.tk_order.proofs.Offers.{prefix_trans}
-use Rattle.tk_report.specs.Exchange.{exchange, bytes_of}
+use Rattle.tk_report.specs.Exchange.{exchange, read_answered, bytes_of}
 use Rattle.tk_run.specs.Turns.{turn_seen, seen_before}
 use Rattle.tk_run.specs.Courses.{GoesOn, AreSights}
 use Rattle.tk_run.proofs.SeenLaws.{taps-first, taps-next, taps-all, fronts-next}
@@ -68,7 +68,7 @@ pub record GainedBefore (S : Script) (b : WordBook) (g : ℕ) (turns : List Turn
 
 pub gained_first : (S : Script) (b : WordBook) (turns : List TurnOrder) (taps : Taps) →
     GainedBefore S b 0 turns taps taps
-gained_first S b turns taps = record { in_each = λ H goes. taps-first S b H taps }
+gained_first S b turns taps = record { in_each = λ H goes. taps-first S b H (read_answered S b H) taps }
 
 module _ {S : Script} {b : WordBook} {g : ℕ} {before : List TurnOrder} {old now : Taps}
     (so_far : GainedBefore S b g before old now) where
@@ -78,17 +78,17 @@ module _ {S : Script} {b : WordBook} {g : ℕ} {before : List TurnOrder} {old no
       GainedBefore S b (g + 1) after old new
   gained_next {after} {new} p turn =
       record {
-        in_each = λ H goes. taps-next S b H g old now new
+        in_each = λ H goes. taps-next S b H (read_answered S b H) g old now new
             (so_far.in_each H (goes_on_before before p goes)) (turn H goes);
       }
 
   -- after all turns it is the whole exchange
   pub gained_all : g ≡ turn_count S.shape → (H : History) → GoesOn S.shape before H →
       TapsGain S.shape.servers (λ (j : ℕ). bytes_of (exchange S b H j)) old now
-  gained_all all H goes = taps-all S b H g old now all (so_far.in_each H goes)
+  gained_all all H goes = taps-all S b H (read_answered S b H) g old now all (so_far.in_each H goes)
 
   -- where a turn stopped, a front of it
   pub gained_fronts : (H : History) (new : Taps) → g < turn_count S.shape → GoesOn S.shape before H →
       TapsGainFronts S.shape.servers (turn_seen S b H g) now new →
       TapsGainFronts S.shape.servers (λ (j : ℕ). bytes_of (exchange S b H j)) old new
-  gained_fronts H new low goes turn = fronts-next S b H g old now new low (so_far.in_each H goes) turn
+  gained_fronts H new low goes turn = fronts-next S b H (read_answered S b H) g old now new low (so_far.in_each H goes) turn

@@ -11,3 +11,5 @@ pub mod Answering
 pub mod Threads
 pub mod Keeping
 pub mod Ranged
+pub mod Under
+pub mod Errors

@@ -1,4 +1,4 @@
--- A server of a run: the entries that its replica has applied, and what it saw.
+-- The servers of a run: the entries that the replica of each has applied, and what it saw.
 use Rattle.std.specs.Prelude.{◌≡◌, ℕ, ◌+◌, ◌-◌, ◌<◌, ◌≤◌, List, [], ◌++◌, length, map, flat_map}
 use Rattle.std.specs.Prelude.{slice_index_or}
 use Rattle.std.specs.List.{AllByRecursion}
@@ -13,6 +13,9 @@ use Rattle.tk_replica.specs.Replica.{StandsFor}
 use Rattle.tk_report.specs.Displaced.{displaced_in}
 use Rattle.tk_report.specs.Exchange.{bytes_of, with_reply}
 use Rattle.tk_run.specs.declared.server.Server.{Server}
+use Rattle.tk_run.specs.declared.servers.Servers.{Servers}
+
+-- ---- what a server holds
 
 -- Its replica has applied these entries and keeps no epoch before the last two, it saw these bytes
 -- since they were last given away, and it counted the displaced writes.
@@ -22,41 +25,69 @@ pub record IsServer (shape : Shape) (E : List Placed) (bytes : List ℕ) (s : Se
   pub seen : s.seen.items ≡ bytes
   pub displaced : s.displaced ≡ displaced_in shape E
 
--- a server for each number from 1 on; seen gives what each saw
-pub record AreServers (shape : Shape) (E : List Placed) (seen : ℕ → List ℕ)
+-- A server for each number from 1 on. Es gives what each holds, which is the same for all where none
+-- was given anything else, and seen what each saw.
+pub record AreServers (shape : Shape) (Es : ℕ → List Placed) (seen : ℕ → List ℕ)
     (servers : List Server) : Type 0 where
   pub counted : length servers ≡ shape.servers
   pub each : (i : ℕ) (d : Server) → i < length servers →
-      IsServer shape E (seen (i + 1)) (slice_index_or servers i d)
+      IsServer shape (Es (i + 1)) (seen (i + 1)) (slice_index_or servers i d)
+
+-- all hold these entries
+abbrev pub alike : List Placed → ℕ → List Placed
+alike E j = E
 
 -- a server has seen nothing that isn't given away
 abbrev pub nothing_seen : ℕ → List ℕ
 nothing_seen j = []
 
+-- ---- what holds of each, whatever it was given
+
+-- It has seen as many marks as there are among these entries, whatever its table has, and no more writes
+-- were displaced than these are.
+pub record IsReady (shape : Shape) (E : List Placed) (s : Server) : Type 0 where
+  pub same : s.state.shape ≡ shape
+  pub last : s.state.last ≡ mark_count E
+  pub some : s.state.floor ≤ s.state.last
+  pub displaced : s.displaced ≤ length E
+
+pub record AreReady (shape : Shape) (E : List Placed) (servers : List Server) : Type 0 where
+  pub counted : length servers ≡ shape.servers
+  pub order : IsOrder shape E
+  pub each : (i : ℕ) (d : Server) → i < length servers →
+      IsReady shape E (slice_index_or servers i d)
+
+-- ---- taking entries
+
 -- a server for which this entry is the next one
 pub record MayTake (p : Placed) (s : Server) : Type 0 where
   pub shape : Shape
   pub E : List Placed
-  pub bytes : List ℕ
-  pub is : IsServer shape E bytes s
+  pub is : IsReady shape E s
   pub next : IsNext shape E p
 
 -- servers for which it is
 pub record MayTakeAll (p : Placed) (servers : List Server) : Type 0 where
   pub shape : Shape
   pub E : List Placed
-  pub seen : ℕ → List ℕ
-  pub are : AreServers shape E seen servers
+  pub are : AreReady shape E servers
   pub next : IsNext shape E p
 
 -- what each server saw of entries that it took
 abbrev pub taken_seen : List Placed → ℕ → List ℕ
 taken_seen F j = flat_map placed_frame F
 
--- servers that took the second after the first, of which they had nothing that isn't given away
-pub record HaveTaken (shape : Shape) (E F : List Placed) (servers : List Server) : Type 0 where
-  pub order : IsOrder shape (E ++ F)
-  pub are : AreServers shape (E ++ F) (taken_seen F) servers
+-- entries behind those that each holds
+abbrev pub with_more : (ℕ → List Placed) → List Placed → ℕ → List Placed
+with_more Es F j = Es j ++ F
+
+-- Servers that took the second entries after the first, and each behind those that it held.
+pub record HaveTaken (was : Servers) (shape : Shape) (E F : List Placed) (servers : Servers)
+    : Type 0 where
+  pub taken : servers.taken ≡ length (E ++ F)
+  pub ready : AreReady shape (E ++ F) servers.list.items
+  pub are : (Es : ℕ → List Placed) → AreServers shape Es nothing_seen was.list.items →
+      AreServers shape (with_more Es F) (taken_seen F) servers.list.items
 
 -- ---- reads
 
@@ -68,12 +99,3 @@ answered shape E reads = flat_map (λ r. bytes_of (with_reply shape (before E r.
 pub record AreReads (shape : Shape) (reads : List ReadFrame) (frames : List (List ℕ)) : Type 0 where
   pub in_range : AllByRecursion (IsRead shape) reads
   pub spelled : frames ≡ map read_frame reads
-
--- a server that is asked such reads
-pub record MayAnswer (frames : List (List ℕ)) (s : Server) : Type 0 where
-  pub shape : Shape
-  pub E : List Placed
-  pub bytes : List ℕ
-  pub reads : List ReadFrame
-  pub is : IsServer shape E bytes s
-  pub are : AreReads shape reads frames

@@ -1,13 +1,14 @@
-ghost use Rattle.std.specs.Prelude.{◌≡◌, ◌<◌, ◌+◌, map, IfOk, OnOk};
+ghost use Rattle.std.specs.Prelude.{◌≡◌, ◌<◌, ◌+◌, ℕ, List, length, map, IfOk, OnOk};
 ghost use Rattle.std.specs.List.{range_with_len};
 ghost use Rattle.tk_shape.specs.Lengths.{turn_count};
-ghost use Rattle.tk_words.specs.Words.{words_of};
+ghost use Rattle.tk_frames.specs.declared.entry.Placed.{Placed};
 ghost use Rattle.tk_frames.specs.Spelling.{read_frame};
 ghost use Rattle.tk_replica.specs.Replica.{StandsFor};
-ghost use Rattle.tk_report.specs.Exchange.{read_at};
-ghost use Rattle.tk_run.specs.Clients.{AreClients, client_wrote, client_asked};
+ghost use Rattle.tk_report.specs.Clients.{AreClients};
+ghost use Rattle.tk_report.specs.Serving.{Serving, read_under};
 ghost use Rattle.tk_run.specs.Rows.{AreRows};
-ghost use Rattle.tk_run.specs.Turns.{placed_before, posed};
+ghost use Rattle.tk_run.specs.Under.{AreAsking, AreIdle, IsAsking, IsIdle, Serves};
+ghost use Rattle.tk_run.specs.Under.{asked_under, posed, wrote_under};
 
 use crate::frames::{Frames, deal, empty_rows};
 use crate::server::Server;
@@ -28,21 +29,25 @@ pub(crate) fn ask_all<D: Draws>(
     server: &Server,
 ) -> Result<Vec<Frames>, Memory>
     requires turn_in { turn < turn_count plan.now.script.now.shape }
-    requires clients { let S = plan.now.script.now in
-        let words = words_of S.shape (D.book plan.now.draws.now) in
-        AreClients S.shape.clients (client_wrote S words plan.now.history.now turn) clients.old }
-    requires server { let S = plan.now.script.now in
-        let words = words_of S.shape (D.book plan.now.draws.now) in
-        StandsFor S.shape (placed_before S words plan.now.history.now (turn + 1))
-        server.now.state }
-    ensures clients { let S = plan.now.script.now in
-        let words = words_of S.shape (D.book plan.now.draws.now) in
-        OnOk result (AreClients S.shape.clients
-        (client_asked S words plan.now.history.now turn) clients.new) }
+    requires clients { AreIdle plan.now.script.now (turn + 1) clients.old }
+    ensures clients { OnOk result
+        (AreAsking plan.now.script.now plan.now.history.now turn clients.new) }
+    ensures counted { IfOk result (λ rows. length rows.items ≡ plan.now.script.now.shape.servers) }
+    ensures asked { let S = plan.now.script.now in
+        let book = D.book plan.now.draws.now in
+        let history = plan.now.history.now in
+        (V : Serving) (Es : ℕ → List Placed) → Serves S book history V turn Es
+        → StandsFor S.shape (Es 1) server.now.state
+        → AreClients S.shape.clients (wrote_under S book history V turn) clients.old
+        → OnOk result (AreClients S.shape.clients (asked_under S book history V turn) clients.new) }
     ensures posed { let S = plan.now.script.now in
         let book = D.book plan.now.draws.now in
-        IfOk result (λ rows. AreRows S.shape.servers
-        (posed S book plan.now.history.now turn S.shape.clients) rows.items) }
+        let history = plan.now.history.now in
+        (V : Serving) (Es : ℕ → List Placed) → Serves S book history V turn Es
+        → StandsFor S.shape (Es 1) server.now.state
+        → AreClients S.shape.clients (wrote_under S book history V turn) clients.old
+        → IfOk result (λ rows. AreRows S.shape.servers
+        (posed S book history V turn S.shape.clients) rows.items) }
 {
     let mut rows = empty_rows(alloc, plan.script.shape.servers)?;
     'asking: for (i, client) in clients.iter_mut().enumerate() {
@@ -66,21 +71,24 @@ fn ask<D: Draws>(
 ) -> Result<Vec<Bytes>, Memory>
     requires turn_in { spot.turn < turn_count plan.now.script.now.shape }
     requires client_in { spot.place < plan.now.script.now.shape.clients }
-    requires client { let S = plan.now.script.now in
-        let words = words_of S.shape (D.book plan.now.draws.now) in
-        client.old ≡ client_wrote S words plan.now.history.now spot.turn spot.place }
-    requires server { let S = plan.now.script.now in
-        let words = words_of S.shape (D.book plan.now.draws.now) in
-        StandsFor S.shape (placed_before S words plan.now.history.now (spot.turn + 1))
-        server.now.state }
-    ensures client { let S = plan.now.script.now in
-        let words = words_of S.shape (D.book plan.now.draws.now) in
-        OnOk result (client.new
-        ≡ client_asked S words plan.now.history.now spot.turn spot.place) }
+    requires client { IsIdle plan.now.script.now (spot.turn + 1) spot.place client.old }
+    ensures client { OnOk result
+        (IsAsking plan.now.script.now plan.now.history.now spot.turn spot.place client.new) }
+    ensures asked { let S = plan.now.script.now in
+        let book = D.book plan.now.draws.now in
+        let history = plan.now.history.now in
+        (V : Serving) (Es : ℕ → List Placed) → Serves S book history V spot.turn Es
+        → StandsFor S.shape (Es 1) server.now.state
+        → client.old ≡ wrote_under S book history V spot.turn spot.place
+        → OnOk result (client.new ≡ asked_under S book history V spot.turn spot.place) }
     ensures frames { let S = plan.now.script.now in
         let book = D.book plan.now.draws.now in
-        IfOk result (λ frames. frames.items
-        ≡ map (λ j. read_frame (read_at S book plan.now.history.now spot.turn spot.place j))
+        let history = plan.now.history.now in
+        (V : Serving) (Es : ℕ → List Placed) → Serves S book history V spot.turn Es
+        → StandsFor S.shape (Es 1) server.now.state
+        → client.old ≡ wrote_under S book history V spot.turn spot.place
+        → IfOk result (λ frames. frames.items
+        ≡ map (λ j. read_frame (read_under S book history V spot.turn spot.place j))
         (range_with_len 1 S.shape.servers)) }
 {
     let epoch = plan.history.epoch(spot.turn, spot.place);

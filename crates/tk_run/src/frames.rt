@@ -57,9 +57,12 @@ pub(crate) fn empty_rows(alloc: Global, count: u32) -> Result<Vec<Frames>, Memor
 
 /// Puts each frame after the frames of its place's list.
 pub(crate) fn deal(rows: &mut [Frames], mut frames: Vec<Bytes>) -> Result<(), Memory>
-    requires { length frames.items ≡ length rows.old }
     ensures { OnOk result (AreAdded rows.old frames.items rows.new) }
 {
+    // (there is one for each list)
+    if frames.len() != rows.len() {
+        return Err(Memory);
+    }
     'dealing: while let Some(frame) = frames.pop() {
         rows[frames.len()].push(frame)?;
     }

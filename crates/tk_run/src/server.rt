@@ -1,15 +1,25 @@
-ghost use Rattle.std.specs.Prelude.{◌≡◌, ◌≤◌, cond, List};
+ghost use Rattle.std.specs.Prelude.{◌≡◌, ◌≢◌, ◌≤◌, ◌<◌, ◌+◌, ◌^◌, ◌++◌, ◌∷◌, [], cond, List};
+ghost use Rattle.std.specs.Prelude.{IfOk, IfErr, OnOk};
 ghost use Rattle.tk_shape.specs.declared.shape.Shape.{Shape};
 ghost use Rattle.tk_frames.specs.declared.entry.Placed.{Placed};
 ghost use Rattle.tk_frames.specs.Order.{is_mark};
+ghost use Rattle.tk_table.specs.Puts.{put_of};
 ghost use Rattle.tk_replica.specs.Replica.{StandsFor};
+ghost use Rattle.tk_replica.specs.Restoring.{EndsWithMark};
+ghost use Rattle.tk_frames.specs.InOrder.{IsOrder};
+ghost use Rattle.tk_checkpoint.specs.Saved.{saved, saved_of};
+ghost use Rattle.tk_checkpoint.specs.Reading.{saved_in};
+ghost use Rattle.tk_checkpoint.specs.Sound.{IsSound};
+ghost use Rattle.tk_report.specs.Displaced.{displaced_in};
 
+use crate::resume_error::ResumeError;
 use std::alloc::Global;
-use tk_checkpoint::{checkpoint, restore, written_at_marks};
+use tk_checkpoint::{RestoreError, checkpoint, restore, written_at_marks};
 use tk_frames::{Entry, Placed, Spare, encode_placed};
 use tk_replica::ReplicaState;
 use tk_report::displaced_with;
 use tk_shape::{Bytes, Memory, Shape};
+use tk_table::Put;
 
 /// A server: its replica, the frames that came and went since they were last given to its tap, and
 /// how many writes found no place when they came.
@@ -23,16 +33,18 @@ pub(crate) struct Server {
 }
 
 impl Server {
-    ghost use Rattle.std.specs.Prelude.{◌≡◌, ◌++◌, ◌∷◌, [], ℕ, List, length, map, IfOk, OnOk};
+    ghost use Rattle.std.specs.Prelude.{◌≡◌, ◌≢◌, ◌++◌, ◌∷◌, [], ℕ, List, length, map, IfOk, IfErr, OnOk};
     ghost use Rattle.tk_shape.specs.declared.shape.Shape.{Shape};
     ghost use Rattle.tk_frames.specs.declared.entry.Placed.{Placed};
     ghost use Rattle.tk_frames.specs.declared.read_frame.ReadFrame.{ReadFrame};
     ghost use Rattle.tk_frames.specs.Spelling.{placed_frame, reply_frame};
-    ghost use Rattle.tk_frames.specs.InOrder.{IsNext};
+    ghost use Rattle.tk_frames.specs.InOrder.{IsNext, IsOrder};
     ghost use Rattle.tk_replica.specs.Replies.{reply_for};
     ghost use Rattle.tk_replica.specs.Restoring.{EndsWithMark};
     ghost use Rattle.tk_checkpoint.specs.Saved.{saved};
-    ghost use Rattle.tk_run.specs.Servers.{IsServer, MayTake, MayAnswer, AreReads, answered};
+    ghost use Rattle.tk_checkpoint.specs.Sound.{IsSound};
+    ghost use Rattle.tk_report.specs.Displaced.{displaced_in};
+    ghost use Rattle.tk_run.specs.Servers.{IsServer, IsReady, MayTake, AreReads, answered};
     ghost use Rattle.tk_run.specs.Rows.{in_pairs};
     ghost use Rattle.tk_run.specs.Keeping.{HasBegunAnew};
 
@@ -52,22 +64,29 @@ impl Server {
     /// that there are never more than two.
     pub(crate) fn take(&mut self, alloc: Global, placed: &Placed) -> Result<(), Memory>
         requires { MayTake placed.now self.old }
-        ensures { (shape : Shape) (E : List Placed) (bytes : List ℕ)
-            → IsServer shape E bytes self.old → IsNext shape E placed.now
-            → OnOk result
+        ensures ready { (shape : Shape) (E : List Placed)
+            → IsReady shape E self.old → IsNext shape E placed.now
+            → OnOk result (IsReady shape (E ++ placed.now ∷ []) self.new) }
+        ensures server { (shape : Shape) (E : List Placed) (bytes : List ℕ)
+            → IsServer shape E bytes self.old → OnOk result
             (IsServer shape (E ++ placed.now ∷ []) (bytes ++ placed_frame placed.now) self.new) }
     {
+        // (its replica has applied as many as came before)
+        if placed.position - 1 != self.state.applied() {
+            return Err(Memory);
+        }
         encode_placed(placed, &mut self.seen)?;
         make_room(&mut self.state, &placed.entry);
         let put = self.state.apply_and_tell(alloc, placed)?;
-        self.displaced = displaced_with(self.displaced, put);
+        self.displaced = counted_on(self.displaced, put);
         Ok(())
     }
 
     /// The replies to reads, in their order, in one pass over what the server holds. It sees each
     /// read and its reply.
     pub(crate) fn answer(&mut self, alloc: Global, frames: &[Bytes]) -> Result<Vec<Bytes>, Memory>
-        requires { MayAnswer frames.now self.old }
+        ensures ready { (shape : Shape) (E : List Placed) → IsReady shape E self.old
+            → OnOk result (IsReady shape E self.new) }
         ensures replies { (shape : Shape) (E : List Placed) (bytes : List ℕ)
             (reads : List ReadFrame)
             → IsServer shape E bytes self.old → AreReads shape reads frames.now
@@ -83,6 +102,10 @@ impl Server {
         let Ok(replies) = self.state.serve_all_with(alloc, &mut self.spare, frames) else {
             return Err(Memory);
         };
+        // (there is a reply to each)
+        if replies.len() != frames.len() {
+            return Err(Memory);
+        }
         self.see(frames, replies.as_slice())?;
         Ok(replies)
     }
@@ -104,18 +127,28 @@ impl Server {
         Ok(out)
     }
 
-    /// Its replica is made anew, of what these bytes have and nothing else. A checkpoint has no count
-    /// of displaced writes, so that the server's own goes on.
-    pub(crate) fn go_on(&mut self, alloc: Global, shape: &Shape, bytes: &[u8]) -> Result<(), Memory>
+    /// Its replica is made anew, of what these bytes have and nothing else. A checkpoint of other
+    /// numbers of entries and marks than it has applied is refused. A checkpoint has no count of
+    /// displaced writes, so that the server's own goes on.
+    pub(crate) fn go_on(
+        &mut self,
+        alloc: Global,
+        shape: &Shape,
+        bytes: &[u8],
+    ) -> Result<(), ResumeError>
+        ensures sound { OnOk result (IsSound shape.now bytes.now) }
         ensures anew { OnOk result (HasBegunAnew shape.now bytes.now self.new) }
-        ensures stands { (E : List Placed) (seen : List ℕ) → IsServer shape.now E seen self.old
-            → EndsWithMark E → bytes.now ≡ saved shape.now E
-            → OnOk result (IsServer shape.now E seen self.new) }
+        ensures ready { (E : List Placed) → IsReady shape.now E self.old
+            → OnOk result (IsReady shape.now E self.new) }
+        ensures stands { (E F : List Placed) (seen : List ℕ) → IsServer shape.now E seen self.old
+            → IsOrder shape.now F → EndsWithMark F → displaced_in shape.now F ≡ displaced_in shape.now E
+            → bytes.now ≡ saved shape.now F → OnOk result (IsServer shape.now F seen self.new) }
+        ensures not_taps { IfErr result (λ e. e ≢ ResumeError.Taps) }
     {
-        // what is saved is sound, so that only memory may be wanting
-        let Ok(state) = restore(alloc, shape, bytes) else {
-            return Err(Memory);
-        };
+        let state = restored(alloc, shape, bytes)?;
+        if state.applied() != self.state.applied() || state.last() != self.state.last() {
+            return Err(ResumeError::Refused);
+        }
         self.state = state;
         Ok(())
     }
@@ -136,9 +169,40 @@ impl Server {
     }
 }
 
+/// The state that the bytes of a checkpoint have.
+fn restored(alloc: Global, shape: &Shape, bytes: &[u8]) -> Result<ReplicaState, ResumeError>
+    ensures sound { OnOk result (IsSound shape.now bytes.now) }
+    ensures shape { IfOk result (λ s. s.shape ≡ shape.now) }
+    ensures floor { IfOk result (λ s. s.floor ≡ s.last) }
+    ensures parts { IfOk result (λ s. saved_of s ≡ saved_in shape.now bytes.now) }
+    ensures stands { (E : List Placed) → IsOrder shape.now E → EndsWithMark E
+        → bytes.now ≡ saved shape.now E → IfOk result (StandsFor shape.now E) }
+    ensures not_taps { IfErr result (λ e. e ≢ ResumeError.Taps) }
+{
+    match restore(alloc, shape, bytes) {
+        Ok(state) => Ok(state),
+        Err(RestoreError::Memory) => Err(ResumeError::Memory),
+        Err(_) => Err(ResumeError::Refused),
+    }
+}
+
+/// How many writes are displaced, where so many were before and this became of the last entry.
+fn counted_on(before: u32, put: Option<Put>) -> u32
+    requires { before + 1 < 2 ^ 32 }
+    ensures most { result ≤ before + 1 }
+    ensures counts { (shape : Shape) (E : List Placed) (p : Placed) → before ≡ displaced_in shape E
+        → put ≡ put_of shape E p → result ≡ displaced_in shape (E ++ p ∷ []) }
+{
+    displaced_with(before, put).min(before + 1)
+}
+
 /// Where a mark comes, lets all epochs but the last go.
 fn make_room(state: &mut ReplicaState, entry: &Entry)
     requires { state.old.floor ≤ state.old.last }
+    ensures same { state.new.shape ≡ state.old.shape }
+    ensures applied { state.new.applied ≡ state.old.applied }
+    ensures last { state.new.last ≡ state.old.last }
+    ensures some { state.new.floor ≤ state.new.last }
     ensures stands { (shape : Shape) (E : List Placed)
         → StandsFor shape E state.old → StandsFor shape E state.new }
     ensures floor { state.new.floor

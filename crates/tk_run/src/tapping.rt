@@ -2,7 +2,7 @@ ghost use Rattle.std.specs.Prelude.{◌≡◌, ◌≢◌, ◌≤◌, ℕ, [], Li
 ghost use Rattle.tk_io.specs.Content.{Rose, gained};
 ghost use Rattle.tk_shape.specs.declared.shape.Shape.{Shape};
 ghost use Rattle.tk_frames.specs.declared.entry.Placed.{Placed};
-ghost use Rattle.tk_run.specs.Servers.{IsServer, AreServers, nothing_seen};
+ghost use Rattle.tk_run.specs.Servers.{IsServer, IsReady, AreReady, AreServers, nothing_seen};
 ghost use Rattle.tk_io.specs.Tapped.{GainsFront, TapsGain, TapsGainFronts, TapsKeepBut};
 
 use crate::server::Server;
@@ -12,14 +12,16 @@ use tk_io::{Failed, Taps};
 /// given.
 pub(crate) fn give_all<T: Taps>(servers: &mut [Server], taps: &mut T) -> Result<(), Failed>
     requires { length servers.old ≤ 8 }
-    ensures servers { (shape : Shape) (E : List Placed) (seen : ℕ → List ℕ)
-        → AreServers shape E seen servers.old
-        → OnOk result (AreServers shape E nothing_seen servers.new) }
-    ensures ok { (shape : Shape) (E : List Placed) (seen : ℕ → List ℕ)
-        → AreServers shape E seen servers.old
+    ensures ready { (shape : Shape) (E : List Placed) → AreReady shape E servers.old
+        → OnOk result (AreReady shape E servers.new) }
+    ensures servers { (shape : Shape) (Es : ℕ → List Placed) (seen : ℕ → List ℕ)
+        → AreServers shape Es seen servers.old
+        → OnOk result (AreServers shape Es nothing_seen servers.new) }
+    ensures ok { (shape : Shape) (Es : ℕ → List Placed) (seen : ℕ → List ℕ)
+        → AreServers shape Es seen servers.old
         → OnOk result (TapsGain shape.servers seen (T.tap taps.old) (T.tap taps.new)) }
-    ensures err { (shape : Shape) (E : List Placed) (seen : ℕ → List ℕ)
-        → AreServers shape E seen servers.old
+    ensures err { (shape : Shape) (Es : ℕ → List Placed) (seen : ℕ → List ℕ)
+        → AreServers shape Es seen servers.old
         → OnErr result (TapsGainFronts shape.servers seen (T.tap taps.old) (T.tap taps.new)) }
     ensures others { TapsKeepBut (length servers.old) (T.tap taps.old) (T.tap taps.new) }
     ensures rose { OnErr result (Rose (T.faults taps.old) (T.faults taps.new)) }
@@ -35,6 +37,8 @@ pub(crate) fn give_all<T: Taps>(servers: &mut [Server], taps: &mut T) -> Result<
 fn give<T: Taps>(server: &mut Server, number: u32, taps: &mut T) -> Result<(), Failed>
     requires low { 1 ≤ number }
     requires high { number ≤ 8 }
+    ensures ready { (shape : Shape) (E : List Placed) → IsReady shape E server.old
+        → OnOk result (IsReady shape E server.new) }
     ensures server { (shape : Shape) (E : List Placed) (bytes : List ℕ)
         → IsServer shape E bytes server.old → OnOk result (IsServer shape E [] server.new) }
     ensures ok { let seen = server.old.seen.items in

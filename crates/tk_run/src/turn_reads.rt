@@ -1,12 +1,20 @@
-ghost use Rattle.std.specs.Prelude.{◌≡◌, ◌<◌, ◌+◌, map, IfOk, OnOk};
+ghost use Rattle.std.specs.Prelude.{◌≡◌, ◌≤◌, ◌<◌, ◌+◌, ℕ, List, length, map, IfOk, OnOk};
 ghost use Rattle.std.specs.List.{range_with_len};
+ghost use Rattle.tk_shape.specs.declared.shape.Shape.{Shape};
 ghost use Rattle.tk_shape.specs.Lengths.{turn_count};
 ghost use Rattle.tk_words.specs.Words.{words_of};
+ghost use Rattle.tk_frames.specs.declared.entry.Placed.{Placed};
+ghost use Rattle.tk_frames.specs.InOrder.{IsOrder};
 ghost use Rattle.tk_frames.specs.Spelling.{reply_frame};
-ghost use Rattle.tk_run.specs.Clients.{AreClients, client_wrote, client_asked, client_before};
+ghost use Rattle.tk_report.specs.Clients.{AreClients};
+ghost use Rattle.tk_report.specs.Serving.{Serving};
+ghost use Rattle.tk_report.specs.Turns.{placed_before};
 ghost use Rattle.tk_run.specs.Rows.{AreRows};
-ghost use Rattle.tk_run.specs.Servers.{AreServers, IsServer};
-ghost use Rattle.tk_run.specs.Turns.{placed_before, posed, reply_at, replied, entries_seen, turn_seen};
+ghost use Rattle.tk_run.specs.Servers.{AreReady, AreServers, IsReady, IsServer};
+ghost use Rattle.tk_run.specs.Turns.{entries_seen};
+ghost use Rattle.tk_run.specs.Under.{AreAsking, AreIdle, IsAsking, IsIdle, Serves, asked_under};
+ghost use Rattle.tk_run.specs.Under.{client_under, posed, replied_under, reply_under, turn_under};
+ghost use Rattle.tk_run.specs.Under.{wrote_under};
 
 use crate::asked_frames::ask_all;
 use crate::frames::{Frames, deal, empty_rows};
@@ -28,24 +36,30 @@ pub(crate) fn read_turn<D: Draws>(
     servers: &mut [Server],
 ) -> Result<(), Memory>
     requires turn_in { turn < turn_count plan.now.script.now.shape }
-    requires clients { let S = plan.now.script.now in
-        let words = words_of S.shape (D.book plan.now.draws.now) in
-        AreClients S.shape.clients (client_wrote S words plan.now.history.now turn) clients.old }
+    requires clients { AreIdle plan.now.script.now (turn + 1) clients.old }
     requires servers { let S = plan.now.script.now in
         let words = words_of S.shape (D.book plan.now.draws.now) in
-        let history = plan.now.history.now in
-        AreServers S.shape (placed_before S words history (turn + 1))
-        (entries_seen S words history turn) servers.old }
-    ensures clients { let S = plan.now.script.now in
-        let words = words_of S.shape (D.book plan.now.draws.now) in
-        OnOk result (AreClients S.shape.clients
-        (client_before S words plan.now.history.now (turn + 1)) clients.new) }
+        AreReady S.shape (placed_before S words plan.now.history.now (turn + 1)) servers.old }
+    ensures clients { OnOk result (AreIdle plan.now.script.now (turn + 1) clients.new) }
     ensures servers { let S = plan.now.script.now in
+        let words = words_of S.shape (D.book plan.now.draws.now) in
+        OnOk result
+        (AreReady S.shape (placed_before S words plan.now.history.now (turn + 1)) servers.new) }
+    ensures clients_under { let S = plan.now.script.now in
         let book = D.book plan.now.draws.now in
         let history = plan.now.history.now in
-        OnOk result (AreServers S.shape
-        (placed_before S (words_of S.shape book) history (turn + 1))
-        (turn_seen S book history turn) servers.new) }
+        (V : Serving) (Es : ℕ → List Placed) → Serves S book history V turn Es
+        → AreClients S.shape.clients (wrote_under S book history V turn) clients.old
+        → AreServers S.shape Es (entries_seen S (words_of S.shape book) history turn) servers.old
+        → OnOk result
+        (AreClients S.shape.clients (client_under S book history V (turn + 1)) clients.new) }
+    ensures servers_under { let S = plan.now.script.now in
+        let book = D.book plan.now.draws.now in
+        let history = plan.now.history.now in
+        (V : Serving) (Es : ℕ → List Placed) → Serves S book history V turn Es
+        → AreClients S.shape.clients (wrote_under S book history V turn) clients.old
+        → AreServers S.shape Es (entries_seen S (words_of S.shape book) history turn) servers.old
+        → OnOk result (AreServers S.shape Es (turn_under S book history V turn) servers.new) }
 {
     let asked = ask_all(alloc, plan, turn, clients, &servers[0])?;
     let replies = answer_all(alloc, plan, turn, asked.as_slice(), servers)?;
@@ -62,24 +76,30 @@ fn answer_all<D: Draws>(
     servers: &mut [Server],
 ) -> Result<Vec<Frames>, Memory>
     requires turn_in { turn < turn_count plan.now.script.now.shape }
-    requires posed { let S = plan.now.script.now in
-        AreRows S.shape.servers
-        (posed S (D.book plan.now.draws.now) plan.now.history.now turn S.shape.clients) asked.now }
+    requires asked { length asked.now ≡ plan.now.script.now.shape.servers }
     requires servers { let S = plan.now.script.now in
         let words = words_of S.shape (D.book plan.now.draws.now) in
-        let history = plan.now.history.now in
-        AreServers S.shape (placed_before S words history (turn + 1))
-        (entries_seen S words history turn) servers.old }
+        AreReady S.shape (placed_before S words plan.now.history.now (turn + 1)) servers.old }
+    ensures counted { IfOk result (λ rows. length rows.items ≡ plan.now.script.now.shape.clients) }
+    ensures servers { let S = plan.now.script.now in
+        let words = words_of S.shape (D.book plan.now.draws.now) in
+        OnOk result
+        (AreReady S.shape (placed_before S words plan.now.history.now (turn + 1)) servers.new) }
     ensures replies { let S = plan.now.script.now in
         let book = D.book plan.now.draws.now in
-        IfOk result (λ rows. AreRows S.shape.clients
-        (replied S book plan.now.history.now turn S.shape.servers) rows.items) }
-    ensures servers { let S = plan.now.script.now in
+        let history = plan.now.history.now in
+        (V : Serving) (Es : ℕ → List Placed) → Serves S book history V turn Es
+        → AreRows S.shape.servers (posed S book history V turn S.shape.clients) asked.now
+        → AreServers S.shape Es (entries_seen S (words_of S.shape book) history turn) servers.old
+        → IfOk result (λ rows. AreRows S.shape.clients
+        (replied_under S book history V turn S.shape.servers) rows.items) }
+    ensures servers_under { let S = plan.now.script.now in
         let book = D.book plan.now.draws.now in
         let history = plan.now.history.now in
-        OnOk result (AreServers S.shape
-        (placed_before S (words_of S.shape book) history (turn + 1))
-        (turn_seen S book history turn) servers.new) }
+        (V : Serving) (Es : ℕ → List Placed) → Serves S book history V turn Es
+        → AreRows S.shape.servers (posed S book history V turn S.shape.clients) asked.now
+        → AreServers S.shape Es (entries_seen S (words_of S.shape book) history turn) servers.old
+        → OnOk result (AreServers S.shape Es (turn_under S book history V turn) servers.new) }
 {
     let mut rows = empty_rows(alloc, plan.script.shape.clients)?;
     'answering: for (i, server) in servers.iter_mut().enumerate() {
@@ -103,26 +123,27 @@ fn answer_one<D: Draws>(
 ) -> Result<Vec<Bytes>, Memory>
     requires turn_in { spot.turn < turn_count plan.now.script.now.shape }
     requires server_in { spot.place < plan.now.script.now.shape.servers }
-    requires posed { let S = plan.now.script.now in
-        asked.now ≡ posed S (D.book plan.now.draws.now) plan.now.history.now spot.turn
-        S.shape.clients spot.place }
-    requires server { let S = plan.now.script.now in
-        let words = words_of S.shape (D.book plan.now.draws.now) in
-        let history = plan.now.history.now in
-        IsServer S.shape (placed_before S words history (spot.turn + 1))
-        (entries_seen S words history spot.turn (spot.place + 1)) server.old }
+    ensures ready { (shape : Shape) (E : List Placed) → IsReady shape E server.old
+        → OnOk result (IsReady shape E server.new) }
     ensures replies { let S = plan.now.script.now in
         let book = D.book plan.now.draws.now in
-        IfOk result (λ replies. replies.items
-        ≡ map (λ c. reply_frame
-        (reply_at S book plan.now.history.now spot.turn (spot.place + 1) c))
+        let history = plan.now.history.now in
+        let saw = entries_seen S (words_of S.shape book) history spot.turn (spot.place + 1) in
+        (V : Serving) (Es : ℕ → List Placed) → Serves S book history V spot.turn Es
+        → asked.now ≡ posed S book history V spot.turn S.shape.clients spot.place
+        → IsServer S.shape (Es (spot.place + 1)) saw server.old
+        → IfOk result (λ replies. replies.items
+        ≡ map (λ c. reply_frame (reply_under S book history V spot.turn (spot.place + 1) c))
         (range_with_len 0 S.shape.clients)) }
     ensures server { let S = plan.now.script.now in
         let book = D.book plan.now.draws.now in
         let history = plan.now.history.now in
-        OnOk result
-        (IsServer S.shape (placed_before S (words_of S.shape book) history (spot.turn + 1))
-        (turn_seen S book history spot.turn (spot.place + 1)) server.new) }
+        let saw = entries_seen S (words_of S.shape book) history spot.turn (spot.place + 1) in
+        (V : Serving) (Es : ℕ → List Placed) → Serves S book history V spot.turn Es
+        → asked.now ≡ posed S book history V spot.turn S.shape.clients spot.place
+        → IsServer S.shape (Es (spot.place + 1)) saw server.old
+        → OnOk result (IsServer S.shape (Es (spot.place + 1))
+        (turn_under S book history V spot.turn (spot.place + 1)) server.new) }
 {
     let replies = server.answer(alloc, asked)?;
     Ok(replies)
@@ -137,17 +158,18 @@ fn take_replies<D: Draws>(
     clients: &mut [Client],
 ) -> Result<(), Memory>
     requires turn_in { turn < turn_count plan.now.script.now.shape }
-    requires replies { let S = plan.now.script.now in
-        AreRows S.shape.clients
-        (replied S (D.book plan.now.draws.now) plan.now.history.now turn S.shape.servers)
-        replies.now }
-    requires clients { let S = plan.now.script.now in
-        let words = words_of S.shape (D.book plan.now.draws.now) in
-        AreClients S.shape.clients (client_asked S words plan.now.history.now turn) clients.old }
-    ensures { let S = plan.now.script.now in
-        let words = words_of S.shape (D.book plan.now.draws.now) in
-        OnOk result (AreClients S.shape.clients
-        (client_before S words plan.now.history.now (turn + 1)) clients.new) }
+    requires replies { length replies.now ≡ plan.now.script.now.shape.clients }
+    requires clients { AreAsking plan.now.script.now plan.now.history.now turn clients.old }
+    ensures clients { OnOk result (AreIdle plan.now.script.now (turn + 1) clients.new) }
+    ensures clients_under { let S = plan.now.script.now in
+        let book = D.book plan.now.draws.now in
+        let history = plan.now.history.now in
+        (V : Serving) (Es : ℕ → List Placed) → Serves S book history V turn Es
+        → ((j : ℕ) → 1 ≤ j → j ≤ S.shape.servers → IsOrder S.shape (Es j))
+        → AreRows S.shape.clients (replied_under S book history V turn S.shape.servers) replies.now
+        → AreClients S.shape.clients (asked_under S book history V turn) clients.old
+        → OnOk result
+        (AreClients S.shape.clients (client_under S book history V (turn + 1)) clients.new) }
 {
     'taking: for (i, client) in clients.iter_mut().enumerate() {
         let spot = Spot {
@@ -169,17 +191,21 @@ fn take_one<D: Draws>(
 ) -> Result<(), Memory>
     requires turn_in { spot.turn < turn_count plan.now.script.now.shape }
     requires client_in { spot.place < plan.now.script.now.shape.clients }
-    requires replies { let S = plan.now.script.now in
-        replies.now ≡ replied S (D.book plan.now.draws.now) plan.now.history.now spot.turn
-        S.shape.servers spot.place }
-    requires client { let S = plan.now.script.now in
-        let words = words_of S.shape (D.book plan.now.draws.now) in
-        client.old ≡ client_asked S words plan.now.history.now spot.turn spot.place }
-    ensures { let S = plan.now.script.now in
-        let words = words_of S.shape (D.book plan.now.draws.now) in
-        OnOk result (client.new
-        ≡ client_before S words plan.now.history.now (spot.turn + 1) spot.place) }
+    requires client { IsAsking plan.now.script.now plan.now.history.now spot.turn spot.place client.old }
+    ensures client { OnOk result (IsIdle plan.now.script.now (spot.turn + 1) spot.place client.new) }
+    ensures client_under { let S = plan.now.script.now in
+        let book = D.book plan.now.draws.now in
+        let history = plan.now.history.now in
+        (V : Serving) (Es : ℕ → List Placed) → Serves S book history V spot.turn Es
+        → ((j : ℕ) → 1 ≤ j → j ≤ S.shape.servers → IsOrder S.shape (Es j))
+        → replies.now ≡ replied_under S book history V spot.turn S.shape.servers spot.place
+        → client.old ≡ asked_under S book history V spot.turn spot.place
+        → OnOk result (client.new ≡ client_under S book history V (spot.turn + 1) spot.place) }
 {
+    // (there is one of each server)
+    if replies.len() != plan.script.shape.servers as usize {
+        return Err(Memory);
+    }
     // what servers send are the replies to what was asked, so that only memory may be wanting
     let Ok(()) = client.take_replies(alloc, plan.draws, replies) else {
         return Err(Memory);

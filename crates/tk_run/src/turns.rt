@@ -1,18 +1,23 @@
-ghost use Rattle.std.specs.Prelude.{◌≡◌, ◌≤◌, ◌<◌, ◌+◌, ◌++◌, ℕ, List, IfOk, IfErr, OnOk, OnErr};
+ghost use Rattle.std.specs.Prelude.{◌≡◌, ◌≢◌, ◌≤◌, ◌<◌, ◌+◌, ◌++◌, ℕ, List, IfOk, IfErr, OnOk, OnErr};
 ghost use Rattle.tk_io.specs.Content.{Rose};
+ghost use Rattle.tk_io.specs.Tapped.{TapsGain, TapsGainFronts, TapsKeepBut};
 ghost use Rattle.tk_shape.specs.Lengths.{turn_count};
 ghost use Rattle.tk_schedule.specs.declared.history.History.{History};
-ghost use Rattle.tk_words.specs.Words.{WordBook};
-ghost use Rattle.tk_report.specs.Exchange.{exchange, bytes_of};
-ghost use Rattle.tk_io.specs.Tapped.{TapsGain, TapsGainFronts, TapsKeepBut};
-ghost use Rattle.tk_run.specs.Keeping.{GivesBack, kept_at, kept_up_to, saved_before};
-ghost use Rattle.tk_run.specs.Servers.{nothing_seen};
-ghost use Rattle.tk_run.specs.Turns.{IsRunBefore, turn_seen};
+ghost use Rattle.tk_words.specs.Words.{WordBook, words_of};
+ghost use Rattle.tk_frames.specs.declared.entry.Placed.{Placed};
+ghost use Rattle.tk_report.specs.Entries.{write_at, entries_at};
+ghost use Rattle.tk_report.specs.Exchange.{bytes_of};
+ghost use Rattle.tk_report.specs.Serving.{Serving, exchange_under};
+ghost use Rattle.tk_report.specs.Turns.{placed_before};
+ghost use Rattle.tk_run.specs.Keeping.{AreGiven, AreSound, BeginFrom, begun_anew, held_now};
+ghost use Rattle.tk_run.specs.Keeping.{kept_up_to, saved_before, turn_due};
+ghost use Rattle.tk_run.specs.Servers.{nothing_seen, with_more};
+ghost use Rattle.tk_run.specs.Under.{IsRunning, IsRunUnder, Serves, turn_under};
 
 use crate::keeper::Keeper;
+use crate::resume_error::ResumeError;
 use crate::resuming::go_on_before;
 use crate::run::Run;
-use crate::run_error::RunError;
 use crate::servers::open_servers;
 use crate::tapping::give_all;
 use crate::turn_reads::read_turn;
@@ -24,33 +29,53 @@ use tk_shape::Memory;
 use tk_words::Draws;
 
 /// A run at its end, turn after turn. What each server sees goes to its tap at the end of each turn.
-/// Where a turn is due, or the end behind the last, the servers go on from a checkpoint before it.
+/// Where a turn is due, or the end behind the last, the servers begin anew before it.
 pub(crate) fn take_turns<D: Draws, T: Taps, K: Keeper>(
     alloc: Global,
     plan: &Plan<D>,
     due: Option<u32>,
     keeper: &mut K,
     taps: &mut T,
-) -> Result<Run, RunError>
-    requires gives_back { GivesBack K.kept K.gives }
+) -> Result<Run, ResumeError>
     ensures kept { let S = plan.now.script.now in
         let at = saved_before S (D.book plan.now.draws.now) plan.now.history.now in
         OnOk result (K.kept keeper.new
         ≡ K.kept keeper.old ++ kept_up_to due at (turn_count S.shape)) }
-    ensures run { let end = turn_count plan.now.script.now.shape in
-        IfOk result (IsRunBefore plan.now.script.now (D.book plan.now.draws.now)
-        plan.now.history.now end nothing_seen) }
+    ensures sound { let S = plan.now.script.now in turn_due S due ≤ turn_count S.shape
+        → OnOk result (AreSound S.shape S.shape.servers (K.gives keeper.new)) }
+    ensures running { let S = plan.now.script.now in
+        IfOk result (IsRunning S (D.book plan.now.draws.now) plan.now.history.now
+        (turn_count S.shape)) }
+    ensures run { let S = plan.now.script.now in
+        let book = D.book plan.now.draws.now in
+        let history = plan.now.history.now in
+        let begin = turn_due S due in
+        (given : ℕ → List Placed)
+        → BeginFrom S book history begin (K.kept keeper.old) (K.kept keeper.new) (K.gives keeper.new) given
+        → IfOk result (IsRunUnder S book history (begun_anew S book history begin given)
+        (turn_count S.shape)
+        (held_now S (words_of S.shape book) history begin given (turn_count S.shape)) nothing_seen) }
     ensures ok { let S = plan.now.script.now in
-        OnOk result (TapsGain S.shape.servers
-        (λ j. bytes_of (exchange S (D.book plan.now.draws.now) plan.now.history.now j))
+        let book = D.book plan.now.draws.now in
+        let history = plan.now.history.now in
+        let begin = turn_due S due in
+        (given : ℕ → List Placed)
+        → BeginFrom S book history begin (K.kept keeper.old) (K.kept keeper.new) (K.gives keeper.new) given
+        → OnOk result (TapsGain S.shape.servers
+        (λ j. bytes_of (exchange_under S book history (begun_anew S book history begin given) j))
         (T.tap taps.old) (T.tap taps.new)) }
     ensures err { let S = plan.now.script.now in
-        OnErr result (TapsGainFronts S.shape.servers
-        (λ j. bytes_of (exchange S (D.book plan.now.draws.now) plan.now.history.now j))
+        let book = D.book plan.now.draws.now in
+        let history = plan.now.history.now in
+        let begin = turn_due S due in
+        (given : ℕ → List Placed)
+        → BeginFrom S book history begin (K.kept keeper.old) (K.kept keeper.new) (K.gives keeper.new) given
+        → OnErr result (TapsGainFronts S.shape.servers
+        (λ j. bytes_of (exchange_under S book history (begun_anew S book history begin given) j))
         (T.tap taps.old) (T.tap taps.new)) }
     ensures others { TapsKeepBut plan.now.script.now.shape.servers
         (T.tap taps.old) (T.tap taps.new) }
-    ensures rose { IfErr result (λ e. e ≡ RunError.Taps
+    ensures rose { IfErr result (λ e. e ≡ ResumeError.Taps
         → Rose (T.faults taps.old) (T.faults taps.new)) }
     ensures counts { T.faults taps.old ≤ T.faults taps.new }
 {
@@ -65,12 +90,20 @@ fn open_run<K: Keeper>(
     script: &Script,
     due: Option<u32>,
     keeper: &mut K,
-) -> Result<Run, Memory>
-    requires { GivesBack K.kept K.gives }
-    ensures run { (b : WordBook) (H : History)
-        → IfOk result (IsRunBefore script.now b H 0 nothing_seen) }
-    ensures kept { (b : WordBook) (H : History) → OnOk result
-        (K.kept keeper.new ≡ K.kept keeper.old ++ kept_at due 0 (saved_before script.now b H 0)) }
+) -> Result<Run, ResumeError>
+    ensures running { (b : WordBook) (H : History) → IfOk result (IsRunning script.now b H 0) }
+    ensures kept { (b : WordBook) (H : History) → OnOk result (K.kept keeper.new
+        ≡ K.kept keeper.old ++ kept_up_to due (saved_before script.now b H) 0) }
+    ensures sound { let S = script.now in turn_due S due ≤ 0
+        → OnOk result (AreSound S.shape S.shape.servers (K.gives keeper.new)) }
+    ensures run { let S = script.now in
+        let begin = turn_due S due in
+        (b : WordBook) (H : History) (given : ℕ → List Placed)
+        → (begin ≤ 0 → AreGiven S.shape (placed_before S (words_of S.shape b) H begin)
+        (K.gives keeper.new) given)
+        → IfOk result (IsRunUnder S b H (begun_anew S b H begin given) 0
+        (held_now S (words_of S.shape b) H begin given 0) nothing_seen) }
+    ensures not_taps { IfErr result (λ e. e ≢ ResumeError.Taps) }
 {
     let group = Group::open(alloc, script)?;
     let mut servers = open_servers(alloc, &script.shape)?;
@@ -78,7 +111,7 @@ fn open_run<K: Keeper>(
     Ok(Run { group, servers })
 }
 
-/// All turns of a run, from the first.
+/// All turns of a run, from the first. The servers are ready for each once the one before it is over.
 fn take_all_turns<D: Draws, T: Taps, K: Keeper>(
     alloc: Global,
     plan: &Plan<D>,
@@ -86,95 +119,145 @@ fn take_all_turns<D: Draws, T: Taps, K: Keeper>(
     run: &mut Run,
     keeper: &mut K,
     taps: &mut T,
-) -> Result<(), RunError>
-    requires gives_back { GivesBack K.kept K.gives }
-    requires run { IsRunBefore plan.now.script.now (D.book plan.now.draws.now)
-        plan.now.history.now 0 nothing_seen run.old }
+) -> Result<(), ResumeError>
+    requires running { IsRunning plan.now.script.now (D.book plan.now.draws.now)
+        plan.now.history.now 0 run.old }
+    requires sound { let S = plan.now.script.now in turn_due S due ≤ 0
+        → AreSound S.shape S.shape.servers (K.gives keeper.old) }
+    requires run { let S = plan.now.script.now in
+        let book = D.book plan.now.draws.now in
+        let history = plan.now.history.now in
+        let words = words_of S.shape book in
+        let begin = turn_due S due in
+        (given : ℕ → List Placed)
+        → (begin ≤ 0 → AreGiven S.shape (placed_before S words history begin)
+        (K.gives keeper.old) given)
+        → IsRunUnder S book history (begun_anew S book history begin given) 0
+        (held_now S words history begin given 0) nothing_seen run.old }
     ensures kept { let S = plan.now.script.now in
         let at = saved_before S (D.book plan.now.draws.now) plan.now.history.now in
         (before : List (List ℕ)) → K.kept keeper.old ≡ before ++ kept_up_to due at 0
         → OnOk result (K.kept keeper.new ≡ before ++ kept_up_to due at (turn_count S.shape)) }
-    ensures run { let end = turn_count plan.now.script.now.shape in
-        OnOk result (IsRunBefore plan.now.script.now (D.book plan.now.draws.now)
-        plan.now.history.now end nothing_seen run.new) }
+    ensures sound { let S = plan.now.script.now in turn_due S due ≤ turn_count S.shape
+        → OnOk result (AreSound S.shape S.shape.servers (K.gives keeper.new)) }
+    ensures running { let S = plan.now.script.now in
+        OnOk result (IsRunning S (D.book plan.now.draws.now) plan.now.history.now
+        (turn_count S.shape) run.new) }
+    ensures run { let S = plan.now.script.now in
+        let book = D.book plan.now.draws.now in
+        let history = plan.now.history.now in
+        let words = words_of S.shape book in
+        let begin = turn_due S due in
+        (given : ℕ → List Placed)
+        → (begin ≤ turn_count S.shape → AreGiven S.shape (placed_before S words history begin)
+        (K.gives keeper.new) given)
+        → OnOk result (IsRunUnder S book history (begun_anew S book history begin given)
+        (turn_count S.shape)
+        (held_now S words history begin given (turn_count S.shape)) nothing_seen run.new) }
     ensures ok { let S = plan.now.script.now in
-        OnOk result (TapsGain S.shape.servers
-        (λ j. bytes_of (exchange S (D.book plan.now.draws.now) plan.now.history.now j))
+        let book = D.book plan.now.draws.now in
+        let history = plan.now.history.now in
+        let begin = turn_due S due in
+        (given : ℕ → List Placed)
+        → (begin ≤ turn_count S.shape → AreGiven S.shape
+        (placed_before S (words_of S.shape book) history begin) (K.gives keeper.new) given)
+        → OnOk result (TapsGain S.shape.servers
+        (λ j. bytes_of (exchange_under S book history (begun_anew S book history begin given) j))
         (T.tap taps.old) (T.tap taps.new)) }
     ensures err { let S = plan.now.script.now in
-        OnErr result (TapsGainFronts S.shape.servers
-        (λ j. bytes_of (exchange S (D.book plan.now.draws.now) plan.now.history.now j))
+        let book = D.book plan.now.draws.now in
+        let history = plan.now.history.now in
+        let begin = turn_due S due in
+        (before : List (List ℕ)) (given : ℕ → List Placed)
+        → K.kept keeper.old ≡ before ++ kept_up_to due (saved_before S book history) 0
+        → BeginFrom S book history begin before (K.kept keeper.new) (K.gives keeper.new) given
+        → OnErr result (TapsGainFronts S.shape.servers
+        (λ j. bytes_of (exchange_under S book history (begun_anew S book history begin given) j))
         (T.tap taps.old) (T.tap taps.new)) }
     ensures others { TapsKeepBut plan.now.script.now.shape.servers
         (T.tap taps.old) (T.tap taps.new) }
-    ensures rose { IfErr result (λ e. e ≡ RunError.Taps
+    ensures rose { IfErr result (λ e. e ≡ ResumeError.Taps
         → Rose (T.faults taps.old) (T.faults taps.new)) }
     ensures counts { T.faults taps.old ≤ T.faults taps.new }
 {
     'turns: for turn in 0..plan.script.shape.turns() {
-        take_turn(alloc, plan, due, turn, run, keeper, taps)?;
+        take_turn(alloc, plan, turn, run, taps)?;
+        let next = turn + 1;
+        go_on_before(
+            alloc,
+            &plan.script.shape,
+            due,
+            next,
+            &mut run.servers,
+            keeper,
+        )?;
     }
     Ok(())
 }
 
-/// A turn, at the end of which each server's tap gains what the server saw in it. Then the servers
-/// are ready for the next.
-fn take_turn<D: Draws, T: Taps, K: Keeper>(
+/// A turn, at the end of which each server's tap gains what the server saw in it.
+fn take_turn<D: Draws, T: Taps>(
     alloc: Global,
     plan: &Plan<D>,
-    due: Option<u32>,
     turn: u32,
     run: &mut Run,
-    keeper: &mut K,
     taps: &mut T,
-) -> Result<(), RunError>
-    requires gives_back { GivesBack K.kept K.gives }
+) -> Result<(), ResumeError>
     requires turn_in { turn < turn_count plan.now.script.now.shape }
-    requires run { IsRunBefore plan.now.script.now (D.book plan.now.draws.now)
-        plan.now.history.now turn nothing_seen run.old }
-    ensures kept { let S = plan.now.script.now in
-        let at = saved_before S (D.book plan.now.draws.now) plan.now.history.now in
-        OnOk result (K.kept keeper.new
-        ≡ K.kept keeper.old ++ kept_at due (turn + 1) (at (turn + 1))) }
-    ensures run { OnOk result (IsRunBefore plan.now.script.now (D.book plan.now.draws.now)
-        plan.now.history.now (turn + 1) nothing_seen run.new) }
+    requires running { IsRunning plan.now.script.now (D.book plan.now.draws.now)
+        plan.now.history.now turn run.old }
+    ensures running { OnOk result (IsRunning plan.now.script.now (D.book plan.now.draws.now)
+        plan.now.history.now (turn + 1) run.new) }
+    ensures run { let S = plan.now.script.now in
+        let book = D.book plan.now.draws.now in
+        let history = plan.now.history.now in
+        let more = entries_at (write_at S (words_of S.shape book)) history turn in
+        (V : Serving) (Es : ℕ → List Placed) → Serves S book history V turn (with_more Es more)
+        → IsRunUnder S book history V turn Es nothing_seen run.old
+        → OnOk result
+        (IsRunUnder S book history V (turn + 1) (with_more Es more) nothing_seen run.new) }
     ensures ok { let S = plan.now.script.now in
-        OnOk result (TapsGain S.shape.servers
-        (turn_seen S (D.book plan.now.draws.now) plan.now.history.now turn)
+        let book = D.book plan.now.draws.now in
+        let history = plan.now.history.now in
+        let more = entries_at (write_at S (words_of S.shape book)) history turn in
+        (V : Serving) (Es : ℕ → List Placed) → Serves S book history V turn (with_more Es more)
+        → IsRunUnder S book history V turn Es nothing_seen run.old
+        → OnOk result (TapsGain S.shape.servers (turn_under S book history V turn)
         (T.tap taps.old) (T.tap taps.new)) }
     ensures err { let S = plan.now.script.now in
-        OnErr result (TapsGainFronts S.shape.servers
-        (turn_seen S (D.book plan.now.draws.now) plan.now.history.now turn)
+        let book = D.book plan.now.draws.now in
+        let history = plan.now.history.now in
+        let more = entries_at (write_at S (words_of S.shape book)) history turn in
+        (V : Serving) (Es : ℕ → List Placed) → Serves S book history V turn (with_more Es more)
+        → IsRunUnder S book history V turn Es nothing_seen run.old
+        → OnErr result (TapsGainFronts S.shape.servers (turn_under S book history V turn)
         (T.tap taps.old) (T.tap taps.new)) }
     ensures others { TapsKeepBut plan.now.script.now.shape.servers
         (T.tap taps.old) (T.tap taps.new) }
-    ensures rose { IfErr result (λ e. e ≡ RunError.Taps
+    ensures rose { IfErr result (λ e. e ≡ ResumeError.Taps
         → Rose (T.faults taps.old) (T.faults taps.new)) }
     ensures counts { T.faults taps.old ≤ T.faults taps.new }
 {
     meet(alloc, plan, turn, run)?;
     give_all(run.servers.list.as_mut_slice(), taps)?;
-    let next = turn + 1;
-    go_on_before(
-        alloc,
-        &plan.script.shape,
-        due,
-        next,
-        &mut run.servers,
-        keeper,
-    )?;
     Ok(())
 }
 
 /// What clients and servers do in a turn: texts are said, each client writes, and then all read.
 fn meet<D: Draws>(alloc: Global, plan: &Plan<D>, turn: u32, run: &mut Run) -> Result<(), Memory>
     requires turn_in { turn < turn_count plan.now.script.now.shape }
-    requires run { IsRunBefore plan.now.script.now (D.book plan.now.draws.now)
-        plan.now.history.now turn nothing_seen run.old }
+    requires running { IsRunning plan.now.script.now (D.book plan.now.draws.now)
+        plan.now.history.now turn run.old }
+    ensures running { OnOk result (IsRunning plan.now.script.now (D.book plan.now.draws.now)
+        plan.now.history.now (turn + 1) run.new) }
     ensures run { let S = plan.now.script.now in
-        let seen = turn_seen S (D.book plan.now.draws.now) plan.now.history.now turn in
-        OnOk result (IsRunBefore S (D.book plan.now.draws.now)
-        plan.now.history.now (turn + 1) seen run.new) }
+        let book = D.book plan.now.draws.now in
+        let history = plan.now.history.now in
+        let more = entries_at (write_at S (words_of S.shape book)) history turn in
+        (V : Serving) (Es : ℕ → List Placed) → Serves S book history V turn (with_more Es more)
+        → IsRunUnder S book history V turn Es nothing_seen run.old
+        → OnOk result (IsRunUnder S book history V (turn + 1) (with_more Es more)
+        (turn_under S book history V turn) run.new) }
 {
     run.group.write(alloc, plan, turn, &mut run.servers)?;
     let clients = run.group.clients.as_mut_slice();

@@ -1,10 +1,11 @@
--- All begin anew from what is given back of what the first one wrote.
-use Rattle.std.proofs.Common.{◌≡◌, ◌∙◌, ◌<◌, ◌≤◌, ℕ, List, ap, sym, subst, arith, length}
+-- The first one's checkpoint is kept, and all begin anew from what is given.
+use Rattle.std.proofs.Common.{◌≡◌, ◌∙◌, ◌++◌, ◌∷◌, [], ℕ, List, ap, sym, subst, arith, length}
+use Rattle.std.specs.Prelude.{OnOk}
 use Rattle.std.proofs.lemmas.List.{with_items_is}
 use Rattle.std.proofs.lemmas.Result.{on_ok_weaker}
-use Rattle.tk_run.specs.declared.server.Server.{Server}
-use Rattle.tk_run.specs.Keeping.{HaveBegunAnew}
-use Rattle.tk_run.specs.Servers.{IsServer, AreServers}
+use Rattle.tk_run.specs.Keeping.{AreSound}
+use Rattle.tk_run.specs.Servers.{IsServer, AreReady, AreServers, alike, nothing_seen}
+use Rattle.tk_run.proofs.ErrorLaws.{always}
 use Rattle.tk_run.proofs.resuming.go_on_before.Goals as goal
 
 pub go_on_all-requires : goal.go_on_all-requires
@@ -12,8 +13,38 @@ go_on_all-requires g c =
     let lent = ap length c.as_mut_slice.ensures.value in
     omega (arith, lent, c.requires.1)
 
-pub returns-clause-servers : goal.returns-clause-servers
-returns-clause-servers g c E seen back are =
+pub returns-clause-kept : goal.returns-clause-kept
+returns-clause-kept g c due E seen are =
+    let shape = c.args.shape.now in
+    let first = c.index.result.now in
+    let is : IsServer shape E (seen 1) first =
+    subst (IsServer shape E (seen 1)) (sym c.index.ensures) (are.each 0 first c.requires.0)
+    in
+    always c.go_on_all.result
+    (c.in_ok-keep.ensures.ok
+    ∙ ap (λ (bytes : List ℕ). g.K.Keeper.kept c.args.keeper.now ++ bytes ∷ [])
+    (c.as_slice.ensures.value ∙ c.in_ok-bytes.ensures.saved shape E (seen 1) is))
+
+pub returns-clause-sound : goal.returns-clause-sound
+returns-clause-sound g c due =
+    let lent = ap length c.as_mut_slice.ensures.value in
+    subst (λ (n : ℕ). OnOk c.go_on_all.result
+    (AreSound c.args.shape.now n (g.K.Keeper.gives c.keep.new.self))) lent c.go_on_all.ensures.sound
+
+pub returns-clause-ready : goal.returns-clause-ready
+returns-clause-ready g c E are =
+    let shape = c.args.shape.now in
+    let list = c.args.servers.now.list in
+    let servers = c.go_on_all.new.servers in
+    let counted : length servers ≡ list.len =
+    omega (arith, c.go_on_all.auto.servers, c.as_mut_slice.ensures.len)
+    in
+    on_ok_weaker c.go_on_all.result
+    (λ now. subst (AreReady shape E) (sym (with_items_is list servers counted)) now)
+    (c.go_on_all.ensures.ready E (subst (AreReady shape E) (sym c.as_mut_slice.ensures.value) are))
+
+pub returns-clause-stand : goal.returns-clause-stand
+returns-clause-stand g c due E given are gave =
     let shape = c.args.shape.now in
     let list = c.args.servers.now.list in
     let servers = c.go_on_all.new.servers in
@@ -21,13 +52,12 @@ returns-clause-servers g c E seen back are =
     let counted : length servers ≡ list.len =
     omega (arith, c.go_on_all.auto.servers, c.as_mut_slice.ensures.len)
     in
-    let is : IsServer shape E (seen 1) first =
-    subst (IsServer shape E (seen 1)) (sym c.index.ensures) (are.each 0 first c.requires.0)
+    let is : IsServer shape E [] first =
+    subst (IsServer shape E []) (sym c.index.ensures) (are.each 0 first c.requires.0)
     in
     on_ok_weaker c.go_on_all.result
-    (λ stand. subst (AreServers shape E seen) (sym (with_items_is list servers counted)) stand)
-    (c.go_on_all.ensures.stand E seen
-    (subst (AreServers shape E seen) (sym c.as_mut_slice.ensures.value) are)
-    (c.in_ok-bytes.ensures.ends shape E (seen 1) is)
-    (λ j. back c.keep.new.self _ _ j c.in_ok-keep.ensures.ok
-    ∙ c.as_slice.ensures.value ∙ c.in_ok-bytes.ensures.saved shape E (seen 1) is))
+    (λ stand. subst (AreServers shape given nothing_seen) (sym (with_items_is list servers counted))
+    stand)
+    (c.go_on_all.ensures.stand E given
+    (subst (AreServers shape (alike E) nothing_seen) (sym c.as_mut_slice.ensures.value) are)
+    (c.in_ok-bytes.ensures.ends shape E [] is) gave)

@@ -1,6 +1,121 @@
--- A shelf gives back what lies on it last.
+-- A shelf gives back what lies on it last, the checkpoint of what was written.
+use Rattle.std.proofs.Common.{◌*◌, ℕ, subst, sym}
+use Rattle.tk_io.proofs.Offers.{fronts-of_all}
+use Rattle.tk_shape.specs.declared.shape.Shape.{Shape}
+use Rattle.tk_schedule.specs.Schedule.{IsLegal, serial_history}
+use Rattle.tk_schedule.specs.declared.history.History.{History}
+use Rattle.tk_words.specs.Words.{IsBook, words_of}
+use Rattle.tk_report.specs.Exchange.{exchange, bytes_of}
+use Rattle.tk_report.specs.Outcomes.{HasEnded, IsLeftBy}
+use Rattle.tk_run.specs.Keeping.{saved_before}
+use Rattle.tk_run.proofs.EndLaws.{own, own-given, own-gain, own-fronts, own-end}
+use Rattle.tk_run.proofs.ErrorLaws.{on_err}
+use Rattle.tk_run.proofs.GivingLaws.{fronts-none}
 use Rattle.tk_run.proofs.KeepingLaws.{last-given}
 use Rattle.tk_run.proofs.serially.resumed.Goals as goal
 
-pub resumed_by-requires-clause-gives_back : goal.resumed_by-requires-clause-gives_back
-resumed_by-requires-clause-gives_back g c κs within = λ k before bytes j is. last-given _ before bytes is
+pub returns-in_err-history-clause-err : goal.returns-in_err-history-clause-err
+returns-in_err-history-clause-err g c =
+    let S = c.args.script.now in
+    let book = g.D.Draws.book c.args.draws.now in
+    on_err _ c.from_residual.result
+    (fronts-none S.shape.servers (λ (j : ℕ). bytes_of (exchange S book (serial_history S.shape) j))
+    (g.T.Taps.tap c.args.taps.now))
+
+pub returns-in_err-end-clause-err : goal.returns-in_err-end-clause-err
+returns-in_err-end-clause-err g c =
+    let S = c.args.script.now in
+    let book = g.D.Draws.book c.args.draws.now in
+    let H = serial_history S.shape in
+    let due = c.args.epoch * S.shape.ticks in
+    let legal = subst (IsLegal S.shape) c.in_ok-history.ensures.serial c.in_ok-history.ensures.legal in
+    let world = g.world in
+    let laws = g.met.D.Draws world.𝓛 world.𝓜 world.𝓡 ((λ s x. x), (λ x. x), (λ x. x), λ x. x) in
+    let serves =
+    subst (λ (shape : Shape). IsBook shape book) c.requires.one_shape (laws.serves c.args.draws.now)
+    in
+    let old = g.T.Taps.tap c.args.taps.now in
+    let new = g.T.Taps.tap c.resumed_by.new.taps in
+    on_err _ c.from_residual-in_err-end.result
+    (own-fronts S book H due old new serves legal
+    (c.in_err-end.ensures.err (own S book H due) (λ low kept. own-given S book H due _
+    (λ j. last-given _ _ (saved_before S book H due) kept))))
+
+pub returns-in_err-of-clause-err : goal.returns-in_err-of-clause-err
+returns-in_err-of-clause-err g c =
+    let S = c.args.script.now in
+    let book = g.D.Draws.book c.args.draws.now in
+    let H = serial_history S.shape in
+    let due = c.args.epoch * S.shape.ticks in
+    let legal = subst (IsLegal S.shape) c.in_ok-history.ensures.serial c.in_ok-history.ensures.legal in
+    let world = g.world in
+    let laws = g.met.D.Draws world.𝓛 world.𝓜 world.𝓡 ((λ s x. x), (λ x. x), (λ x. x), λ x. x) in
+    let serves =
+    subst (λ (shape : Shape). IsBook shape book) c.requires.one_shape (laws.serves c.args.draws.now)
+    in
+    let old = g.T.Taps.tap c.args.taps.now in
+    let new = g.T.Taps.tap c.resumed_by.new.taps in
+    on_err _ c.from_residual-in_err-of.result
+    (fronts-of_all S.shape.servers (λ (j : ℕ). bytes_of (exchange S book H j)) old new
+    (own-gain S book H due old new serves legal
+    (c.in_ok-end.ensures.ok (own S book H due) (λ low kept. own-given S book H due _
+    (λ j. last-given _ _ (saved_before S book H due) kept)))))
+
+pub of-requires : goal.of-requires
+of-requires g c =
+    let S = c.args.script.now in
+    let book = g.D.Draws.book c.args.draws.now in
+    let H = serial_history S.shape in
+    let due = c.args.epoch * S.shape.ticks in
+    let legal = subst (IsLegal S.shape) c.in_ok-history.ensures.serial c.in_ok-history.ensures.legal in
+    let world = g.world in
+    let laws = g.met.D.Draws world.𝓛 world.𝓜 world.𝓡 ((λ s x. x), (λ x. x), (λ x. x), λ x. x) in
+    let serves =
+    subst (λ (shape : Shape). IsBook shape book) c.requires.one_shape (laws.serves c.args.draws.now)
+    in
+    (
+      words_of S.shape book,
+      subst (λ (h : History). HasEnded S (words_of S.shape book) h c.in_ok-end.end.clients.items
+      c.in_ok-end.end.displaced) (sym c.in_ok-history.ensures.serial)
+      (own-end S book H due c.in_ok-end.end serves legal
+    (c.in_ok-end.ensures.left (own S book H due) (λ low kept. own-given S book H due _
+    (λ j. last-given _ _ (saved_before S book H due) kept)))),
+    )
+
+pub returns-clause-left : goal.returns-clause-left
+returns-clause-left g c =
+    let S = c.args.script.now in
+    let book = g.D.Draws.book c.args.draws.now in
+    let H = serial_history S.shape in
+    let due = c.args.epoch * S.shape.ticks in
+    let legal = subst (IsLegal S.shape) c.in_ok-history.ensures.serial c.in_ok-history.ensures.legal in
+    let world = g.world in
+    let laws = g.met.D.Draws world.𝓛 world.𝓜 world.𝓡 ((λ s x. x), (λ x. x), (λ x. x), λ x. x) in
+    let serves =
+    subst (λ (shape : Shape). IsBook shape book) c.requires.one_shape (laws.serves c.args.draws.now)
+    in
+    subst (λ (h : History). IsLeftBy S (words_of S.shape book) h c.in_ok-of.field-0) c.in_ok-history.ensures.serial
+    (c.in_ok-of.ensures (words_of S.shape book)
+    (subst (λ (h : History). HasEnded S (words_of S.shape book) h c.in_ok-end.end.clients.items
+    c.in_ok-end.end.displaced) (sym c.in_ok-history.ensures.serial)
+    (own-end S book H due c.in_ok-end.end serves legal
+    (c.in_ok-end.ensures.left (own S book H due) (λ low kept. own-given S book H due _
+    (λ j. last-given _ _ (saved_before S book H due) kept))))))
+
+pub returns-clause-ok : goal.returns-clause-ok
+returns-clause-ok g c =
+    let S = c.args.script.now in
+    let book = g.D.Draws.book c.args.draws.now in
+    let H = serial_history S.shape in
+    let due = c.args.epoch * S.shape.ticks in
+    let legal = subst (IsLegal S.shape) c.in_ok-history.ensures.serial c.in_ok-history.ensures.legal in
+    let world = g.world in
+    let laws = g.met.D.Draws world.𝓛 world.𝓜 world.𝓡 ((λ s x. x), (λ x. x), (λ x. x), λ x. x) in
+    let serves =
+    subst (λ (shape : Shape). IsBook shape book) c.requires.one_shape (laws.serves c.args.draws.now)
+    in
+    let old = g.T.Taps.tap c.args.taps.now in
+    let new = g.T.Taps.tap c.resumed_by.new.taps in
+    own-gain S book H due old new serves legal
+    (c.in_ok-end.ensures.ok (own S book H due) (λ low kept. own-given S book H due _
+    (λ j. last-given _ _ (saved_before S book H due) kept)))

@@ -1,19 +1,88 @@
--- The checkpoint is kept of the turn in which the epoch begins.
-use Rattle.std.proofs.Common.{◌≡◌, ◌∙◌, ◌++◌, ◌*◌, ℕ, List, ap}
+-- The serial run, in which the checkpoint is kept of the turn in which the epoch begins.
+use Rattle.std.proofs.Common.{◌≡◌, ◌∙◌, ◌++◌, ◌∷◌, [], ◌*◌, ℕ, List, ap, arith, subst}
+use Rattle.std.specs.Prelude.{IfOk, OnErr, OnOk, Some}
 use Rattle.std.proofs.lemmas.Result.{on_ok_weaker}
+use Rattle.tk_io.specs.Tapped.{TapsGain, TapsGainFronts}
 use Rattle.tk_shape.specs.Lengths.{turn_count}
 use Rattle.tk_schedule.specs.Schedule.{serial_history}
-use Rattle.tk_run.specs.Keeping.{saved_before}
-use Rattle.tk_run.proofs.KeepingLaws.{kept-all, due-in}
+use Rattle.tk_schedule.specs.declared.history.History.{History}
+use Rattle.tk_words.specs.Words.{words_of}
+use Rattle.tk_frames.specs.declared.entry.Placed.{Placed}
+use Rattle.tk_report.specs.Exchange.{bytes_of}
+use Rattle.tk_report.specs.Serving.{exchange_under}
+use Rattle.tk_run.specs.Keeping.{BeginFrom, IsEndUnder, begun_anew, held_now, saved_before}
+use Rattle.tk_run.proofs.ErrorLaws.{on_err}
+use Rattle.tk_run.proofs.GivingLaws.{fronts-none}
+use Rattle.tk_run.proofs.KeepingLaws.{due-in, kept-since}
 use Rattle.tk_run.proofs.serially.resumed_by.Goals as goal
 
 pub returns-clause-kept : goal.returns-clause-kept
 returns-clause-kept g c =
     let S = c.args.script.now in
-    let at = saved_before S (g.D.Draws.book c.args.draws.now) (serial_history S.shape) in
+    let book = g.D.Draws.book c.args.draws.now in
     let due = c.args.epoch * S.shape.ticks in
-    on_ok_weaker c.run_turns.result
+    let first = g.K.Keeper.kept c.args.keeper.now in
+    let last = g.K.Keeper.kept c.run_turns.new.keeper in
+    subst (λ (H : History). OnOk c.run_turns.result (last ≡ first ++ saved_before S book H due ∷ []))
+    c.in_ok-history.ensures.serial
+    (on_ok_weaker c.run_turns.result
     (λ is. is
-    ∙ ap (λ (xs : List (List ℕ)). g.K.Keeper.kept c.args.keeper.now ++ xs)
-    (kept-all due (turn_count S.shape) at (due-in S.shape c.args.epoch c.requires.within)))
-    c.run_turns.ensures.kept
+    ∙ ap (λ (xs : List (List ℕ)). first ++ xs)
+    (kept-since S (Some due) (saved_before S book c.in_ok-history.history) (turn_count S.shape)
+    (omega arith) (due-in S.shape c.args.epoch c.requires.within)))
+    c.run_turns.ensures.kept)
+
+pub returns-clause-sound : goal.returns-clause-sound
+returns-clause-sound g c =
+    c.run_turns.ensures.sound (due-in c.args.script.now.shape c.args.epoch c.requires.within)
+
+pub returns-clause-left : goal.returns-clause-left
+returns-clause-left g c =
+    let S = c.args.script.now in
+    let book = g.D.Draws.book c.args.draws.now in
+    let due = c.args.epoch * S.shape.ticks in
+    let kept = g.K.Keeper.kept in
+    let now = c.run_turns.new.keeper in
+    subst (λ (H : History). (given : ℕ → List Placed) →
+    BeginFrom S book H due (kept c.args.keeper.now) (kept now) (g.K.Keeper.gives now) given →
+    IfOk c.run_turns.result (IsEndUnder S book H (begun_anew S book H due given)
+    (held_now S (words_of S.shape book) H due given (turn_count S.shape) 1)))
+    c.in_ok-history.ensures.serial c.run_turns.ensures.left
+
+pub returns-clause-ok : goal.returns-clause-ok
+returns-clause-ok g c =
+    let S = c.args.script.now in
+    let book = g.D.Draws.book c.args.draws.now in
+    let due = c.args.epoch * S.shape.ticks in
+    let kept = g.K.Keeper.kept in
+    let now = c.run_turns.new.keeper in
+    subst (λ (H : History). (given : ℕ → List Placed) →
+    BeginFrom S book H due (kept c.args.keeper.now) (kept now) (g.K.Keeper.gives now) given →
+    OnOk c.run_turns.result (TapsGain S.shape.servers
+    (λ (j : ℕ). bytes_of (exchange_under S book H (begun_anew S book H due given) j))
+    (g.T.Taps.tap c.args.taps.now) (g.T.Taps.tap c.run_turns.new.taps)))
+    c.in_ok-history.ensures.serial c.run_turns.ensures.ok
+
+pub returns-clause-err : goal.returns-clause-err
+returns-clause-err g c =
+    let S = c.args.script.now in
+    let book = g.D.Draws.book c.args.draws.now in
+    let due = c.args.epoch * S.shape.ticks in
+    let kept = g.K.Keeper.kept in
+    let now = c.run_turns.new.keeper in
+    subst (λ (H : History). (given : ℕ → List Placed) →
+    BeginFrom S book H due (kept c.args.keeper.now) (kept now) (g.K.Keeper.gives now) given →
+    OnErr c.run_turns.result (TapsGainFronts S.shape.servers
+    (λ (j : ℕ). bytes_of (exchange_under S book H (begun_anew S book H due given) j))
+    (g.T.Taps.tap c.args.taps.now) (g.T.Taps.tap c.run_turns.new.taps)))
+    c.in_ok-history.ensures.serial c.run_turns.ensures.err
+
+pub returns-in_err-history-clause-err : goal.returns-in_err-history-clause-err
+returns-in_err-history-clause-err g c given begins =
+    let S = c.args.script.now in
+    let book = g.D.Draws.book c.args.draws.now in
+    let H = serial_history S.shape in
+    let V = begun_anew S book H (c.args.epoch * S.shape.ticks) given in
+    on_err _ c.from_residual.result
+    (fronts-none S.shape.servers (λ (j : ℕ). bytes_of (exchange_under S book H V j))
+    (g.T.Taps.tap c.args.taps.now))

@@ -1,7 +1,7 @@
 -- As many servers are open as the loop has counted.
 use Rattle.std.proofs.Common.{◌≡◌, [], length}
 use Rattle.std.specs.Prelude.{All}
-use Rattle.tk_run.specs.Servers.{IsServer}
+use Rattle.tk_run.specs.Servers.{IsServer, IsReady}
 use Rattle.tk_run.proofs.servers.open_servers.Given as goal
 
 abbrev pub invariant-loop : goal.invariant-loop
@@ -9,4 +9,5 @@ invariant-loop l =
     record {
       counted : length l.servers.items ≡ l.counter;
       opened : All (IsServer l.shape [] []) l.servers.items;
+      ready : All (IsReady l.shape []) l.servers.items;
     }

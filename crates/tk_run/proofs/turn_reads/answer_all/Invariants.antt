@@ -1,10 +1,14 @@
 -- The servers so far have answered, and their replies lie in the lists of the clients.
-use Rattle.std.proofs.Common.{◌≡◌, ◌+◌, length}
+use Rattle.std.proofs.Common.{◌≡◌, ◌+◌, ℕ, List, length}
 use Rattle.tk_words.specs.Words.{words_of}
-use Rattle.tk_run.specs.Rows.{AreRows}
-use Rattle.tk_run.specs.Servers.{IsServer}
-use Rattle.tk_run.specs.Turns.{placed_before, replied, entries_seen, turn_seen}
+use Rattle.tk_frames.specs.declared.entry.Placed.{Placed}
+use Rattle.tk_report.specs.Serving.{Serving}
+use Rattle.tk_report.specs.Turns.{placed_before}
 use Rattle.tk_report.proofs.Offers.{IsSplit}
+use Rattle.tk_run.specs.Rows.{AreRows}
+use Rattle.tk_run.specs.Servers.{AreServers, IsReady, IsServer}
+use Rattle.tk_run.specs.Turns.{entries_seen}
+use Rattle.tk_run.specs.Under.{Serves, posed, replied_under, turn_under}
 use Rattle.tk_run.proofs.turn_reads.answer_all.Given as goal
 
 abbrev pub invariant-answering : goal.invariant-answering
@@ -16,7 +20,16 @@ invariant-answering g l =
     let E = placed_before S words H (l.turn + 1) in
     record {
       counted : length l.servers ≡ length l.fn.servers;
-      rows : AreRows S.shape.clients (replied S book H l.turn l.i) l.rows.items;
-      servers : IsSplit l.i (λ k s. IsServer S.shape E (turn_seen S book H l.turn (k + 1)) s)
-          (λ k s. IsServer S.shape E (entries_seen S words H l.turn (k + 1)) s) l.servers;
+      each : length l.rows.items ≡ S.shape.clients;
+      ready : IsSplit l.i (λ k s. IsReady S.shape E s) (λ k s. IsReady S.shape E s) l.servers;
+      rows : (V : Serving) (Es : ℕ → List Placed) → Serves S book H V l.turn Es →
+          AreRows S.shape.servers (posed S book H V l.turn S.shape.clients) l.asked →
+          AreServers S.shape Es (entries_seen S words H l.turn) l.fn.servers →
+          AreRows S.shape.clients (replied_under S book H V l.turn l.i) l.rows.items;
+      servers : (V : Serving) (Es : ℕ → List Placed) → Serves S book H V l.turn Es →
+          AreRows S.shape.servers (posed S book H V l.turn S.shape.clients) l.asked →
+          AreServers S.shape Es (entries_seen S words H l.turn) l.fn.servers →
+          IsSplit l.i
+          (λ k s. IsServer S.shape (Es (k + 1)) (turn_under S book H V l.turn (k + 1)) s)
+          (λ k s. IsServer S.shape (Es (k + 1)) (entries_seen S words H l.turn (k + 1)) s) l.servers;
     }

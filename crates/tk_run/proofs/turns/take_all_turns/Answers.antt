@@ -1,12 +1,20 @@
 -- Turn after turn the taps gain what the servers see.
-use Rattle.std.proofs.Common.{◌≡◌, ◌∙◌, ◌+◌, ◌++◌, ℕ, List, ap, arith, refl, subst, le_trans, append_assoc}
-use Rattle.tk_run.specs.Keeping.{kept_at, kept_up_to, saved_before}
-use Rattle.tk_run.proofs.KeepingLaws.{kept-next}
+use Rattle.std.proofs.Common.{◌≡◌, ◌∙◌, ◌+◌, ◌++◌, [], ◌<◌, ◌≤◌, ℕ, List, ap, arith, inl, inr, refl, subst, sym}
+use Rattle.std.proofs.Common.{le_trans, true, false}
+use Rattle.std.proofs.lemmas.Bool.{cases_Bool}
 use Rattle.tk_shape.specs.Lengths.{turn_count}
-use Rattle.tk_run.specs.Turns.{IsRunBefore}
-use Rattle.tk_run.specs.Servers.{nothing_seen}
+use Rattle.tk_words.specs.Words.{words_of}
+use Rattle.tk_frames.specs.declared.entry.Placed.{Placed}
+use Rattle.tk_report.specs.Serving.{read_replied}
+use Rattle.tk_report.specs.Turns.{placed_before}
+use Rattle.tk_run.specs.Keeping.{AreGiven, AreSound, begun_anew, held_now, is_due, kept_up_to, saved_before}
+use Rattle.tk_run.specs.Keeping.{turn_due}
+use Rattle.tk_run.specs.Servers.{alike, nothing_seen}
+use Rattle.tk_run.specs.Under.{IsRunning, IsRunUnder}
 use Rattle.tk_run.proofs.ErrorLaws.{on_err}
-use Rattle.tk_run.proofs.SeenLaws.{taps-first, taps-next, taps-all, fronts-next}
+use Rattle.tk_run.proofs.HoldingLaws.{run-due, run-last, run-next, run-with, serves-anew}
+use Rattle.tk_run.proofs.KeepingLaws.{is-due, not-due, kept-since, kept-still, kept-then, none-before, still-before}
+use Rattle.tk_run.proofs.SeenLaws.{taps-first, taps-next, taps-all, fronts-before, fronts-next}
 use Rattle.tk_run.proofs.turns.take_all_turns.Goals as goal
 
 pub turns-init : goal.turns-init
@@ -14,65 +22,181 @@ turns-init g c =
     let S = c.args.plan.now.script.now in
     let book = g.D.Draws.book c.args.plan.now.draws.now in
     let H = c.args.plan.now.history.now in
+    let begin = turn_due S c.args.due in
     record {
       kept = λ before is. is;
+      sound = c.requires.sound;
+      running = c.requires.running;
       run = c.requires.run;
-      taps = taps-first S book H (g.T.Taps.tap c.args.taps.now);
+      taps = λ given may.
+          taps-first S book H (read_replied S book H (begun_anew S book H begin given))
+          (g.T.Taps.tap c.args.taps.now);
       others = λ j out. refl;
       counts = omega arith;
     }
 
-pub returns-in_err-take_turn-clause-err : goal.returns-in_err-take_turn-clause-err
-returns-in_err-take_turn-clause-err g c =
-    let S = c.args.plan.now.script.now in
-    let tap = g.T.Taps.tap in
-    on_err _ c.from_residual.result
-    (fronts-next S (g.D.Draws.book c.args.plan.now.draws.now) c.args.plan.now.history.now
-    c.turns.turn
-    (tap c.args.taps.now) (tap c.turns.taps) (tap c.take_turn.new.taps)
-    (omega (arith, c.turns-test.true))
-    c.turns.invariant.taps c.in_err-take_turn.ensures.err)
-
-pub returns-clause-ok : goal.returns-clause-ok
-returns-clause-ok g c =
-    let S = c.args.plan.now.script.now in
-    let tap = g.T.Taps.tap in
-    let all : c.turns.turn ≡ turn_count S.shape = omega arith in
-    taps-all S (g.D.Draws.book c.args.plan.now.draws.now) c.args.plan.now.history.now c.turns.turn
-    (tap c.args.taps.now) (tap c.turns.taps) all c.turns.invariant.taps
+pub go_on_before-requires : goal.go_on_before-requires
+go_on_before-requires g c =
+    let range = c.args.plan.now.script.now.shape.in_range in
+    let counted = c.in_ok-take_turn.ensures.running.servers.counted in
+    (omega (arith, range.servers_low, counted), omega (arith, range.servers_high, counted))
 
 pub turns-preserved : goal.turns-preserved
 turns-preserved g c =
     let S = c.args.plan.now.script.now in
-    let tap = g.T.Taps.tap in
-    let is = c.turns.invariant in
-    let took = c.in_ok-take_turn.ensures in
-    let at = saved_before S (g.D.Draws.book c.args.plan.now.draws.now) c.args.plan.now.history.now in
+    let book = g.D.Draws.book c.args.plan.now.draws.now in
+    let H = c.args.plan.now.history.now in
+    let words = words_of S.shape book in
     let due = c.args.due in
+    let begin = turn_due S due in
+    let at = saved_before S book H in
+    let kept = g.K.Keeper.kept in
+    let gives = g.K.Keeper.gives in
+    let tap = g.T.Taps.tap in
+    let turn = c.turns.turn in
+    let so_far = c.turns.invariant in
+    let took = c.in_ok-take_turn.ensures in
+    let went = c.in_ok-go_on_before.ensures in
+    let was = c.turns.keeper in
+    let now = c.go_on_before.new.keeper in
+    let mid = c.take_turn.new.run in
+    let within : turn + 1 ≤ turn_count S.shape = omega (arith, c.turns-test.true) in
+    let E = placed_before S words H (turn + 1) in
+    -- what each is given is known before, if it was due before
+    let may-before = λ (given : ℕ → List Placed) (may : begin ≤ turn + 1 →
+    AreGiven S.shape (placed_before S words H begin) (gives now) given).
+    still-before S due turn within was now
+    (λ k. AreGiven S.shape (placed_before S words H begin) (gives k) given)
+    (λ isnt. went.same isnt) may
+    in
+    let before_it = λ (given : ℕ → List Placed) (may : begin ≤ turn + 1 →
+    AreGiven S.shape (placed_before S words H begin) (gives now) given).
+    so_far.run given (may-before given may)
+    in
+    let after_it = λ (given : ℕ → List Placed) (may : begin ≤ turn + 1 →
+    AreGiven S.shape (placed_before S words H begin) (gives now) given).
+    took.run (begun_anew S book H begin given) (held_now S words H begin given turn)
+    (serves-anew S book H begin given turn) (before_it given may)
+    in
+    let fresh = λ (given : ℕ → List Placed) (is : is_due due (turn + 1) ≡ true).
+    let here = is-due S due (turn + 1) is in
+    run-last S book H begin given turn mid here
+    (took.run (begun_anew S book H begin given) (held_now S words H begin given turn)
+    (serves-anew S book H begin given turn)
+    (so_far.run given (λ low. absurd (omega (arith, low, here)))))
+    in
     record {
-      kept = λ before so.
-          took.kept
-          ∙ ap (λ (xs : List (List ℕ)). xs ++ kept_at due (c.turns.turn + 1) (at (c.turns.turn + 1)))
-          (is.kept before so)
-          ∙ append_assoc before (kept_up_to due at c.turns.turn)
-          (kept_at due (c.turns.turn + 1) (at (c.turns.turn + 1)))
-          ∙ ap (λ (xs : List (List ℕ)). before ++ xs) (kept-next due at c.turns.turn);
-      run = took.run;
-      taps = taps-next S (g.D.Draws.book c.args.plan.now.draws.now) c.args.plan.now.history.now
-          c.turns.turn
+      kept = λ before first. elim (cases_Bool (is_due due (turn + 1))) [
+        | inl is ↦
+            kept-then S due at turn before (kept was) (kept now) within is (so_far.kept before first)
+            (went.kept is E nothing_seen (fresh (alike []) is))
+        | inr isnt ↦
+            ap kept (went.same isnt) ∙ so_far.kept before first
+            ∙ ap (λ (xs : List (List ℕ)). before ++ xs) (kept-still S due at turn within isnt)
+      ];
+      sound = λ low. elim (cases_Bool (is_due due (turn + 1))) [
+        | inl is ↦
+            subst (λ (n : ℕ). AreSound S.shape n (gives now)) took.running.servers.counted
+            (went.sound is)
+        | inr isnt ↦
+            subst (λ k. AreSound S.shape S.shape.servers (gives k)) (sym (went.same isnt))
+            (so_far.sound (none-before S due turn within isnt low))
+      ];
+      running = record {
+        group = took.running.group;
+        servers = went.ready E took.running.servers;
+        taken = went.taken ∙ took.running.taken;
+      };
+      run = λ given may. elim (cases_Bool (is_due due (turn + 1))) [
+        | inl is ↦
+            let here = is-due S due (turn + 1) is in
+            run-due S book H begin given (turn + 1) _ here (after_it given may).clients
+            (went.stand is E given (fresh given is)
+            (subst (λ (n : ℕ). AreGiven S.shape (placed_before S words H n) (gives now) given) here
+            (may (omega (arith, here)))))
+        | inr isnt ↦
+            run-with S book H (begun_anew S book H begin given) (turn + 1)
+            (held_now S words H begin given (turn + 1)) mid _ (sym (went.left isnt))
+            (run-next S book H begin given turn mid (not-due S due (turn + 1) within isnt)
+            (after_it given may))
+      ];
+      taps = λ given may.
+          let V = begun_anew S book H begin given in
+          taps-next S book H (read_replied S book H V) turn
           (tap c.args.taps.now) (tap c.turns.taps) (tap c.take_turn.new.taps)
-          is.taps took.ok;
-      others = λ j out. took.others j out ∙ is.others j out;
-      counts = le_trans is.counts took.counts;
+          (so_far.taps given (may-before given may))
+          (took.ok V (held_now S words H begin given turn) (serves-anew S book H begin given turn)
+          (before_it given may));
+      others = λ j out. took.others j out ∙ so_far.others j out;
+      counts = le_trans so_far.counts took.counts;
     }
 
-pub returns-clause-run : goal.returns-clause-run
-returns-clause-run g c =
+pub returns-in_err-take_turn-clause-err : goal.returns-in_err-take_turn-clause-err
+returns-in_err-take_turn-clause-err g c before given first begins =
     let S = c.args.plan.now.script.now in
     let book = g.D.Draws.book c.args.plan.now.draws.now in
-    let all : c.turns.turn ≡ turn_count S.shape = omega arith in
-    subst (λ n. IsRunBefore S book c.args.plan.now.history.now n nothing_seen c.turns.run) all
-    c.turns.invariant.run
+    let H = c.args.plan.now.history.now in
+    let words = words_of S.shape book in
+    let due = c.args.due in
+    let begin = turn_due S due in
+    let at = saved_before S book H in
+    let V = begun_anew S book H begin given in
+    let tap = g.T.Taps.tap in
+    let turn = c.turns.turn in
+    let so_far = c.turns.invariant in
+    let within : turn < turn_count S.shape = omega (arith, c.turns-test.true) in
+    let may = λ (low : begin ≤ turn).
+    begins (omega (arith, low, within))
+    (so_far.kept before first
+    ∙ ap (λ (xs : List (List ℕ)). before ++ xs)
+    (kept-since S due at turn (omega (arith, within)) low))
+    in
+    on_err _ c.from_residual.result
+    (fronts-next S book H (read_replied S book H V) turn
+    (tap c.args.taps.now) (tap c.turns.taps) (tap c.take_turn.new.taps) within
+    (so_far.taps given may)
+    (c.in_err-take_turn.ensures.err V (held_now S words H begin given turn)
+    (serves-anew S book H begin given turn) (so_far.run given may)))
+
+pub returns-in_err-go_on_before-clause-err : goal.returns-in_err-go_on_before-clause-err
+returns-in_err-go_on_before-clause-err g c before given first begins =
+    let S = c.args.plan.now.script.now in
+    let book = g.D.Draws.book c.args.plan.now.draws.now in
+    let H = c.args.plan.now.history.now in
+    let words = words_of S.shape book in
+    let due = c.args.due in
+    let begin = turn_due S due in
+    let at = saved_before S book H in
+    let V = begun_anew S book H begin given in
+    let kept = g.K.Keeper.kept in
+    let gives = g.K.Keeper.gives in
+    let tap = g.T.Taps.tap in
+    let turn = c.turns.turn in
+    let so_far = c.turns.invariant in
+    let took = c.in_ok-take_turn.ensures in
+    let was = c.turns.keeper in
+    let now = c.go_on_before.new.keeper in
+    let within : turn + 1 ≤ turn_count S.shape = omega (arith, c.turns-test.true) in
+    let may = λ (low : begin ≤ turn).
+    elim (cases_Bool (is_due due (turn + 1))) as (λ _. AreGiven S.shape
+    (placed_before S words H begin) (gives was) given) [
+      | inl is ↦ absurd (omega (arith, low, is-due S due (turn + 1) is))
+      | inr isnt ↦
+          let same = c.in_err-go_on_before.ensures.same isnt in
+          subst (λ k. AreGiven S.shape (placed_before S words H begin) (gives k) given) same
+          (begins (omega (arith, low, within))
+          (ap kept same ∙ so_far.kept before first
+          ∙ ap (λ (xs : List (List ℕ)). before ++ xs)
+          (kept-since S due at turn (omega (arith, within)) low)))
+    ]
+    in
+    on_err _ c.from_residual-in_err-go_on_before.result
+    (fronts-before S book H (read_replied S book H V) (turn + 1) (tap c.args.taps.now)
+    (tap c.take_turn.new.taps) within
+    (taps-next S book H (read_replied S book H V) turn
+    (tap c.args.taps.now) (tap c.turns.taps) (tap c.take_turn.new.taps) (so_far.taps given may)
+    (took.ok V (held_now S words H begin given turn) (serves-anew S book H begin given turn)
+    (so_far.run given may))))
 
 pub returns-clause-kept : goal.returns-clause-kept
 returns-clause-kept g c before is =
@@ -81,3 +205,39 @@ returns-clause-kept g c before is =
     let all : c.turns.turn ≡ turn_count S.shape = omega arith in
     subst (λ n. g.K.Keeper.kept c.turns.keeper ≡ before ++ kept_up_to c.args.due at n) all
     (c.turns.invariant.kept before is)
+
+pub returns-clause-sound : goal.returns-clause-sound
+returns-clause-sound g c low =
+    let all : c.turns.turn ≡ turn_count c.args.plan.now.script.now.shape = omega arith in
+    c.turns.invariant.sound (omega (arith, low, all))
+
+pub returns-clause-running : goal.returns-clause-running
+returns-clause-running g c =
+    let S = c.args.plan.now.script.now in
+    let book = g.D.Draws.book c.args.plan.now.draws.now in
+    let all : c.turns.turn ≡ turn_count S.shape = omega arith in
+    subst (λ n. IsRunning S book c.args.plan.now.history.now n c.turns.run) all
+    c.turns.invariant.running
+
+pub returns-clause-run : goal.returns-clause-run
+returns-clause-run g c given may =
+    let S = c.args.plan.now.script.now in
+    let book = g.D.Draws.book c.args.plan.now.draws.now in
+    let H = c.args.plan.now.history.now in
+    let begin = turn_due S c.args.due in
+    let all : c.turns.turn ≡ turn_count S.shape = omega arith in
+    subst (λ n. IsRunUnder S book H (begun_anew S book H begin given) n
+    (held_now S (words_of S.shape book) H begin given n) nothing_seen c.turns.run) all
+    (c.turns.invariant.run given (λ low. may (omega (arith, low, all))))
+
+pub returns-clause-ok : goal.returns-clause-ok
+returns-clause-ok g c given may =
+    let S = c.args.plan.now.script.now in
+    let book = g.D.Draws.book c.args.plan.now.draws.now in
+    let H = c.args.plan.now.history.now in
+    let begin = turn_due S c.args.due in
+    let tap = g.T.Taps.tap in
+    let all : c.turns.turn ≡ turn_count S.shape = omega arith in
+    taps-all S book H (read_replied S book H (begun_anew S book H begin given)) c.turns.turn
+    (tap c.args.taps.now) (tap c.turns.taps) all
+    (c.turns.invariant.taps given (λ low. may (omega (arith, low, all))))

@@ -1,16 +1,25 @@
 -- There is a reply to each read, and both are seen.
-use Rattle.std.proofs.Common.{◌∙◌, ◌-◌, ◌≤◌, ap, sym, subst, length}
+use Rattle.std.proofs.Common.{◌∙◌, ◌-◌, ◌≤◌, ap, sym, subst, arith, length}
 use Rattle.tk_frames.specs.InOrder.{mark_count}
 use Rattle.tk_replica.specs.Replica.{ReplicaView, StandsFor}
-use Rattle.tk_run.proofs.ServerLaws.{replies-are, replies-counted, pairs-are}
+use Rattle.tk_run.proofs.ServerLaws.{replies-are, pairs-are}
 use Rattle.tk_run.proofs.server.Server.answer.Goals as goal
 
 pub see-requires : goal.see-requires
 see-requires c =
-    let may = c.requires in
-    let replies = c.in-Ok.ensures.replies may.shape may.E may.is.state in
-    ap length c.as_slice.ensures.value
-    ∙ replies-counted may.shape may.E c.args.frames.now c.in-Ok.replies.items replies
+    let lent = ap length c.as_slice.ensures.value in
+    omega (arith, lent)
+
+pub returns-clause-ready : goal.returns-clause-ready
+returns-clause-ready c shape E is =
+    let state = c.see.ensures.state in
+    let displaced = c.see.ensures.displaced in
+    record {
+      same = ap (λ (s : ReplicaView). s.shape) state ∙ is.same;
+      last = ap (λ (s : ReplicaView). s.last) state ∙ is.last;
+      some = subst (λ (s : ReplicaView). s.floor ≤ s.last) (sym state) is.some;
+      displaced = omega (arith, displaced, is.displaced);
+    }
 
 pub returns-clause-replies : goal.returns-clause-replies
 returns-clause-replies c = λ shape E bytes reads is are.
