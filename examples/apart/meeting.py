@@ -20,6 +20,7 @@ from parts.printable import shown
 MARK, RECORD = 4, 5
 # The words of lines that tell what came; the others are about what is said.
 CAME = ("text", "absent")
+REFUSALS = {1: "writer", 2: "long", 3: "text"}
 
 
 def program(name, path):
@@ -108,6 +109,28 @@ def script_of(member, shape, setups, journals):
     for turn, _, log, text in said:
         lines.append(b"say %d %d %d %s" % (turn // shape.ticks + 1, turn % shape.ticks + 1, log, text))
     return b"".join(line + b"\n" for line in [*lines, b"end"])
+
+
+# What members tell, as the report has it: a word, a log's number, and a number on the log or a cause.
+
+
+def line_of(data):
+    """The line of a packet that a member's program has for its host."""
+    log, rest = number_at(data, 1), data[5:]
+    if data[:1] == b"r":
+        return f"refused {log} {REFUSALS[rest[0]]}"
+    if data[:1] == b"a":
+        return f"absent {log} {number_at(rest, 0)}"
+    return f"text {log} {number_at(rest, 0)} {shown(rest[4:])}"
+
+
+def plain_line(line, labels):
+    """The line of the report that a switch prints with a log's label and the turn of the read; the others are as they
+    are."""
+    if line.split(" ")[0] not in CAME:
+        return line
+    word, label, number, _, *text = line.split(" ", 4)
+    return " ".join([word, str(labels.all.index(label)), number, *text])
 
 
 # What is defined of a script.

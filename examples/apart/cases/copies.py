@@ -28,10 +28,10 @@ def copied_folder(stage: Stage) -> None:
         stage.notes.append("both ended")
         return stage.pads()
     demand(first.ended() == "ended copied", f"beside a copy the first one ended with {first.ended()!r}")
-    demand(set(first.lines("unsent")) == {"unsent 1 said by the first"}, "a text was lost beside a copy")
+    demand(set(first.lines("unsent")) == {"unsent ben said by the first"}, "a text was lost beside a copy")
     demand(first.ticks() == ticks, "the first one ticked beside a copy")
     # (of what waited when the folder was copied, the copy says too that it wasn't sent)
-    waited = len([it for it in copy.lines("unsent") if it == "unsent 1 said by the first"])
+    waited = len([it for it in copy.lines("unsent") if it == "unsent ben said by the first"])
     copy.typed += [it for it in first.typed if it != "say 1 said by the first"] + ["say 1 said by the first"] * waited
     stage.members[1] = copy
     stage.members[2].start()

@@ -5,6 +5,8 @@ from __future__ import annotations
 import shutil
 
 from cases.stage import NAMES, Stage, demand
+from parts.group_file import parse
+from parts.labels import Labels
 
 
 def leaving(stage: Stage) -> None:
@@ -34,6 +36,7 @@ def change(stage: Stage) -> None:
         "log 1: ben draws a new root, since cem had it, and gives it to ann, dan",
         "log 2: dan draws a new root, since cem had it, and gives it to ann, ben"], f"a change: {duties}")
     (stage.folder / "next").write_bytes(made.stdout)
+    stage.labels = Labels(parse(made.stdout).logs)
     demand(b"\nrun 2\n" in made.stdout and b"\nanew 0 1 2\n" in made.stdout and b"cem" not in made.stdout, "the change")
     refuse_used(stage)
     names = [*NAMES[:2], "dan"]

@@ -65,8 +65,8 @@ def different_writes(stage: Stage) -> None:
         end.start(lie=stage.rng.choice(OF_MEMBERS) if end is liar else "")
     stage.say(1)
     for member in stage.members[:2]:
-        stage.until(lambda: "different writes of cem (client 2): server 1 has" in member.complaints()
-                    and ", server 2 has" in member.complaints(), "the name of who writes differently")
+        stage.until(lambda: "different writes of cem (client 2): server 1 (ann) has" in member.complaints()
+                    and ", server 2 (ben) has" in member.complaints(), "the name of who writes differently")
     for member in stage.members[:2]:
         demand(not member.is_over(), "a member ended since another one wrote differently")
         member.stop()

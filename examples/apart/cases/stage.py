@@ -21,9 +21,12 @@ from typing import Any, Callable, Dict, List, Sequence, Tuple
 import beside
 from cases import tried_switch
 from cases.child import Child
-from meeting import WRITE, CameAbout, Shape, differences, texts_said
-from parts import home, journal
+from driven import Driven
+from meeting import CAME, REPLY, WRITE, CameAbout, Shape, differences, line_of, plain_line, texts_said
+from parts import errors, home, journal
+from parts.group_file import parse
 from parts.keys import KEY
+from parts.labels import Labels
 from parts.limits import Limits
 from parts.packets import HOST, TICK, Packet
 from parts.printable import shown
@@ -239,6 +242,7 @@ class Stage:
         (self.folder / "plan").write_text("\n".join(plan) + "\n")
         lines = self.tool("new", "plan", *(f"{name}.identity" for name in NAMES))
         (self.folder / "group").write_bytes(lines)
+        self.labels = Labels(parse(lines).logs)
         for name in NAMES:
             self.tool("folder", "group", name)
         self.servers = [self.end(self.place(NAMES[j], f"server-{j + 1}"), "serve") for j in range(2)]
@@ -279,11 +283,12 @@ class Stage:
     # ---- what happens
 
     def until(self, holds: Callable[[], Any], what: str, seconds: float = PATIENCE) -> None:
-        """Waits until something holds, as long as no switch broke."""
+        """Waits until something holds, as long as no switch breaks."""
         end = time.monotonic() + seconds
+        alive = [it for it in self.ends if it.process and not it.is_over()]
         while not holds():
-            broken = [it for it in self.ends if it.process and it.process.poll() == 1]
-            if broken:
+            broken = [it for it in alive if it.process.poll() in (1, errors.End.BROKEN.status)]
+            if broken and not holds():
                 raise Failed(f"{broken[0].folder} broke: {broken[0].complaints()[-1000:]}")
             if time.monotonic() > end:
                 raise Failed(f"waited in vain for {what}")
@@ -324,23 +329,29 @@ class Stage:
         """What came about is what is defined, and each text has its fate."""
         setups = [(it.folder / "setup").read_bytes() for it in self.members]
         served, journals = ([it.journal() for it in ends] for ends in (self.servers, self.members))
-        told = [it.told()[:-1] for it in self.members]
+        told = [[plain_line(line, self.labels) for line in it.told()[:-1]] for it in self.members]
         wrong = list(differences(self.programs, CameAbout(self.shape, setups, journals, served, told)))
         demand(not wrong, "; ".join(wrong)[:2000])
         for client in range(len(self.members)):
             self.compare_fates(client, journals[client])
+            self.compare_turns(client, journals[client])
 
     def compare_fates(self, client: int, packets: List[Packet]) -> None:
         """Each text that was typed was sent as it was told, or refused, or told as unsent, and one of these alone."""
         member = self.members[client]
         said = list(texts_said(self.programs.member, client, packets, self.shape.turns))
         counts: Dict[int, int] = {}
-        due, last = [], -1
-        for turn, _, log, _ in said:
+        sent, readable, last = [], [], -1
+        for turn, _, log, text in said:
             turn = last = max(turn, last + 1)  # each turn takes one text
-            due.append(f"sent {log} {counts.get(log, 0)} {turn}")
-            counts[log] = counts.get(log, 0) + 1
-        demand(member.lines("sent") == due, f"client {client} told {member.lines('sent')} as sent, and not {due}")
+            number, label = counts.get(log, 0), self.labels.of(log)
+            counts[log] = number + 1
+            sent.append(f"sent {label} {number} {turn} {shown(text)}")
+            # others read it from the next phase on, so it must be written before the last one
+            readable.append(f"readable {label} {number} {(turn // self.shape.ticks + 1) * self.shape.ticks}")
+            demand(turn < self.shape.turns - self.shape.ticks, f"client {client} sent in turn {turn} what nobody reads")
+        for word, due in [("sent", sent), ("readable", readable)]:
+            demand(member.lines(word) == due, f"client {client} told {member.lines(word)}, and not {due}")
         typed = sorted(it.split(" ", 2)[2] for it in member.typed)
         starts = range(len(member.files))
         unsent = [it.split(" ", 2)[2] for start in starts for it in member.lines("unsent", start)]
@@ -351,6 +362,21 @@ class Stage:
             demand(words in rest, f"client {client} told a fate of {words!r}, which wasn't typed")
             rest.remove(words)
         demand(len(rest) == refused, f"of client {client} {rest} have no fate, and {refused} were refused")
+
+    def compare_turns(self, client: int, packets: List[Packet]) -> None:
+        """What came is told with the turn of the read that brought it: the one whose replies were given last."""
+        program, due = Driven(self.programs.member, packets[0][1], client=True), []
+        replies = dict.fromkeys(range(1, len(self.servers) + 1), 0)
+        for peer, data in packets[1:]:
+            if peer and data[0] == REPLY:
+                replies[peer] += 1
+            for to, told in program.give(peer, data):
+                if to == HOST and told[:1] != b"r":
+                    word, log, *rest = line_of(told).split(" ", 3)
+                    due.append(" ".join([word, self.labels.of(int(log)), rest[0], str(min(replies.values()) - 1), *rest[1:]]))
+        program.close()
+        told = [line for line in self.members[client].told() if line.split(" ")[0] in CAME]
+        demand(told == due, f"client {client} told {told}, and not {due}")
 
     def pads(self) -> None:
         """No two writes of one client and turn differ, wherever they went."""

@@ -4,6 +4,14 @@ from __future__ import annotations
 
 import asyncio
 import time
+from typing import NamedTuple
+
+
+class Moment(NamedTuple):
+    """A moment by the clock that is shown and may be set, and by one that nobody sets."""
+
+    shown: float
+    even: float
 
 
 class Clock:
@@ -11,6 +19,9 @@ class Clock:
 
     def now(self) -> float:
         return time.time()
+
+    def moment(self) -> Moment:
+        return Moment(self.now(), time.monotonic())
 
     async def wait(self, seconds: float) -> None:
         await asyncio.sleep(seconds)

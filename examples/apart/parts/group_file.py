@@ -160,6 +160,10 @@ class Group:
         """The certificate of server `number`, or of client `number - 1`."""
         return self.identities[self.name_of(role, number)]
 
+    def server_called(self, number: int) -> str:
+        """A server by its number and who keeps it."""
+        return f"server {number} ({self.servers[number - 1].name})"
+
     def name_of(self, role: str, number: int) -> str:
         return self.servers[number - 1].name if role == "server" else self.clients[number - 1]
 

@@ -24,8 +24,8 @@ class Limits:
     longest_pause: float = 15
     # between two lines of one error
     same_error: float = 60
-    # until it is told what doesn't come
-    patience: float = 60
+    # until it is told who is awaited
+    patience: float = 10
     # how long a member tries to say that it needs no more
     farewell: float = 10
     # how long the last lines wait for someone to read them

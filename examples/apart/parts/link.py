@@ -18,7 +18,7 @@ from parts.limits import Limits
 from parts.outbox import Outbox
 from parts.packets import NUMBER
 
-LETTERS = b"talek\0\0\3"
+LETTERS = b"talek\0\0\4"
 # These letters, the group file's digest, who speaks (server j or client j - 1), an instance, and how many packets it
 # has of the other. A client tells its own instance, a server the last one that it heard of the client.
 GREETING = struct.Struct(">8s32sI16sQ")
@@ -36,6 +36,7 @@ class Mark(enum.IntEnum):
     HEARD = 0xFFFFFFFD  # from a server: it knows that, and has so many packets; or that the member needs no more
     WRITES = 0xFFFFFFFC  # from a server: a phase, and a digest of each client's writes in it
     CLOSED = 0xFFFFFFFB  # from a server: it takes nothing more of this member
+    LATE = 0xFFFFFFFA  # from a server: a bit for each client for whom the others wait
 
 
 class Greeting(NamedTuple):
@@ -58,6 +59,8 @@ class Link:
         self.place, self.reader, self.writer = place, reader, writer
         self.other = "client" if place.role == "server" else "server"
         self.said = 0  # how many packets of the peer it heard that the journal has
+        self.is_heard = False  # whether the member at its other end was told that it is heard
+        self.late = 0  # of whom it was said last that they are late
         keep_alive(writer.get_extra_info("socket"), limits.silence)
 
     # ---- how it begins
@@ -99,7 +102,7 @@ class Link:
         (size,) = NUMBER.unpack(await self.reader.readexactly(NUMBER.size))
         if size <= longest:
             return None, await self.reader.readexactly(size)
-        sizes = {Mark.KEPT: COUNT.size, Mark.SPEAKS: 0, Mark.HEARD: COUNT.size, Mark.CLOSED: 0,
+        sizes = {Mark.KEPT: COUNT.size, Mark.SPEAKS: 0, Mark.HEARD: COUNT.size, Mark.CLOSED: 0, Mark.LATE: COUNT.size,
                  Mark.WRITES: NUMBER.size + 16 * len(self.place.group.clients)}
         if size not in sizes:
             raise Wrong("a peer sends more than any frame has")

@@ -8,15 +8,18 @@ import random
 import secrets
 import socket
 import ssl
+import time
 from pathlib import Path
 from typing import Callable, Dict, List, Protocol
 
+from parts.awaiting import Awaiting
 from parts.carrier import Carrier
 from parts.clock import Clock, until_next
 from parts.errors import End, Stop, Wrong
 from parts.folder import Place
-from parts.frames import WRITE
+from parts.frames import READS, WRITE
 from parts.journal import INSTANCE, RECORD_SIZE, filler
+from parts.labels import Labels
 from parts.limits import Limits
 from parts.link import COUNT, INSTANCE_SIZE, NO_INSTANCE, Greeting, Item, Link, Mark, Sender
 from parts.outbox import ALL
@@ -65,7 +68,7 @@ class Member:
         self.place, self.put, self.complaints, self.limits, self.clock = place, put, complaints, limits, clock
         self.carrier = Carrier(place, limits)
         self.carrier.on_given, self.carrier.on_sent, self.carrier.on_told = self.given, self.sent, self.told
-        self.sentry, self.fates = Sentry(place.group), Fates(place.group)
+        self.sentry, self.fates, self.labels = Sentry(place.group), Fates(place.group), Labels(place.group.logs)
         self.judge = Judge(place.group, place.number - 1)
         self.waiting: Waiting | None = None
         self.instance = secrets.token_bytes(INSTANCE_SIZE)
@@ -78,6 +81,12 @@ class Member:
         self.counted: set[int] = set()  # the servers of which the program was told how many packets they have
         self.left: set[int] = set()  # the servers that heard that this member needs no more
         self.pauses = {server: limits.pause for server in self.servers}
+        # the servers that don't greet, or don't answer once all greeted, and since when
+        self.missing = dict.fromkeys(self.servers, clock.moment())
+        self.late: Dict[int, List[str]] = {}  # by server, the members who are late, as it says
+        self.last_came = clock.moment()  # when the program was given something last
+        self.awaits_link = Awaiting(put, "connected", limits.patience)
+        self.awaits_others = Awaiting(put, "goes on", max(limits.patience, 3 * place.group.tick))
         # a tick's records are as long with a text as without one
         self.tick_size = len(say(0, bytes(place.group.shape.longest_text))) + 3 * RECORD_SIZE + len(TICK) + 1
 
@@ -87,18 +96,35 @@ class Member:
         self.fates.take(peer, data)
         if peer != HOST:
             self.sentry.took(peer, data)
+            self.late = {}
+        self.last_came = self.clock.moment()
+        self.awaits_others.over()
 
     def sent(self, server: int, frame: bytes) -> None:
         self.sentry.sent(server, frame)
         if server == len(self.servers) and frame[0] == WRITE:
             sent = self.fates.wrote()
             for text, number, turn in sent:
-                self.put(f"sent {text.log} {number} {turn}")
+                self.tell("sent", text.log, number, turn, shown(text.words))
             if sent and self.waiting:
                 self.waiting.save()  # (not with the tick: it would be seen)
+        elif server == len(self.servers) and frame[0] in READS:
+            for text, number, turn in self.fates.read(number_at(frame, 6)):
+                self.tell("readable", text.log, number, turn)
 
     def told(self, data: bytes) -> None:
-        self.put(line_of(data))
+        """The program tells its host something, after it sent the read that brought it and before the next one."""
+        log, rest, turn = number_at(data, 1), data[5:], self.sentry.turn_read()
+        if data[:1] == b"r":
+            self.tell("refused", log, CAUSES.get(rest[0], rest[0]))
+        elif data[:1] == b"a":
+            self.tell("absent", log, number_at(rest, 0), turn)
+        else:
+            self.tell("text", log, number_at(rest, 0), turn, shown(rest[4:]))
+
+    def tell(self, word: str, log: int, *rest: object) -> None:
+        """Prints a line about a log."""
+        self.put(" ".join(map(str, [word, self.labels.of(log), *rest])))
 
     # ---- its links
 
@@ -119,6 +145,7 @@ class Member:
             self.sentry.forget(server)
             if self.links.get(server) is link:
                 del self.links[server]
+            self.missing.setdefault(server, self.clock.moment())
             if not self.may_speak.is_set():
                 self.greeted.discard(server)
             link.close()
@@ -129,23 +156,24 @@ class Member:
         if greeting.peer != server:
             raise Wrong(f"at its address there is server {greeting.peer}")
         if greeting.instance not in self.own:
-            raise Stop(End.COPIED, f"server {server} heard another start of this member, of which this folder knows "
-                                   "nothing: this is a copy, or older than what ran last, or the server lies")
+            raise Stop(End.COPIED, f"{self.name_of(server)} heard another start of this member, of which this folder "
+                                   "knows nothing: this is a copy, or older than what ran last, or the server lies")
         self.check_count(server, greeting.count)
 
     def check_count(self, server: int, count: int) -> None:
         sent = self.carrier.outbox(server).count
         if count > sent:
-            raise Stop(End.OLDER, f"server {server} says that it has {count} packets of this member, which sent {sent}:"
-                                  " this folder is older than what ran last, or the server lies")
+            raise Stop(End.OLDER, f"{self.name_of(server)} says that it has {count} packets of this member, which sent "
+                                  f"{sent}: this folder is older than what ran last, or the server lies")
 
     async def speak(self, server: int, link: Link) -> int:
         """Speaks for this member once all servers greeted it: each of them then hears this instance alone. Gives how
         many packets the server has, of which none more comes by an older link."""
         self.greeted.add(server)
+        self.missing.pop(server, None)
         if len(self.greeted) == len(self.servers) or self.carrier.is_done():
             self.may_speak.set()
-        mark, data = await self.answer_to_speaking(link)
+        mark, data = await self.answer_to_speaking(server, link)
         if mark is Mark.CLOSED:
             raise Wrong("it takes nothing more of this member, since it refused a frame of it")
         if mark is not Mark.HEARD:
@@ -156,16 +184,26 @@ class Member:
             self.counted.add(server)
             self.carrier.feed([(HOST, has(count))])
         self.links[server], self.pauses[server] = link, self.limits.pause
+        self.missing.pop(server, None)
         if len(self.links) == len(self.servers):
-            self.is_heard.set()
+            self.tell_connected()
         return count
 
-    async def answer_to_speaking(self, link: Link) -> Item:
+    def tell_connected(self) -> None:
+        """Tells that all servers are there, for the first time or after one was awaited."""
+        if not self.is_heard.is_set():
+            self.is_heard.set()
+            self.put("connected")
+            self.awaits_link.told.clear()
+        self.awaits_link.over()
+
+    async def answer_to_speaking(self, server: int, link: Link) -> Item:
         """Says that this instance speaks, once it may. Gives what comes for that, or what came before."""
         answer, allowed = asyncio.create_task(link.next(0)), asyncio.create_task(self.may_speak.wait())
         try:
             await asyncio.wait([answer, allowed], return_when=asyncio.FIRST_COMPLETED)
             if not answer.done():
+                self.missing[server] = self.clock.moment()
                 link.send_mark(Mark.SPEAKS)
             return await asyncio.wait_for(answer, self.limits.hearing)
         finally:
@@ -182,6 +220,8 @@ class Member:
                 mark, data = await link.next(LONGEST)
                 if mark is Mark.WRITES:
                     self.sentry.hear_digests(server, number_at(data, 0), data[NUMBER.size :])
+                elif mark is Mark.LATE:
+                    self.late[server] = self.names_of(*COUNT.unpack(data))
                 elif mark is Mark.HEARD and self.carrier.is_done():
                     self.left.add(server)
                 elif mark:
@@ -206,10 +246,10 @@ class Member:
                 self.complaints.tell(str(why))
                 self.pauses = {it: self.limits.longest_pause for it in self.servers}
             except Wrong as why:
-                self.complaints.tell(f"server {server}: {why}")
+                self.complaints.tell(f"{self.name_of(server)}: {why}")
                 self.pauses[server] = max(self.pauses[server], 4 * self.limits.pause)
             except (OSError, asyncio.TimeoutError) as why:
-                self.complaints.tell(f"server {server}: {cause_of(why)}")
+                self.complaints.tell(f"{self.name_of(server)}: {cause_of(why)}")
             pause = self.pauses[server]
             self.pauses[server] = min(2 * pause, self.limits.longest_pause)
             await asyncio.sleep(pause * random.uniform(0.5, 1.5))
@@ -225,7 +265,7 @@ class Member:
             await self.clock.wait(until_next(self.clock.now(), seconds, is_first))
             is_first = False
             if self.may_act() and self.fates.is_quiet() and self.fates.turns_left():
-                self.carrier.feed(self.tick_packets(self.waiting.take(1)))
+                self.carrier.feed(self.tick_packets(self.waiting.take(min(1, self.fates.turns_for_texts()))))
 
     def may_act(self) -> bool:
         return len(self.links) == len(self.servers) and not self.carrier.over.is_set()
@@ -235,20 +275,43 @@ class Member:
         size = sum(RECORD_SIZE + len(data) for _, data in packets)
         return [*packets, filler(self.tick_size - size)]
 
+    # ---- who is awaited
+
+    def name_of(self, server: int) -> str:
+        return self.place.group.server_called(server)
+
+    def keeper_of(self, server: int) -> str:
+        return f"the server of {self.place.group.servers[server - 1].name}"
+
+    def names_of(self, late: int) -> List[str]:
+        """The names of the other members who are late, as a server says by a bit for each."""
+        clients = self.place.group.clients
+        if late >> len(clients):
+            raise Wrong("it says that somebody is late who isn't there")
+        return [name for at, name in enumerate(clients) if late >> at & 1 and at != self.place.number - 1]
+
     async def watch(self) -> None:
-        """Tells what doesn't come, where nothing came for long."""
+        """Tells who is awaited, where nothing came for long."""
         while True:
-            before = self.carrier.count_fed
-            await asyncio.sleep(self.limits.patience)
-            if self.carrier.count_fed == before and len(self.links) == len(self.servers):
-                for what in self.sentry.awaited():
-                    self.complaints.tell(what)
+            await asyncio.sleep(self.limits.patience / 4)
+            self.awaits_link.tell({self.keeper_of(server): since for server, since in self.missing.items()})
+            if len(self.links) == len(self.servers):
+                self.awaits_others.tell(dict.fromkeys(self.awaited(), self.last_came))
+
+    def awaited(self) -> List[str]:
+        """From whom something is to come, though all servers are there."""
+        kept_back = self.sentry.awaited()
+        if time.monotonic() - self.last_came.even >= self.awaits_others.patience:
+            for why in kept_back.values():
+                self.complaints.tell(why)
+        late = {name for names in self.late.values() for name in names}
+        return [*map(self.keeper_of, kept_back), *sorted(late)]
 
     # ---- what is typed
 
     def take_line(self, line: bytes) -> None:
         """Takes a line that was typed."""
-        said = read_line(line)
+        said = read_line(line, self.labels)
         if said is None:
             self.put("want 'say LOG TEXT' or 'away N'")
         elif said.text is None:
@@ -258,12 +321,12 @@ class Member:
 
     def say(self, text: Text) -> None:
         cause = self.judge.refuses(text)
-        if cause is None and len(self.waiting.texts) >= self.fates.turns_left():
+        if cause is None and len(self.waiting.texts) >= self.fates.turns_for_texts():
             cause = "over"
         if cause is None and not self.waiting.has_room(text):
             cause = "full"
         if cause:
-            self.put(f"refused {text.log} {cause}")
+            self.tell("refused", text.log, cause)
         else:
             self.waiting.put(text)
 
@@ -274,16 +337,16 @@ class Member:
             while not self.may_act():
                 await asyncio.sleep(0.1)
             count = min(turns, self.fates.turns_left())
-            texts = self.waiting.take(count)
+            texts = self.waiting.take(min(count, self.fates.turns_for_texts()))
             self.carrier.feed([*packets_of_texts(texts), (HOST, ahead(count))])
             self.put(f"away {count}")
             if count < turns:
                 self.complaints.tell(f"away {turns}: only {count} turns were left")
-            self.give_up(self.waiting.take(max(0, len(self.waiting.texts) - self.fates.turns_left())))
+            self.give_up(self.waiting.take(max(0, len(self.waiting.texts) - self.fates.turns_for_texts())))
 
     def give_up(self, texts: List[Text]) -> None:
         for text in texts:
-            self.put(f"unsent {text.log} {shown(text.words)}")
+            self.tell("unsent", text.log, shown(text.words))
 
     # ---- its run
 
@@ -317,10 +380,11 @@ class Member:
     def tell_rest(self, lines: Lines) -> None:
         """Tells what becomes of the texts that have no fate yet."""
         self.give_up(self.waiting.take(len(self.waiting.texts)))
-        self.give_up([said.text for said in map(read_line, lines.rest()) if said and said.text])
+        typed = [read_line(line, self.labels) for line in lines.rest()]
+        self.give_up([said.text for said in typed if said and said.text])
         self.waiting.close()
         for text in [] if self.carrier.is_done() else self.fates.on_the_way():
-            self.put(f"waits {text.log} {shown(text.words)}")
+            self.tell("waits", text.log, shown(text.words))
 
     def is_told(self) -> bool:
         """Whether each server heard that this member needs no more."""
@@ -346,13 +410,3 @@ def cause_of(why: Exception) -> str:
     if isinstance(why, OSError) and why.errno and not isinstance(why, socket.gaierror):
         return os.strerror(why.errno)
     return str(why) or type(why).__name__
-
-
-def line_of(data: bytes) -> str:
-    """The line of a packet that a member's program has for its host."""
-    log, rest = number_at(data, 1), data[5:]
-    if data[:1] == b"r":
-        return f"refused {log} {CAUSES.get(rest[0], rest[0])}"
-    if data[:1] == b"a":
-        return f"absent {log} {number_at(rest, 0)}"
-    return f"text {log} {number_at(rest, 0)} {shown(rest[4:])}"

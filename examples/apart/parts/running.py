@@ -93,7 +93,7 @@ class Running:
         loop.set_exception_handler(self.tell_unexpected)
         logging.getLogger("asyncio").setLevel(logging.CRITICAL)
         if self.form == "serve":
-            made = Server(self.place, self.complaints, self.limits)
+            made = Server(self.place, self.put, self.complaints, self.limits, self.clock)
             work = made.run(program)
         else:
             made = Member(self.place, self.put, self.complaints, self.limits, self.clock)

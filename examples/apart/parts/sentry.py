@@ -110,21 +110,26 @@ class Sentry:
         for client, name in enumerate(self.group.clients):
             by_server = {server: digests[client].hex()[:8] for server, digests in parts.items()}
             if len(set(by_server.values())) > 1:
-                sides = ", ".join(f"server {server} has {it}" for server, it in by_server.items())
+                sides = ", ".join(f"{self.group.server_called(server)} has {it}" for server, it in by_server.items())
                 wrong.append(f"{name} (client {client}): {sides}")
         if wrong:
             raise Differ(f"in phase {phase} servers have different writes of {'; of '.join(wrong)}")
 
+    def turn_read(self) -> int:
+        """The turn of the last read that went to all servers."""
+        return len(self.told[self.shape.servers].reads) - 1
 
-    def awaited(self) -> List[str]:
-        """What is to come, and from whom."""
-        found, least = [], min(told.epochs for told in self.told.values())
+    def awaited(self) -> Dict[int, str]:
+        """By server that keeps something back, what that is."""
+        found, least = {}, min(told.epochs for told in self.told.values())
         has_next = [it for it, told in self.told.items() if told.held or told.epochs > least]
         for server, told in self.told.items():
+            who = self.group.server_called(server)
             if told.replies < len(told.reads):
-                found.append(f"server {server} hasn't answered the read of turn {number_at(told.reads[-1], 4)}")
+                found[server] = f"{who} hasn't answered the read of turn {number_at(told.reads[-1], 4)}"
             elif has_next and server not in has_next:
-                found.append(f"server {server} hasn't told epoch {least + 1}, which server {has_next[0]} has told")
+                other = self.group.server_called(has_next[0])
+                found[server] = f"{who} hasn't told epoch {least + 1}, which {other} has told"
         return found
 
 

@@ -4,10 +4,13 @@ from __future__ import annotations
 
 import asyncio
 import ssl
+import time
 from pathlib import Path
 from typing import Callable, Dict, List
 
+from parts.awaiting import Awaiting
 from parts.carrier import Carrier
+from parts.clock import Clock
 from parts.door import Door, listening_at
 from parts.errors import Wrong
 from parts.folder import Place
@@ -39,8 +42,11 @@ class ToMember(Sender):
 class Server:
     """A server's switch."""
 
-    def __init__(self, place: Place, complaints: Complaints, limits: Limits) -> None:
-        self.place, self.complaints, self.limits = place, complaints, limits
+    def __init__(self, place: Place, put: Callable[[str], None], complaints: Complaints, limits: Limits,
+                 clock: Clock) -> None:
+        self.place, self.complaints, self.limits, self.clock = place, complaints, limits, clock
+        self.last_came = clock.moment()  # when the program was given something last
+        self.awaits = Awaiting(put, "goes on", max(limits.patience, 3 * place.group.tick))
         self.carrier = Carrier(place, limits)
         self.carrier.on_given = self.given
         group = place.group
@@ -56,6 +62,8 @@ class Server:
     def given(self, peer: int, data: bytes) -> None:
         if peer != HOST:
             self.intakes[peer - 1].take(data)
+        self.last_came = self.clock.moment()
+        self.awaits.over()
 
     async def run(self, program: Path) -> None:
         place = self.place
@@ -69,12 +77,12 @@ class Server:
                 self.carrier.outbox(number_at(note, 0)).is_done = True
         most = place.group.shape.clients + self.limits.strangers
         door = Door(context, most, self.limits.greeting, self.answer, self.complaints.tell)
-        task = begun(door.run(listening), self.carrier.stop)
+        tasks = [begun(it, self.carrier.stop) for it in (door.run(listening), self.watch())]
         await self.carrier.over.wait()
         # the last replies are on their way, or a member will fetch them
         while self.carrier.is_done() and not self.carrier.is_delivered() and not self.carrier.is_stopped:
             await asyncio.sleep(0.1)
-        await ended([task])
+        await ended(tasks)
         listening.close()
         await asyncio.gather(*(link.part() for link in list(self.links.values())))
         await door.close()
@@ -83,6 +91,31 @@ class Server:
     def is_told(self) -> bool:
         """Whether each member needs no more."""
         return self.carrier.is_delivered()
+
+    # ---- who is awaited
+
+    async def watch(self) -> None:
+        """Tells who is awaited, where nothing came for long: its keeper, and the members that are there."""
+        while True:
+            await asyncio.sleep(self.limits.patience / 4)
+            is_long = time.monotonic() - self.last_came.even >= self.awaits.patience
+            late = self.late() if is_long else []
+            self.awaits.tell({self.place.group.clients[it]: self.last_came for it in late})
+            self.say_late(sum(1 << it for it in late))
+
+    def say_late(self, bits: int) -> None:
+        for link in self.links.values():
+            if link.is_heard and link.late != bits:
+                link.late = bits
+                link.send_mark(Mark.LATE, COUNT.pack(bits))
+
+    def late(self) -> List[int]:
+        """The clients for whom the others wait: those who haven't written in all turns of a phase; and once all is
+        written, those who may need something yet."""
+        ticks, least = self.place.group.shape.ticks, min(it.written for it in self.intakes)
+        if least == self.place.group.shape.turns:
+            return [it.client for it in self.intakes if not self.carrier.outbox(it.client + 1).is_done]
+        return [it.client for it in self.intakes if it.written // ticks == least // ticks]
 
     # ---- one link
 
@@ -146,6 +179,7 @@ class Server:
             await self.carrier.keep([(INSTANCE, NUMBER.pack(peer) + instance)])
         if self.links.get(peer) is link:
             link.send_mark(Mark.HEARD, COUNT.pack(self.carrier.taken[peer]))
+            link.is_heard = True
 
     def replace(self, links: Dict[int, Link], peer: int, link: Link) -> None:
         before = links.get(peer)

@@ -18,6 +18,7 @@ from typing import Deque, List, NamedTuple
 from parts.errors import End, Stop
 from parts.frames import EPOCH
 from parts.group_file import Group
+from parts.labels import Labels
 from parts.packets import HOST, LONGEST, NUMBER, TICK, Packet, number_at, say
 
 # How many bytes of texts may wait.
@@ -74,6 +75,7 @@ class Fates:
         self.planned: Deque[Sent] = deque()  # the turn is known, and the write isn't out yet
         self.counts: Counter[int] = Counter()  # by log, how many texts have a number
         self.out = 0  # how many writes came out
+        self.unread: Deque[Sent] = deque()  # what was sent in a phase whose epoch isn't read yet
 
     def take(self, peer: int, data: bytes) -> None:
         """The program is given a packet."""
@@ -92,15 +94,29 @@ class Fates:
         sent = []
         while self.planned and self.planned[0].turn < self.out:
             sent.append(self.planned.popleft())
+        self.unread += sent
         return sent
+
+    def read(self, turn: int) -> List[Sent]:
+        """The read of a turn came out, so all members' writes of the phases before are there. Gives the texts that were
+        sent in these, each with the turn from which on its followers read it."""
+        ticks, found = self.pace.shape.ticks, []
+        while self.unread and self.unread[0].turn // ticks < turn // ticks:
+            sent = self.unread.popleft()
+            found.append(sent._replace(turn=(sent.turn // ticks + 1) * ticks))
+        return found
 
     def is_quiet(self) -> bool:
         """Whether no tick waits and each write is out."""
         return not self.pace.ticks and self.out == self.pace.written
 
     def turns_left(self) -> int:
-        """How many turns there are for texts that aren't given yet."""
+        """How many turns no tick was given for."""
         return self.pace.shape.turns - self.pace.written - self.pace.ticks
+
+    def turns_for_texts(self) -> int:
+        """How many of them texts may go in: what is written in the last phase nobody reads."""
+        return max(0, self.turns_left() - self.pace.shape.ticks)
 
     def on_the_way(self) -> List[Text]:
         """The texts that are in the journal and not out yet."""
@@ -215,12 +231,14 @@ class Line(NamedTuple):
     turns: int = 0
 
 
-def read_line(line: bytes) -> Line | None:
+def read_line(line: bytes, labels: Labels) -> Line | None:
     """What a line says; None where it is none."""
     word, _, rest = line.partition(b" ")
-    number, _, words = rest.partition(b" ")
-    if not (number.isdigit() and len(number) <= 10 and int(number) < 1 << 32 and len(line) <= LONGEST):
+    first, _, words = rest.partition(b" ")
+    if len(line) > LONGEST:
         return None
     if word == b"say":
-        return Line(Text(int(number), words))
-    return Line(None, int(number)) if word == b"away" and number == rest else None
+        log = labels.log(first.decode("ascii", "replace"))
+        return None if log is None else Line(Text(log, words))
+    is_number = first.isdigit() and len(first) <= 10 and int(first) < 1 << 32
+    return Line(None, int(first)) if word == b"away" and is_number and first == rest else None

@@ -1,0 +1,73 @@
+"""What members are told while a group is alive: who is awaited and since when, and that it goes on."""
+
+from __future__ import annotations
+
+import time
+from typing import List
+
+from cases.stage import End, Stage, demand
+
+
+def telling(stage: Stage) -> None:
+    """A server comes late, a member goes and comes again. Whoever is there is told of it by name and with the time; what
+    was typed is told once, by the name of its log or by its number."""
+    stage.make(4, 3)
+    ann, ben, cem = stage.members
+    began = time.time()
+    for end in [stage.servers[0], *stage.members]:
+        end.start()
+    for member in stage.members:
+        awaited(stage, member, "the server of ben", began)
+        demand(not lines_about(member, "the server of ann"), "a server is awaited that is there")
+        demand(not member.lines("connected"), "a member without a server told that it is connected")
+    stage.servers[1].start()
+    for member in stage.members:
+        stage.until(lambda: member.lines("connected"), "a word that a member is connected")
+    type_by_names(stage, ann)
+    stage.wrote(0, 2)
+    went = time.time()
+    cem.kill()
+    for end in [ann, ben, *stage.servers]:
+        awaited(stage, end, "cem", went)
+    ann.restart()
+    awaited(stage, ann, "cem", went)
+    demand(not ann.lines("refused"), "a refusal was told once more")
+    cem.start()
+    for end in [ann, ben, *stage.servers]:
+        stage.until(lambda: "goes on" in after_awaiting(end), "a word that it goes on")
+    stage.end_all()
+    for member in stage.members:
+        demand(len(member.lines("connected")) == 1, f"a member told {member.told()}")
+    stage.compare()
+
+
+def type_by_names(stage: Stage, ann: End) -> None:
+    """A log is meant by its label or its number, and of each text that can't be said it is told once."""
+    ann.type("say ann by a name")
+    ann.type("say 0 by a number")
+    ann.type("say ben not mine")
+    ann.type("say 7 nobody's")
+    stage.until(lambda: len(ann.lines("refused")) == 2, "two refusals")
+    demand(ann.lines("refused") == ["refused ben writer", "refused 7 writer"], f"refused were {ann.lines('refused')}")
+    ann.type("say dan nobody's")
+    stage.until(lambda: ann.lines("want"), "a word about a log that isn't there")
+    ann.typed.remove("say dan nobody's")
+
+
+def awaited(stage: Stage, end: End, who: str, since: float) -> None:
+    """It is told that somebody is awaited since a moment that came after another one, or at most a moment before."""
+    stage.until(lambda: any(since - 2 <= it <= time.time() for it in lines_about(end, who)),
+                f"{end.folder} to await {who} since {time.ctime(since)}")
+
+
+def lines_about(end: End, who: str) -> List[float]:
+    """Since when somebody is awaited, by each line about it."""
+    begin = f"awaits {who} since "
+    lines = [it.removeprefix(begin) for it in end.lines("awaits") if it.startswith(begin)]
+    return [time.mktime(time.strptime(it, "%Y-%m-%d %H:%M:%S")) for it in lines]
+
+
+def after_awaiting(end: End) -> List[str]:
+    """The lines after the last one about somebody who is awaited."""
+    told = end.told()
+    return told[max(at for at, it in enumerate(told) if it.startswith("awaits ")) + 1 :]
