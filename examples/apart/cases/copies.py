@@ -15,7 +15,7 @@ from meeting import WRITE
 def copied_folder(stage: Stage) -> None:
     """While the group stands still a member's folder is copied, and the copy is started beside it. The copy speaks from
     then on, and the other one ends before it ticks again. The run goes on with the copy."""
-    stage.make(3, 3)
+    stage.make(8, 3)
     stage.start()
     stage.say(2)
     stage.wrote(1, 2)
@@ -114,7 +114,7 @@ async def greet_both(folder: Path) -> None:
 def restored_folder(stage: Stage) -> None:
     """A member's folder is copied, and put back after it went on. It ends before any tick; and with the newer folder
     the run goes on."""
-    stage.make(3, 3)
+    stage.make(5, 3)
     stage.start()
     stage.say(2)
     stage.wrote(0, 2)

@@ -6,23 +6,26 @@ import asyncio
 import socket
 import time
 from pathlib import Path
+from typing import Tuple
 
 from cases.guest import BROKEN, Guest
 from cases.stage import Stage, demand
 from parts import journal
 from parts.journal import FILLER, RECORD_SIZE
-from parts.packets import HOST, TICK
+from parts.link import COUNT, Mark
+from parts.packets import HOST, LONGEST, TICK
 
 SILENT = 300
 
 
 def silent_links(stage: Stage) -> None:
     """Strangers open links and say nothing. The server has few of them at once, and the group goes on."""
-    stage.make(4, 4)
+    stage.make(10, 4)
     stage.start()
     stage.say(1)
     stage.wrote(0, 1)
     server, address = stage.servers[0], stage.addresses[0]
+    asyncio.run(late_ones(stage))
     most = stage.shape.clients + 32
     links = [socket.create_connection(address, 30) for _ in range(SILENT)]
     stage.until(lambda: open_files(server.process.pid) <= most + 30, f"few open files beside {SILENT} silent links", 10)
@@ -36,6 +39,31 @@ def silent_links(stage: Stage) -> None:
     stage.end_all()
     stage.compare()
     stage.pads()
+
+
+async def late_ones(stage: Stage) -> None:
+    """Who says nothing, or nothing after the handshake, is let go after five seconds."""
+    guest, began = Guest(stage.members[0].folder), time.monotonic()
+    _, host, port = guest.place.group.servers[0]
+    silent = await asyncio.open_connection(host, port)
+    sealed = await asyncio.open_connection(host, port, ssl=guest.place.context())
+    for reader, writer in (silent, sealed):
+        try:
+            demand(not await asyncio.wait_for(reader.read(), 60), "a server says something to a stranger")
+        except OSError:
+            pass
+        writer.transport.abort()
+    seconds = time.monotonic() - began
+    demand(3 < seconds < 30, f"silent ones were let go after {seconds:.1f} s")
+
+
+def answers(address: Tuple[str, int]) -> bool:
+    """Whether anybody waits at an address."""
+    try:
+        socket.create_connection(address, 30).close()
+    except OSError:
+        return False
+    return True
 
 
 def open_files(process: int) -> int:
@@ -61,10 +89,26 @@ def flooding_member(stage: Stage) -> None:
         stage.until(member.is_over, "the end of the others")
         demand(member.ended() == "ended done", f"beside a flood a member ended {member.ended()!r}")
     server.restart()
+    stage.until(lambda: answers(stage.addresses[0]), "a server that was started")
+    asyncio.run(say_too_much(client.folder))
+    demand(asyncio.run(Guest(client.folder).is_closed_out()), "who says that it has more than there is got in")
+    server.restart()
     client.start()
     stage.end_all()
     stage.compare()
     stage.pads()
+
+
+async def say_too_much(folder: Path) -> None:
+    """Says that there are more packets on disk than a server has."""
+    guest = Guest(folder)
+    await guest.speak()
+    guest.link.send_mark(Mark.KEPT, COUNT.pack(1 << 40))
+    try:
+        while True:
+            await asyncio.wait_for(guest.link.next(LONGEST), 60)
+    except BROKEN:
+        guest.link.close()
 
 
 async def flood(folder: Path, seconds: float, frame: bytes) -> int:

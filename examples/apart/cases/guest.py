@@ -27,8 +27,10 @@ BROKEN = (OSError, ssl.SSLError, asyncio.IncompleteReadError, asyncio.TimeoutErr
 class Guest:
     """Someone who has a member's folder and goes to server 1."""
 
-    def __init__(self, folder: Path, server: int = 1) -> None:
+    def __init__(self, folder: Path, server: int = 1, newest: ssl.TLSVersion = ssl.TLSVersion.TLSv1_3) -> None:
         self.place, self.server = Place(folder, "client"), server
+        self.context = self.place.context()
+        self.context.minimum_version, self.context.maximum_version = ssl.TLSVersion.TLSv1_2, newest
         data = (folder / "journal").read_bytes()
         packets = records_of(data).packets
         self.have = sum(peer == server for peer, _ in packets)
@@ -38,7 +40,7 @@ class Guest:
     async def greet(self) -> Greeting:
         """Goes to the server and hears how it greets."""
         _, host, port = self.place.group.servers[self.server - 1]
-        reader, writer = await asyncio.wait_for(asyncio.open_connection(host, port, ssl=self.place.context()), 60)
+        reader, writer = await asyncio.wait_for(asyncio.open_connection(host, port, ssl=self.context), 60)
         self.link = Link(self.place, reader, writer, Limits())
         self.link.greet(self.instance, self.have)
         return await asyncio.wait_for(self.link.hear_greeting(), 60)

@@ -22,15 +22,37 @@ def journals(stage: Stage) -> None:
     for name in ("ann", "ben"):
         stage.tool("folder", "next", name)
     exchange(stage)
+    own_one_alone(stage, stage.rng.choice([*stage.servers, *stage.members]))
     for end in [stage.rng.choice(stage.servers), stage.rng.choice(stage.members)]:
         for _ in range(3):
             change(stage, end)
+        move(stage, end)
         for _ in range(3):
             cut(stage, end)
-    stage.start()
+    lose_streams(stage)
     stage.end_all()
     stage.compare()
     stage.pads()
+
+
+def lose_streams(stage: Stage) -> None:
+    """A switch whose standard streams are closed writes into no file of its own in their place."""
+    for end in stage.ends[:5]:
+        end.start(closes_streams=end is stage.servers[0])
+    stage.wrote(0, 5)
+    stage.servers[0].restart()
+
+
+def own_one_alone(stage: Stage, end: End) -> None:
+    """A journal belongs to the setup with which it was begun, and to one switch at a time."""
+    path, journal_before = end.folder / "setup", (end.folder / "journal").read_bytes()
+    setup = path.read_bytes()
+    path.write_bytes(setup[:-6] + bytes([setup[-6] ^ 1]) + setup[-5:])
+    refused(stage, end, journal_before, "ended broken", "another setup")
+    path.write_bytes(setup)
+    held = journal.Journal(end.folder / "journal", owner_of(end, end.folder))
+    refused(stage, end, journal_before, "ended broken", "another switch has")
+    held.file.close()
 
 
 def exchange(stage: Stage) -> None:
@@ -67,6 +89,17 @@ def change(stage: Stage, end: End) -> None:
     at = stage.rng.randrange(journal.OWNER.size, len(data))
     changed = data[:at] + bytes([data[at] ^ 1 << stage.rng.randrange(8)]) + data[at + 1 :]
     refused(stage, end, changed, "ended journal", "was changed at byte")
+
+
+def move(stage: Stage, end: End) -> None:
+    """A record is left out, or stands twice: each sum is right, but not where it stands."""
+    data = (end.folder / "journal").read_bytes()
+    sizes = [journal.RECORD_SIZE + len(packet) for _, packet in journal.records_of(data).packets]
+    number = stage.rng.randrange(len(sizes) - 1)
+    first = journal.OWNER.size + sum(sizes[:number])
+    last = first + sizes[number]
+    for changed in (data[:first] + data[last:], data[:last] + data[first:last] + data[last:]):
+        refused(stage, end, changed, "ended journal", "was changed at byte")
 
 
 def cut(stage: Stage, end: End) -> None:

@@ -13,8 +13,16 @@ def leaving(stage: Stage) -> None:
     """After a run its journals and setups are gone. Then cem leaves and dan comes: the next group file says whose roots
     are drawn anew, and folders aren't made with roots that cem has. In the next run cem gets in nowhere."""
     stage.make(2, 2)
+    deaf = stage.servers[1]
     for end in [*stage.servers, *stage.members]:
-        end.start(keeps=False)
+        end.start(keeps=False, lie="deaf" if end is deaf else "")
+    for member in stage.members:
+        stage.until(member.is_over, "the end of a member that a server doesn't hear")
+        demand(member.ended() == "ended done" and "not every server heard" in member.complaints()
+               and (member.folder / "journal").exists(), "a member that a server didn't hear deleted its journal")
+    deaf.restart(keeps=False)
+    for member in stage.members:
+        member.start(keeps=False)
     stage.end_all()
     for end in [*stage.servers, *stage.members]:
         left = sorted(it.name for it in end.folder.iterdir())

@@ -6,7 +6,7 @@ from cases.stage import End, Stage, demand
 from cases.tried_switch import LIES
 
 OF_MEMBERS = ["block", "filter position"]
-OF_SERVERS = [lie for lie in LIES if lie not in OF_MEMBERS]
+OF_SERVERS = [lie for lie in LIES if lie not in [*OF_MEMBERS, "deaf"]]  # (nobody is told that a server is deaf)
 # How many lies of a server a trial takes.
 SOME = 5
 

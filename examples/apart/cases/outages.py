@@ -3,12 +3,15 @@
 from __future__ import annotations
 
 import os
+import socket
 import ssl
 import subprocess
 import time
 from pathlib import Path
+from typing import List
 
 from cases.stage import NAMES, TICK_SECONDS, LeftOut, Stage, demand
+from parts.clock import until_next
 
 
 def outage(stage: Stage) -> None:
@@ -21,7 +24,8 @@ def outage(stage: Stage) -> None:
     time.sleep(1)
     ticks = [it.ticks() for it in stage.members]
     stage.say(2)
-    time.sleep(20 * TICK_SECONDS)
+    came = comings(stage, 20 * TICK_SECONDS)
+    demand(len(came) <= 75, f"in {20 * TICK_SECONDS} s members came {len(came)} times to a server that was away")
     for member, before in zip(stage.members, ticks):
         demand(member.ticks() <= before + 1, f"{member.ticks() - before} ticks were given while a server was away")
     server.start()
@@ -35,8 +39,32 @@ def outage(stage: Stage) -> None:
     stage.pads()
 
 
+def comings(stage: Stage, seconds: float) -> List[float]:
+    """When members come to server 2 within so many seconds, where somebody else closes each link at once."""
+    end, came = time.monotonic() + seconds, []
+    with socket.create_server(stage.addresses[1]) as listening:
+        while time.monotonic() < end:
+            listening.settimeout(max(0.01, end - time.monotonic()))
+            try:
+                listening.accept()[0].close()
+            except OSError:
+                break
+            came.append(time.monotonic())
+    return came
+
+
+def check_ticks(stage: Stage) -> None:
+    """However a clock is set, between two ticks are half a tick at least, and one and a half at most."""
+    for _ in range(1000):
+        tick, now = stage.rng.uniform(0.01, 100), stage.rng.choice([-1, 1]) * stage.rng.uniform(0, 1e9)
+        wait = until_next(now, tick, False)
+        demand(tick / 2 <= wait <= 1.5 * tick, f"at {now} the next tick of {tick} s is waited for {wait} s")
+        demand(0 <= until_next(now, tick, True) <= tick, "the first tick is waited for too long")
+
+
 def clock_steps(stage: Stage) -> None:
     """Clocks are set an hour back and ahead, and a day. The group goes on at its pace, and certificates are good."""
+    check_ticks(stage)
     stage.make(4, 4)
     clocks = [stage.folder / f"clock-{client}" for client in range(3)]
     for server in stage.servers:

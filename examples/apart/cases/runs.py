@@ -4,6 +4,7 @@ from __future__ import annotations
 
 import asyncio
 import shutil
+import ssl
 import time
 
 from bad_frames import cause_of, kinds_of
@@ -105,6 +106,8 @@ def knock(stage: Stage) -> None:
     (stage.folder / "false" / "role").write_text("client 1\n")
     for name in ("stranger", "other", "false"):
         demand(not asyncio.run(Guest(stage.folder / name).is_let_in()), f"a server let a {name} peer in")
+    demand(not asyncio.run(Guest(stage.members[2].folder, newest=ssl.TLSVersion.TLSv1_2).is_let_in()),
+           "a server takes TLS 1.2")
     for name in ("dan", "cem"):
         false = stage.folder / f"{name}-as-ann"
         shutil.copytree(stage.servers[0].folder, false)

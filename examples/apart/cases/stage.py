@@ -41,7 +41,7 @@ PATIENCE = 150
 # Two servers, three clients, three logs; phases and ticks follow.
 SMALL = [2, 8, 8, 36, 96, 1024, 2, 4, 3]
 FAST = Limits(pause=0.1, longest_pause=0.8, same_error=0.2, silence=6, last_lines=2, patience=2,
-              speaking=0.05)
+              speaking=0.05, farewell=3)
 
 
 class Failed(Exception):
@@ -68,6 +68,7 @@ class Options:
     most_bytes: int = 0  # of any file
     reads_output: bool = True
     namespace: str = ""
+    closes_streams: bool = False
     times: str = ""  # where a server writes when it took writes
     slow: float = 0  # how many seconds a disk takes more
 
@@ -86,6 +87,8 @@ class Options:
         def work() -> None:
             if self.most_bytes:
                 resource.setrlimit(resource.RLIMIT_FSIZE, (self.most_bytes, self.most_bytes))
+            if self.closes_streams:
+                os.closerange(0, 3)
             tried_switch.start(self.for_switch(), words)
 
         return Child(work, out, err)
@@ -151,7 +154,6 @@ class End:
             self.process.stdin.flush()
         except BrokenPipeError:
             self.process.wait(PATIENCE)
-            demand(self.ended() == "ended done", f"{self.folder} ended with {self.ended()}")
             return
         if line.startswith("say "):
             self.typed.append(line)
@@ -332,6 +334,9 @@ class Stage:
         told = [[plain_line(line, self.labels) for line in it.told()[:-1]] for it in self.members]
         wrong = list(differences(self.programs, CameAbout(self.shape, setups, journals, served, told)))
         demand(not wrong, "; ".join(wrong)[:2000])
+        for end in [*self.members, *self.servers]:
+            words = "".join([*end.told(), *end.complaints().split("\n")])
+            demand(words.isprintable(), f"{end.folder} told {words!r}, which isn't printable")
         for client in range(len(self.members)):
             self.compare_fates(client, journals[client])
             self.compare_turns(client, journals[client])

@@ -11,7 +11,7 @@ from cases.stage import End, Stage, demand
 def telling(stage: Stage) -> None:
     """A server comes late, a member goes and comes again. Whoever is there is told of it by name and with the time; what
     was typed is told once, by the name of its log or by its number."""
-    stage.make(4, 3)
+    stage.make(6, 3)
     ann, ben, cem = stage.members
     began = time.time()
     for end in [stage.servers[0], *stage.members]:
@@ -27,9 +27,11 @@ def telling(stage: Stage) -> None:
     stage.wrote(0, 2)
     went = time.time()
     cem.kill()
+    for number in range(2 * stage.shape.ticks):  # (so many that one goes with the tick whose write waits for cem)
+        ann.type(f"say ann goes later {number}")
     for end in [ann, ben, *stage.servers]:
         awaited(stage, end, "cem", went)
-    ann.restart()
+    wait_in_journal(stage, ann)
     awaited(stage, ann, "cem", went)
     demand(not ann.lines("refused"), "a refusal was told once more")
     cem.start()
@@ -52,6 +54,14 @@ def type_by_names(stage: Stage, ann: End) -> None:
     ann.type("say dan nobody's")
     stage.until(lambda: ann.lines("want"), "a word about a log that isn't there")
     ann.typed.remove("say dan nobody's")
+
+
+def wait_in_journal(stage: Stage, ann: End) -> None:
+    """A text is in the journal, with the tick whose write waits for somebody else. Who stops then is told that it goes
+    later."""
+    ann.stop()
+    demand(any(it.startswith("waits ann goes later") for it in ann.told()), f"a stopped member told {ann.told()}")
+    ann.start()
 
 
 def awaited(stage: Stage, end: End, who: str, since: float) -> None:

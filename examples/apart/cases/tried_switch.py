@@ -17,6 +17,7 @@ from parts.clock import Clock
 from parts.frames import EPOCH, REFUSED, REPLY, WRITE
 from parts.limits import Limits
 from parts.link import COUNT, Link, Mark
+from parts.outbox import ALL
 from parts.packets import number_at
 from parts.running import main
 
@@ -84,6 +85,11 @@ def marks_kept(self, data):
     HONEST[1](self, data)
 
 
+def marks_late(self, data):
+    HONEST[2](self, Mark.LATE, COUNT.pack(1 << 40))
+    HONEST[1](self, data)
+
+
 def of_kind(kind, change):
     """Another packet for those of one kind."""
     return lambda data: change(data) if data[0] == kind else [data]
@@ -108,9 +114,23 @@ LIES = {
     "kind": lambda: sends(lambda data: [b"\x01" + data[1:]]),
     "long": lambda: setattr(Link, "send", says_long),
     "mark": lambda: setattr(Link, "send", marks_kept),
+    "late": lambda: setattr(Link, "send", marks_late),
     "silence": lambda: setattr(Link, "greet", says_nothing),
 }
 
+
+def forgets_leaving():
+    """Doesn't hear that a member needs no more."""
+    honest = server.Server.forget
+
+    async def forget(self, peer, link, count):
+        if count != ALL:
+            await honest(self, peer, link, count)
+
+    server.Server.forget = forget
+
+
+LIES["deaf"] = forgets_leaving
 
 # ---- lies of a member
 

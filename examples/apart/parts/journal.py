@@ -27,7 +27,7 @@ SUM = struct.Struct(">I")
 LAST = b"\xff"
 RECORD_SIZE = HEAD.size + SUM.size + 1
 # Peers of records that the program isn't given: who spoke for a client, what makes records longer, and that a client
-# needs no more.
+# needs no more, or that a server heard so.
 INSTANCE, FILLER, LEFT = 0xFFFFFFFF, 0xFFFFFFFE, 0xFFFFFFFD
 LEAST_NOTE = LEFT
 

@@ -18,7 +18,7 @@ from parts.clock import Clock, until_next
 from parts.errors import End, Stop, Wrong
 from parts.folder import Place
 from parts.frames import READS, WRITE
-from parts.journal import INSTANCE, RECORD_SIZE, filler
+from parts.journal import INSTANCE, LEFT, RECORD_SIZE, filler
 from parts.labels import Labels
 from parts.limits import Limits
 from parts.link import COUNT, INSTANCE_SIZE, NO_INSTANCE, Greeting, Item, Link, Mark, Sender
@@ -223,6 +223,7 @@ class Member:
                 elif mark is Mark.LATE:
                     self.late[server] = self.names_of(*COUNT.unpack(data))
                 elif mark is Mark.HEARD and self.carrier.is_done():
+                    await self.carrier.keep([(LEFT, NUMBER.pack(server))])
                     self.left.add(server)
                 elif mark:
                     raise Wrong("it sends a mark that no server sends")
@@ -354,6 +355,7 @@ class Member:
         context = self.place.context()
         notes = await self.carrier.start(program)
         self.own |= {data for peer, data in notes if peer == INSTANCE}
+        self.left |= {number_at(data, 0) for peer, data in notes if peer == LEFT}
         given = sum(self.fates.counts.values()) + len(self.fates.given)
         self.waiting = Waiting(self.place.folder / "typed", given)
         self.give_up(self.waiting.left)

@@ -10,7 +10,6 @@ import select
 import signal
 import sys
 import threading
-import time
 from collections import deque
 from pathlib import Path
 from typing import Any, Deque, Dict, List, Tuple
@@ -26,23 +25,33 @@ from parts.printer import Complaints, Printer
 from parts.server import Server
 
 
+# How many lines may wait to be taken, and for how many seconds at most what was just typed is waited for.
+ROOM, LAST = 1_000, 0.5
+
+
 class Typed:
-    """The lines of standard input, by a thread of its own, which nobody waits for."""
+    """The lines of standard input, by a thread of its own."""
 
     def __init__(self, loop: asyncio.AbstractEventLoop, printer: Printer, most: int) -> None:
         self.loop, self.printer, self.most = loop, printer, most
         self.lines: Deque[bytes] = deque()
         self.came = asyncio.Event()
-        self.room = threading.Semaphore(1000)
-        self.is_at_end = False
+        self.room = threading.Semaphore(ROOM)
+        self.ending, self.end = os.pipe()  # (something is written to it when no more is to be waited for)
+        self.thread = threading.Thread(target=self.work, daemon=True)
 
     def start(self) -> None:
-        threading.Thread(target=self.work, daemon=True).start()
+        self.thread.start()
+
+    def read(self) -> bytes:
+        """What is typed next; nothing at the end, or where no more is to be waited for."""
+        ready, _, _ = select.select([0, self.ending], [], [])
+        return os.read(0, LONGEST) if 0 in ready else b""
 
     def work(self) -> None:
         rest, skips = b"", False  # what follows a line that is too long is skipped up to its end
         try:
-            while data := os.read(0, LONGEST):
+            while data := self.read():
                 *lines, rest = (rest + data).split(b"\n")
                 for line in lines:
                     self.put(b"" if skips else line.removesuffix(b"\r"))
@@ -51,7 +60,6 @@ class Typed:
                     rest, skips = b"", True
         except (OSError, RuntimeError):
             pass  # there is no standard input, or the run is over
-        self.is_at_end = True
 
     def put(self, line: bytes) -> None:
         self.room.acquire()
@@ -70,10 +78,9 @@ class Typed:
 
     def rest(self) -> List[bytes]:
         """The lines that nobody took, with those that were just typed."""
-        end = time.monotonic() + 0.5
-        while not self.is_at_end and time.monotonic() < end and select.select([0], [], [], 0)[0]:
-            time.sleep(0.01)
-        time.sleep(0.02)
+        os.write(self.end, b"\0")
+        self.room.release(ROOM)
+        self.thread.join(LAST)
         return list(self.lines)
 
 
@@ -146,7 +153,15 @@ def prepared(words: argparse.Namespace) -> Tuple[Place, Path]:
     return place, place.program(words.program)
 
 
+def fill_streams() -> None:
+    """Opens standard streams that are closed on nothing, so that no file of the switch gets their numbers."""
+    while (number := os.open(os.devnull, os.O_RDWR)) <= 2:
+        pass
+    os.close(number)
+
+
 def main(about: str, words: List[str], limits: Limits = Limits(), clock: Clock = Clock()) -> None:
+    fill_streams()
     words = words_of(about, words)
     os.umask(0o077)
     try:
