@@ -27,8 +27,10 @@ def leaving(stage: Stage) -> None:
     for end in [*stage.servers, *stage.members]:
         left = sorted(it.name for it in end.folder.iterdir())
         demand(left == ["cert.pem", "group", "key.pem", "over", "role"], f"a run left {left}")
+        (end.folder / "journal").write_bytes(b"what a power cut left")
         end.start()
         stage.until(end.is_over, "the end of a switch whose run is over")
+        demand(not (end.folder / "journal").exists(), "what a power cut left of a run wasn't deleted")
         demand("is over" in end.complaints(), f"a run that is over: {end.complaints()!r}")
     change(stage)
 

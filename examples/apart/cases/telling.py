@@ -60,7 +60,7 @@ def wait_in_journal(stage: Stage, ann: End) -> None:
     """A text is in the journal, with the tick whose write waits for somebody else. Who stops then is told that it goes
     later."""
     ann.stop()
-    demand(any(it.startswith("waits ann goes later") for it in ann.told()), f"a stopped member told {ann.told()}")
+    demand(ann.lines("waits"), f"a stopped member told {ann.told()}")
     ann.start()
 
 

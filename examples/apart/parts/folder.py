@@ -59,6 +59,7 @@ class Place:
     def __init__(self, folder: str | pathlib.Path, role: str) -> None:
         self.folder, self.role = pathlib.Path(folder), role
         if (self.folder / OVER).exists():
+            self.clear()  # (a power cut may have left something)
             raise Wrong(f"the run of {shown(str(folder))} is over")
         self.group: Group = parse(read(self.folder / "group"))
         word, _, number = read(self.folder / "role").decode("ascii", "replace").strip().partition(" ")

@@ -77,8 +77,8 @@ class Link:
     def check_digest(self, greeting: Greeting) -> None:
         """Both have the same group file."""
         if greeting.digest != self.place.group.digest:
-            raise Wrong(f"it has another group file, {greeting.digest.hex()[:8]}.., than this folder, "
-                        f"{self.place.group.digest.hex()[:8]}..: compare what 'group show' says")
+            raise Wrong("it has another group file than this folder, whose fingerprint begins with "
+                        f"{self.place.group.digest.hex()[:8]}: compare what 'group show' says")
 
     def check_certificate(self, peer: int) -> None:
         """Refuses a link whose other end shows another certificate than the group file has for a peer."""

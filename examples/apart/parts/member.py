@@ -223,8 +223,7 @@ class Member:
                 elif mark is Mark.LATE:
                     self.late[server] = self.names_of(*COUNT.unpack(data))
                 elif mark is Mark.HEARD and self.carrier.is_done():
-                    await self.carrier.keep([(LEFT, NUMBER.pack(server))])
-                    self.left.add(server)
+                    await self.heard_leaving(server)
                 elif mark:
                     raise Wrong("it sends a mark that no server sends")
                 else:
@@ -232,6 +231,12 @@ class Member:
                     await self.carrier.room.wait()
         finally:
             sending.cancel()
+
+    async def heard_leaving(self, server: int) -> None:
+        """A server heard that this member needs no more. It is kept, since that server may be gone at the next start."""
+        if server not in self.left:
+            await self.carrier.keep([(LEFT, NUMBER.pack(server))])
+            self.left.add(server)
 
     async def keep_link(self, server: int, context: ssl.SSLContext) -> None:
         """A link to a server, again and again. The waits grow, and are mixed, so that a group doesn't come at once."""
