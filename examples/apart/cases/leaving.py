@@ -18,7 +18,7 @@ def leaving(stage: Stage) -> None:
         end.start(keeps=False, lie="deaf" if end is deaf else "")
     for member in stage.members:
         stage.until(member.is_over, "the end of a member that a server doesn't hear")
-        demand(member.ended() == "ended done" and "not every server heard" in member.complaints()
+        demand(member.ended() == "ended done" and "not every server answered" in member.complaints()
                and (member.folder / "journal").exists(), "a member that a server didn't hear deleted its journal")
     deaf.restart(keeps=False)
     for member in stage.members:

@@ -42,6 +42,8 @@ def fates(stage: Stage) -> None:
     stage.until(lambda: "turns were left" in cem.complaints(), "a word about away beyond the end")
     ann.kill()
     ann.start()
+    for number in range(stage.shape.turns):  # (so many that one goes in each turn that is read)
+        ann.type(f"say ann once more {number}")
     stage.end_all()
     stage.compare()
     stage.pads()

@@ -26,6 +26,8 @@ COUNT = struct.Struct(">Q")
 # The bytes of an instance, which each start of a member draws, and what a server says that heard of none.
 INSTANCE_SIZE = 16
 NO_INSTANCE = bytes(INSTANCE_SIZE)
+# How many bytes are passed over of a peer that is told why nothing more is taken of it.
+TO_PASS_OVER = 1 << 16
 
 
 class Mark(enum.IntEnum):
@@ -110,6 +112,14 @@ class Link:
 
     def close(self) -> None:
         self.writer.transport.abort()
+
+    async def hear_out(self) -> None:
+        """Passes over what still comes, up to so much and for a moment, until the other end closes the link: to close it
+        with bytes that nobody read could take back what was sent last."""
+        try:
+            await asyncio.wait_for(self.reader.readexactly(TO_PASS_OVER), 1)
+        except (OSError, EOFError, asyncio.TimeoutError):
+            pass
 
     async def part(self) -> None:
         """Closes the link once all is sent."""

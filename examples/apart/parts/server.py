@@ -129,13 +129,14 @@ class Server:
             has_greeted()
             link.check_certificate(greeting.peer)
             peer = greeting.peer
-            told = self.speaks.get(peer, NO_INSTANCE)
-            link.greet(told, self.carrier.taken[peer])
+            link.greet(self.speaks.get(peer, NO_INSTANCE), self.carrier.taken[peer])
             link.check_digest(greeting)
-            await self.serve(link, greeting, told)
+            await self.serve(link, greeting)
         except Wrong as why:
             who = f"{self.place.group.clients[peer - 1]} (client {peer - 1})" if peer else "a stranger"
             self.complaints.tell(f"{who}: {why}")
+            if peer in self.closed:
+                await link.hear_out()
             await link.part()
         except BROKEN:
             pass
@@ -145,9 +146,9 @@ class Server:
                     del links[peer]
             link.close()
 
-    async def serve(self, link: Link, greeting: Greeting, told: bytes) -> None:
-        """What follows a greeting, in which an instance was told as the last one: the member speaks once all servers
-        greeted it, if none but itself spoke since."""
+    async def serve(self, link: Link, greeting: Greeting) -> None:
+        """What follows a greeting: the member speaks once all servers greeted it, if none greeted since. So none but
+        itself spoke since it was told who spoke last."""
         peer, outbox = greeting.peer, self.carrier.outbox(greeting.peer)
         if peer in self.closed:
             link.send_mark(Mark.CLOSED)
@@ -161,8 +162,6 @@ class Server:
         await asyncio.sleep(self.spoke.get(peer, 0) + self.limits.speaking - asyncio.get_running_loop().time())
         if self.greeted.get(peer) is not link:
             return
-        if self.speaks.get(peer, NO_INSTANCE) not in (told, greeting.instance):
-            raise Wrong("another start of it speaks since it greeted")
         await self.let_speak(peer, link, greeting.instance)
         sending = asyncio.create_task(ToMember(self, link, peer, greeting.count).run())
         try:
