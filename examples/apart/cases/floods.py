@@ -120,8 +120,9 @@ async def flood(folder: Path, seconds: float, frame: bytes) -> int:
     while time.monotonic() < end:
         other, guest = Guest(folder), Guest(folder)
         other.place.group.digest = secrets.token_bytes(32)
-        await other.is_let_in()
         try:
+            await other.greet()
+            other.link.close()
             await guest.speak()
             for _ in range(1000):
                 guest.link.send(frame)

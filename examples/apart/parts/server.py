@@ -135,9 +135,7 @@ class Server:
         except Wrong as why:
             who = f"{self.place.group.clients[peer - 1]} (client {peer - 1})" if peer else "a stranger"
             self.complaints.tell(f"{who}: {why}")
-            if peer in self.closed:
-                await link.hear_out()
-            await link.part()
+            await (link.hear_out() if peer in self.closed else link.part())
         except BROKEN:
             pass
         finally:
