@@ -6,11 +6,12 @@ import asyncio
 import secrets
 import socket
 import time
+from dataclasses import replace
 from pathlib import Path
 from typing import Tuple
 
 from cases.guest import BROKEN, Guest
-from cases.stage import Stage, demand
+from cases.stage import FAST, Stage, demand
 from parts import journal
 from parts.journal import FILLER, RECORD_SIZE
 from parts.link import COUNT, Mark
@@ -22,10 +23,11 @@ SILENT = 300
 def silent_links(stage: Stage) -> None:
     """Strangers open links and say nothing. The server has few of them at once, and the group goes on."""
     stage.make(10, 4)
-    stage.start()
+    server, address = stage.servers[0], stage.addresses[0]
+    for end in [*stage.servers, *stage.members]:  # (of server 1 they have more time, so that not time makes them few)
+        end.start(limits=replace(FAST, greeting=60) if end is server else FAST)
     stage.say(1)
     stage.wrote(0, 1)
-    server, address = stage.servers[0], stage.addresses[0]
     asyncio.run(late_ones(stage))
     most = stage.shape.clients + 32
     links = [socket.create_connection(address, 30) for _ in range(SILENT)]
@@ -44,8 +46,8 @@ def silent_links(stage: Stage) -> None:
 
 async def late_ones(stage: Stage) -> None:
     """Who says nothing, or nothing after the handshake, is let go after five seconds."""
-    guest, began = Guest(stage.members[0].folder), time.monotonic()
-    _, host, port = guest.place.group.servers[0]
+    guest, began = Guest(stage.members[0].folder, 2), time.monotonic()
+    _, host, port = guest.place.group.servers[1]
     silent = await asyncio.open_connection(host, port)
     sealed = await asyncio.open_connection(host, port, ssl=guest.place.context())
     for reader, writer in (silent, sealed):

@@ -46,8 +46,10 @@ def change(stage: Stage) -> None:
         "log 1: ben draws a new root, since cem had it, and gives it to ann, dan",
         "log 2: dan draws a new root, since cem had it, and gives it to ann, ben"], f"a change: {duties}")
     (stage.folder / "next").write_bytes(made.stdout)
-    stage.labels = Labels(parse(made.stdout).logs)
-    demand(b"\nrun 2\n" in made.stdout and b"\nanew 0 1 2\n" in made.stdout and b"cem" not in made.stdout, "the change")
+    made_group = parse(made.stdout)
+    demand(made_group.run == 2 and made_group.anew == [0, 1, 2] and "cem" not in made_group.identities
+           and made_group.clients == ["ann", "ben", "dan"], f"the change: {made.stdout.decode()}")
+    stage.labels = Labels(made_group.logs)
     refuse_used(stage)
     names = [*NAMES[:2], "dan"]
     for log, writer in enumerate(names):
