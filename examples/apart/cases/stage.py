@@ -14,6 +14,7 @@ import subprocess
 import sys
 import tempfile
 import time
+import zlib
 from dataclasses import asdict, dataclass
 from pathlib import Path
 from typing import Any, Callable, Dict, List, Sequence, Tuple
@@ -30,6 +31,7 @@ from parts.labels import Labels
 from parts.limits import Limits
 from parts.packets import HOST, TICK, Packet
 from parts.printable import shown
+from parts.texts import Waiting
 
 group = beside.tool("group")
 LOGS = [(0, [1, 2]), (1, [0, 2]), (2, [0, 1])]
@@ -131,13 +133,21 @@ class End:
         self.process.wait()
 
     def has_come(self) -> bool:
-        """Whether each text that was typed is in a file of the folder, or has been told of."""
-        paths = [self.folder / "typed", self.folder / "journal", *(path for path, _ in self.files)]
-        data = b"".join(path.read_bytes() for path in paths if path.exists())
-        refused = data.count(b"\nrefused ") + data.startswith(b"refused ")
-        texts = [line.split(" ", 2)[2] for line in self.typed]
-        missing = [it for it in texts if it.encode() not in data and shown(it).encode() not in data]
-        return len(missing) <= refused
+        """Whether each text that was typed is in a file of the folder, or has been told of. (They are counted: a short one
+        may stand anywhere by chance.)"""
+        told = sum(len(self.lines(word, start)) for word in ("refused", "unsent") for start in range(len(self.files)))
+        given = sum(peer == HOST and data[:1] == b"S" for peer, data in self.journal()[1:])
+        return told + given + self.waiting(given) >= len(self.typed)
+
+    def waiting(self, given: int) -> int:
+        """How many texts wait in the file for them, of which the program wasn't given so many."""
+        path = self.folder / "typed"
+        data = path.read_bytes() if path.exists() else b""
+        if len(data) < Waiting.HEAD.size:
+            return 0
+        before, count, size, total = Waiting.HEAD.unpack_from(data)
+        is_whole = zlib.crc32(data[Waiting.HEAD.size :][:size]) == total
+        return max(0, count - max(0, given - before)) if is_whole else 0
 
     def stop(self) -> None:
         self.process.send_signal(signal.SIGTERM)
