@@ -37,10 +37,12 @@ def journals(stage: Stage) -> None:
 
 def lose_streams(stage: Stage) -> None:
     """A switch whose standard streams are closed writes into no file of its own in their place."""
-    for end in stage.ends[:5]:
-        end.start(closes_streams=end is stage.servers[0])
+    for end in [*stage.servers, *stage.members]:
+        end.start(closes_streams=end in stage.servers)
     stage.wrote(0, 5)
-    stage.servers[0].restart()
+    for end in stage.servers:
+        end.stop()
+        end.start()
 
 
 def own_one_alone(stage: Stage, end: End) -> None:

@@ -68,6 +68,16 @@ def marks(change):
     Link.send_mark = send_mark
 
 
+def skips(which):
+    """Doesn't send marks of one kind."""
+
+    def send_mark(self, mark, data=b""):
+        if mark is not which:
+            HONEST[2](self, mark, data)
+
+    Link.send_mark = send_mark
+
+
 def flipped(data, at):
     return data[:at] + bytes([data[at] ^ 1]) + data[at + 1 :]
 
@@ -105,6 +115,7 @@ LIES = {
     "phase": lambda: marks(lambda mark, data: flipped(data, 1) if mark is Mark.WRITES else data),
     "epoch": lambda: sends(of_kind(EPOCH, lambda data: [flipped(data, len(data) - 1)])),
     "other epoch": lambda: sends(of_kind(EPOCH, lambda data: [flipped(data, 4)])),
+    "no digests": lambda: skips(Mark.WRITES),
     "no epoch": lambda: sends(of_kind(EPOCH, lambda data: [])),
     "reply": lambda: sends(of_kind(REPLY, lambda data: [flipped(data, 8)])),
     "short reply": lambda: sends(of_kind(REPLY, lambda data: [data[:-1]])),
