@@ -3,9 +3,10 @@
 from __future__ import annotations
 
 import time
+from dataclasses import replace
 from typing import List
 
-from cases.stage import End, Stage, demand
+from cases.stage import FAST, End, Stage, demand
 
 
 def telling(stage: Stage) -> None:
@@ -14,8 +15,9 @@ def telling(stage: Stage) -> None:
     stage.make(6, 3)
     ann, ben, cem = stage.members
     began = time.time()
-    for end in [stage.servers[0], *stage.members]:
-        end.start()
+    stage.servers[0].start()
+    for member in stage.members:  # (which have time to find the server that is there)
+        member.start(limits=replace(FAST, patience=5))
     for member in stage.members:
         awaited(stage, member, "the server of ben", began)
         demand(not lines_about(member, "the server of ann"), "a server is awaited that is there")
