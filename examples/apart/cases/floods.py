@@ -6,6 +6,7 @@ import asyncio
 import secrets
 import socket
 import time
+from collections import Counter
 from dataclasses import replace
 from pathlib import Path
 from typing import Tuple
@@ -84,12 +85,14 @@ def flooding_member(stage: Stage) -> None:
     stage.wrote(2, stage.shape.turns)
     client.kill()
     own = server.count(3, *range(256))
+    before, began = server.complaints(), time.monotonic()
     sent = asyncio.run(flood(client.folder, 4, stage.rng.randbytes(200)))
     stage.notes.append(f"{sent} bad frames")
     demand(server.count(3, *range(256)) == own, "bad frames are in the journal")
-    lines = server.complaints().splitlines()
-    demand(len(lines) <= 60 and sum("another group file" in it for it in lines) <= 30,
-           f"a flood wrote {len(lines)} lines of error")
+    lines = server.complaints().removeprefix(before).splitlines()
+    most = (time.monotonic() - began) / FAST.same_error + 2
+    counts = Counter(it.partition(" (and ")[0] for it in lines)
+    demand(len(counts) <= 4 and max(counts.values()) <= most, f"a flood wrote these lines of error: {counts}")
     for member in stage.members[:2]:
         stage.until(member.is_over, "the end of the others")
         demand(member.ended() == "ended done", f"beside a flood a member ended {member.ended()!r}")

@@ -14,7 +14,7 @@ SOME = 5
 def lying_server(stage: Stage) -> None:
     """A server lies, one lie after another. Members tell of it, and end or wait; once it is honest they go on, and what
     came is as defined."""
-    stage.make(5, 4)
+    stage.make(8, 4)
     stage.start()
     stage.say(2)
     stage.wrote(0, 1)
