@@ -2,9 +2,12 @@
 
 from __future__ import annotations
 
+import asyncio
 import shutil
+from dataclasses import replace
 
-from cases.stage import NAMES, Stage, demand
+from cases.guest import Guest
+from cases.stage import FAST, NAMES, Stage, demand
 from parts.group_file import parse
 from parts.labels import Labels
 
@@ -15,14 +18,14 @@ def leaving(stage: Stage) -> None:
     stage.make(2, 2)
     deaf = stage.servers[1]
     for end in [*stage.servers, *stage.members]:
-        end.start(keeps=False, lie="deaf" if end is deaf else "")
+        end.start(keeps=False, limits=replace(FAST, farewell=8), lie="deaf" if end is deaf else "")
     for member in stage.members:
         stage.until(member.is_over, "the end of a member that a server doesn't hear")
         demand(member.ended() == "ended done" and "not every server answered" in member.complaints()
                and (member.folder / "journal").exists(), "a member that a server didn't hear deleted its journal")
     deaf.restart(keeps=False)
     for member in stage.members:
-        member.start(keeps=False)
+        member.start(keeps=False, limits=replace(FAST, farewell=60))
     stage.end_all()
     for end in [*stage.servers, *stage.members]:
         left = sorted(it.name for it in end.folder.iterdir())
@@ -63,6 +66,12 @@ def change(stage: Stage) -> None:
     stage.members = [stage.end(stage.place(name, f"client-{c}", 2), "join") for c, name in enumerate(names)]
     stage.start()
     stage.say(2)
+    stage.wrote(2, 1)
+    left = stage.folder / "cem-again"
+    shutil.copytree(stage.members[2].folder, left)
+    for file in ("key.pem", "cert.pem"):
+        shutil.copy(stage.folder / "cem" / file, left)
+    demand(not asyncio.run(Guest(left).is_let_in()), "who left got in")
     stage.end_all()
     stage.compare()
 

@@ -43,7 +43,7 @@ PATIENCE = 150
 # Two servers, three clients, three logs; phases and ticks follow.
 SMALL = [2, 8, 8, 36, 96, 1024, 2, 4, 3]
 FAST = Limits(pause=0.1, longest_pause=0.8, same_error=0.2, silence=6, last_lines=2, patience=2,
-              speaking=0.05, farewell=3)
+              speaking=0.05)
 
 
 class Failed(Exception):
