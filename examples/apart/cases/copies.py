@@ -4,12 +4,18 @@ from __future__ import annotations
 
 import asyncio
 import shutil
+import time
+from dataclasses import replace
 from pathlib import Path
-from typing import Tuple
+from typing import List, Tuple
 
 from cases.guest import Guest
-from cases.stage import End, Stage, demand
+from cases.stage import FAST, End, Stage, demand
 from meeting import WRITE
+from parts.link import Mark
+
+# For how many seconds a server doesn't hear another start of a member.
+SPEAKING = 1.5
 
 
 def copied_folder(stage: Stage) -> None:
@@ -69,12 +75,16 @@ def two_at_once(stage: Stage) -> None:
     """A member's folder is copied while it runs, and each copy is started beside it at once. At most one of them goes
     on, and none says another thing in a turn in which one said something."""
     stage.make(4, 5)
-    stage.start()
+    stage.start(limits=replace(FAST, speaking=SPEAKING))
     stage.say(2)
     stage.wrote(1, 1)
     first, copies = stage.members[1], []
+    first.restart()
+    stage.until(lambda: first.lines("connected"), "a member that is connected")
+    began = time.monotonic()
     first.kill()
-    asyncio.run(greet_both(first.folder))
+    both = asyncio.run(greet_both(first.folder))
+    demand(both == [False, True] or time.monotonic() - began > SPEAKING, f"of two that greeted {both} are heard")
     first.start()
     for number in range(3):
         folder = stage.folder / f"copy-{number}"
@@ -105,15 +115,17 @@ def two_at_once(stage: Stage) -> None:
     stage.pads()
 
 
-async def greet_both(folder: Path) -> None:
-    """Two greet a server before either speaks: it hears one of them."""
+async def greet_both(folder: Path) -> List[bool]:
+    """Two greet a server, and the first one speaks before the second one greets, so soon after another start that it has
+    to wait. Gives which of them are heard."""
     one, other = Guest(folder), Guest(folder)
     await one.greet()
+    one.link.send_mark(Mark.SPEAKS)
     await other.greet()
-    heard = [it for it in (other, one) if await it.is_heard()]
-    demand(len(heard) == 1, f"{len(heard)} of two that greeted are heard")
+    heard = [await it.is_heard() for it in (other, one)]
     for it in (one, other):
         it.link.close()
+    return heard[::-1]
 
 
 def restored_folder(stage: Stage) -> None:

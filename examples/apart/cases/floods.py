@@ -23,16 +23,17 @@ SILENT = 300
 
 def silent_links(stage: Stage) -> None:
     """Strangers open links and say nothing. The server has few of them at once, and the group goes on."""
-    stage.make(10, 4)
+    stage.make(15, 4)
     server, address = stage.servers[0], stage.addresses[0]
-    for end in [*stage.servers, *stage.members]:  # (of server 1 they have more time, so that not time makes them few)
-        end.start(limits=replace(FAST, greeting=60) if end is server else FAST)
+    server.start(limits=replace(FAST, greeting=60))  # (so that not time makes them few)
+    stage.servers[1].start(limits=replace(FAST, greeting=3))
+    for member in stage.members:
+        member.start()
     stage.say(1)
     stage.wrote(0, 1)
-    asyncio.run(late_ones(stage))
     most = stage.shape.clients + 32
     links = [socket.create_connection(address, 30) for _ in range(SILENT)]
-    stage.until(lambda: open_files(server.process.pid) <= most + 30, f"few open files beside {SILENT} silent links", 10)
+    stage.until(lambda: open_files(server.process.pid) <= most + 30, f"few open files beside {SILENT} silent links", 4)
     before = stage.written(0)
     stage.wrote(0, before + 3)
     stage.members[0].restart()
@@ -40,13 +41,14 @@ def silent_links(stage: Stage) -> None:
     stage.wrote(1, before + 5)
     for link in links:
         link.close()
+    asyncio.run(late_ones(stage))
     stage.end_all()
     stage.compare()
     stage.pads()
 
 
 async def late_ones(stage: Stage) -> None:
-    """Who says nothing, or nothing after the handshake, is let go after five seconds."""
+    """Who says nothing, or nothing after the handshake, is let go in time."""
     guest, began = Guest(stage.members[0].folder, 2), time.monotonic()
     _, host, port = guest.place.group.servers[1]
     silent = await asyncio.open_connection(host, port)
@@ -58,7 +60,7 @@ async def late_ones(stage: Stage) -> None:
             pass
         writer.transport.abort()
     seconds = time.monotonic() - began
-    demand(3 < seconds < 30, f"silent ones were let go after {seconds:.1f} s")
+    demand(2 < seconds < 9, f"silent ones were let go after {seconds:.1f} s")
 
 
 def answers(address: Tuple[str, int]) -> bool:
@@ -78,9 +80,10 @@ def flooding_member(stage: Stage) -> None:
     """A member that has written in all turns floods server 1 with bad frames, over one link after another. Nothing of
     it gets into the journal, few lines of error tell of it, and the others go on to their ends."""
     stage.make(4, 4)
-    stage.start()
+    client, server, seldom = stage.members[2], stage.servers[0], replace(FAST, same_error=2)
+    for end in [*stage.servers, *stage.members]:
+        end.start(limits=seldom if end is server else FAST)
     stage.say(1)
-    client, server = stage.members[2], stage.servers[0]
     client.type("away 1000")
     stage.wrote(2, stage.shape.turns)
     client.kill()
@@ -90,7 +93,7 @@ def flooding_member(stage: Stage) -> None:
     stage.notes.append(f"{sent} bad frames")
     demand(server.count(3, *range(256)) == own, "bad frames are in the journal")
     lines = server.complaints().removeprefix(before).splitlines()
-    most = (time.monotonic() - began) / FAST.same_error + 2
+    most = (time.monotonic() - began) / seldom.same_error + 2
     counts = Counter(it.partition(" (and ")[0] for it in lines)
     demand(len(counts) <= 4 and max(counts.values()) <= most, f"a flood wrote these lines of error: {counts}")
     for member in stage.members[:2]:
