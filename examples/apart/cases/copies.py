@@ -15,7 +15,7 @@ from meeting import WRITE
 from parts.link import Mark
 
 # For how many seconds a server doesn't hear another start of a member.
-SPEAKING = 1.5
+SPEAKING = 3
 
 
 def copied_folder(stage: Stage) -> None:
@@ -83,8 +83,8 @@ def two_at_once(stage: Stage) -> None:
     stage.until(lambda: first.lines("connected"), "a member that is connected")
     began = time.monotonic()
     first.kill()
-    both = asyncio.run(greet_both(first.folder))
-    demand(both == [False, True] or time.monotonic() - began > SPEAKING, f"of two that greeted {both} are heard")
+    both, when = asyncio.run(greet_both(first.folder))
+    demand(both == [False, True] or when - began > SPEAKING, f"of two that greeted {both} are heard")
     first.start()
     for number in range(3):
         folder = stage.folder / f"copy-{number}"
@@ -115,17 +115,18 @@ def two_at_once(stage: Stage) -> None:
     stage.pads()
 
 
-async def greet_both(folder: Path) -> List[bool]:
+async def greet_both(folder: Path) -> Tuple[List[bool], float]:
     """Two greet a server, and the first one speaks before the second one greets, so soon after another start that it has
-    to wait. Gives which of them are heard."""
+    to wait. Gives which of them are heard, and when the second one greeted."""
     one, other = Guest(folder), Guest(folder)
     await one.greet()
     one.link.send_mark(Mark.SPEAKS)
     await other.greet()
+    when = time.monotonic()
     heard = [await it.is_heard() for it in (other, one)]
     for it in (one, other):
         it.link.close()
-    return heard[::-1]
+    return heard[::-1], when
 
 
 def restored_folder(stage: Stage) -> None:

@@ -33,6 +33,7 @@ def silent_links(stage: Stage) -> None:
     stage.wrote(0, 1)
     most = stage.shape.clients + 32
     links = [socket.create_connection(address, 30) for _ in range(SILENT)]
+    asyncio.run(come(stage.members[0].folder))
     stage.until(lambda: open_files(server.process.pid) <= most + 30, f"few open files beside {SILENT} silent links", 4)
     before = stage.written(0)
     stage.wrote(0, before + 3)
@@ -45,6 +46,13 @@ def silent_links(stage: Stage) -> None:
     stage.end_all()
     stage.compare()
     stage.pads()
+
+
+async def come(folder: Path) -> None:
+    """Somebody comes, so that all came in who came before."""
+    guest = Guest(folder)
+    await guest.greet()
+    guest.link.close()
 
 
 async def late_ones(stage: Stage) -> None:
@@ -180,9 +188,10 @@ def said_in(member) -> list:
 
 def even_ticks(path: Path) -> None:
     """Each tick's records are as long, with a text or without one."""
-    sizes, size = set(), 0
-    for peer, data in journal.records_of(path.read_bytes()).packets[1:]:
+    sizes, size, packets = set(), 0, journal.records_of(path.read_bytes()).packets
+    for at, (peer, data) in enumerate(packets):
         is_tick = peer == HOST and data == TICK
+        demand(not is_tick or packets[at + 1][0] == FILLER, "a tick has no filling")
         if is_tick or peer == FILLER or (peer == HOST and data[:1] == b"S"):
             size += RECORD_SIZE + len(data)
         if peer == FILLER:
