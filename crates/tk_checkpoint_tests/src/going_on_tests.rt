@@ -3,10 +3,11 @@ use crate::testing::{
     FULL, SMALL, TIGHT, after_one_turn, apply_next, apply_turn, open, saved, shape,
 };
 use std::alloc::Global;
+use std::sync::Arc;
 use std::test::Fail;
 use tk_answer::Blocks;
 use tk_checkpoint::restore;
-use tk_replica::{Epoch, PinError};
+use tk_replica::{Epoch, PinError, ReplicaState};
 use tk_shape::Shape;
 
 /// The checkpoint after these turns of a state that goes on from another checkpoint.
@@ -92,23 +93,34 @@ fn are_same(a: &Epoch, b: &Epoch) -> bool {
     numbers && bits && bytes_of(a) == bytes_of(b)
 }
 
+/// The epoch of the second turn of the run of one text, from a state after its first; and why epoch 0 isn't kept, if it
+/// isn't.
+fn second_epoch(
+    alloc: Global,
+    mut state: ReplicaState,
+) -> Result<(Arc<Epoch>, Option<PinError>), Fail> {
+    apply_next(alloc, &mut state, 3)?;
+    let epoch = state.pin(2).ok().ok_or("the second epoch")?;
+    Ok((epoch, state.pin(0).err()))
+}
+
+/// The state after the first turn, from its checkpoint.
+fn after_a_checkpoint(alloc: Global) -> Result<ReplicaState, Fail> {
+    let bytes = saved(alloc, &after_one_turn(alloc)?)?;
+    let state = restore(alloc, &shape(1, SMALL)?, &bytes);
+    Ok(state.ok().ok_or("restore")?)
+}
+
 /// Behind the checkpoint of the first turn of a run the second one is as if it had never been written, and what was
 /// before it is let go.
 #[test]
 fn second_turn_behind_a_checkpoint(rt: HostRuntime) -> Result<(), Fail> {
     let alloc = rt.alloc();
-    let small = shape(1, SMALL)?;
-    let mut whole = after_one_turn(alloc)?;
-    let bytes = saved(alloc, &whole)?;
-    let mut state = restore(alloc, &small, &bytes).ok().ok_or("restore")?;
-    apply_next(alloc, &mut whole, 3)?;
-    apply_next(alloc, &mut state, 3)?;
-    let wanted = whole.pin(2).ok().ok_or("never stopped")?;
-    let found = state.pin(2).ok().ok_or("gone on")?;
+    let (wanted, kept) = second_epoch(alloc, after_one_turn(alloc)?)?;
+    let (found, retired) = second_epoch(alloc, after_a_checkpoint(alloc)?)?;
     assert!(rt; are_same(&wanted, &found));
+    assert!(rt; kept.is_none() && retired == Some(PinError::Retired { floor: 1 }));
     // the dummies of the second turn have hits 19 and 20
-    let filter = found.filter();
-    assert!(rt; (found.upto(), filter.shows(&[19]), filter.shows(&[20])) == (6, true, true));
-    assert!(rt; state.pin(0).err() == Some(PinError::Retired { floor: 1 }));
+    assert!(rt; found.upto() == 6 && found.filter().shows(&[19]) && found.filter().shows(&[20]));
     Ok(())
 }
