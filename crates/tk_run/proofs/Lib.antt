@@ -12,6 +12,8 @@ pub mod Placing
 pub mod Entering
 pub mod Fronts
 pub mod ReadingLaws
+pub mod RangingLaws
+pub mod NumbersLaws
 pub mod AnswerLaws
 pub mod AskingLaws
 pub mod Changes

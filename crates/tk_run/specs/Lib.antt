@@ -7,6 +7,7 @@ pub mod Ran
 pub mod Acting
 pub mod Courses
 pub mod Reading
+pub mod Ranging
 pub mod Answering
 pub mod Threads
 pub mod Keeping

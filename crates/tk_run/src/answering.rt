@@ -1,74 +1,96 @@
 //! The reads of a turn of threads, as the servers answer them.
-ghost use Rattle.std.specs.Prelude.{◌≡◌, ◌<◌, List, All, IfOk, OnOk, length};
+ghost use Rattle.std.specs.Prelude.{◌≡◌, ◌<◌, ◌≤◌, ℕ, List, All, IfOk, OnOk, length, slice_index_or};
 ghost use Rattle.std.specs.Thread.{IsSync};
 ghost use Rattle.tk_shape.specs.declared.shape.Shape.{Shape};
 ghost use Rattle.tk_frames.specs.declared.entry.Placed.{Placed};
+ghost use Rattle.tk_run.specs.declared.stations.Station.{Station as StationOf};
 ghost use Rattle.tk_run.specs.Reading.{EachAt};
 ghost use Rattle.tk_run.specs.Answering.{MayAnswer, IsAnswered, AllStand, AreGiven};
 ghost use Rattle.tk_run.specs.Answering.{AreReplies, AllReply};
+ghost use Rattle.tk_run.specs.Ranging.{even_ranges, IsRightOver};
 
 use crate::crew::Crew;
+use crate::kept::Kept;
 use crate::replying::replies_of;
 use crate::sharing::side_by_side;
+use crate::stations::{Replies, Station, cleared, stations_for};
+use crate::sums::Sums;
 use crate::talking::Reading;
-use std::alloc::{AllocGlobal, Global};
-use std::thread;
+use std::alloc::AllocGlobal;
 use std::thread::Threads;
+use std::{mem, thread};
 use tk_shape::{Bytes, Memory};
 
-/// What a server replies to the reads of all clients, if there was memory.
-type Replies = Result<Vec<Bytes>, Memory>;
-
-/// So many servers answer the reads of all clients.
-pub(crate) fn answer_all<R: Threads + Sync + AllocGlobal>(
+/// So many servers answer the reads of all clients, and keep their blocks in ranges.
+pub(crate) fn answer_all<A: Sums, R: Threads + Sync + AllocGlobal>(
     rt: &R,
+    sums: &A,
+    kept: &mut Vec<Option<Kept>>,
     servers: u32,
     readings: &mut [Reading],
     crew: Crew,
 ) -> Result<(), Memory>
     requires asked { (shape : Shape) × (servers ≡ shape.servers)
-        × All (MayAnswer shape) readings.old }
+        × All (MayAnswer shape) readings.old
+        × IsRightOver (even_ranges shape.buckets crew.shards) (A.sum sums.now) }
     requires stand { (shape : Shape) × (E : List Placed) × AllStand readings.old shape E }
     ensures { OnOk result (EachAt (IsAnswered (AllStand readings.old)) readings.old readings.new) }
 {
-    let answers = answers_from(rt, servers, readings, crew)?;
+    let answers = answers_from(rt, sums, kept, servers, readings, crew)?;
     give_all(readings, answers)
 }
 
 /// What so many servers reply, several of them at once, which share the crew.
-fn answers_from<R: Threads + Sync + AllocGlobal>(
+fn answers_from<A: Sums, R: Threads + Sync + AllocGlobal>(
     rt: &R,
+    sums: &A,
+    kept: &mut Vec<Option<Kept>>,
     servers: u32,
     readings: &[Reading],
     crew: Crew,
 ) -> Result<Vec<Replies>, Memory>
     requires asked { (shape : Shape) × (servers ≡ shape.servers)
-        × All (MayAnswer shape) readings.now }
+        × All (MayAnswer shape) readings.now
+        × IsRightOver (even_ranges shape.buckets crew.shards) (A.sum sums.now) }
     ensures counted { IfOk result (λ v. length v.items ≡ servers) }
     ensures replies { IfOk result (λ v. AllReply readings.now v.items) }
 {
-    let mut answers = unanswered(rt.alloc(), servers)?;
+    let alloc = rt.alloc();
+    let before = mem::replace(kept, Vec::new(alloc));
+    let mut stations = stations_for(alloc, servers, before)?;
     let vectors = 2 * readings.len() as u64;
     let sides = side_by_side(servers, vectors, crew);
-    let each = crew.part(sides);
-    let work = |server: usize, replies: &mut Replies|
-        requires { IsSync R.row × ((shape : Shape) × (server < shape.servers)
-            × All (MayAnswer shape) readings.now) }
-        ensures { AreReplies server readings.entry.now replies.exit.now }
-    { *replies = replies_of(rt, server, readings, each) };
-    thread::for_each_mut(rt, answers.as_mut_slice(), sides as usize, &work);
+    reply_at(rt, sums, stations.as_mut_slice(), readings, sides, crew);
+    let (after, answers) = cleared(alloc, stations)?;
+    *kept = after;
     Ok(answers)
 }
 
-/// A place for what each of so many servers replies.
-fn unanswered(alloc: Global, servers: u32) -> Result<Vec<Replies>, Memory>
-    ensures { IfOk result (λ v. length v.items ≡ servers) }
+/// What each server replies is put at its station, by so many servers at once, which share the crew.
+fn reply_at<A: Sums, R: Threads + Sync + AllocGlobal>(
+    rt: &R,
+    sums: &A,
+    stations: &mut [Station],
+    readings: &[Reading],
+    sides: u32,
+    crew: Crew,
+)
+    requires asked { (shape : Shape) × (length stations.old ≡ shape.servers)
+        × All (MayAnswer shape) readings.now
+        × IsRightOver (even_ranges shape.buckets crew.shards) (A.sum sums.now) }
+    requires sides { (1 ≤ sides) × (sides ≤ crew.workers) }
+    ensures counted { length stations.new ≡ length stations.old }
+    ensures replies { (i : ℕ) (d : StationOf) → i < length stations.new
+        → AreReplies i readings.now (slice_index_or stations.new i d).replies }
 {
-    let mut answers = Vec::new(alloc);
-    'servers: for _server in 0..servers {
-        answers.push(Err(Memory))?;
-    }
-    Ok(answers)
+    let each = crew.part(sides);
+    let work = |server: usize, station: &mut Station|
+        requires { IsSync A.row × IsSync R.row × ((shape : Shape) × (server < shape.servers)
+            × All (MayAnswer shape) readings.now
+            × IsRightOver (even_ranges shape.buckets each.shards) (A.sum sums.now)) }
+        ensures { AreReplies server readings.entry.now station.exit.now.replies }
+    { station.replies = replies_of(rt, sums, &mut station.kept, server, readings, each) };
+    thread::for_each_mut(rt, stations, sides as usize, &work);
 }
 
 /// Each client is given the replies of all servers, in their order.

@@ -4,6 +4,7 @@ ghost use Rattle.std.specs.Thread.{IsSync};
 ghost use Rattle.tk_run.specs.Courses.{MayAsk, MayTalk};
 ghost use Rattle.tk_run.specs.Reading.{AsksFor, MayReadOn, HasAsked, EachAt};
 
+use crate::sums::Sums;
 use crate::talking::{Reading, Round, Talk, all_done};
 use std::thread;
 use std::thread::Threads;
@@ -40,9 +41,9 @@ fn ask_on<D: Draws>(draws: &D, reading: &mut Reading)
 }
 
 /// All clients ask for their reads, in as many threads as there are workers.
-pub(crate) fn ask_all<'a, D: Draws, R: Threads + Sync>(
+pub(crate) fn ask_all<'a, D: Draws, A: Sums, R: Threads + Sync>(
     rt: &R,
-    round: &Round<'a, D>,
+    round: &Round<'a, D, A>,
     readings: &mut [Reading],
 ) -> Result<(), Memory>
     requires { All (MayReadOn (D.shape round.now.draws.now)) readings.old }

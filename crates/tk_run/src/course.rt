@@ -7,6 +7,7 @@ ghost use Rattle.tk_run.specs.Courses.{IsCourse, HasWritten, GoesOn, AreSights};
 ghost use Rattle.tk_run.specs.Courses.{TapsAfterTurn, TapsAfterRun};
 ghost use Rattle.tk_run.specs.Acting.{Acted};
 ghost use Rattle.tk_run.specs.Ran.{Ran};
+ghost use Rattle.tk_run.specs.Ranging.{even_ranges, IsRightOver};
 ghost use Rattle.tk_words.specs.Words.{words_of};
 ghost use Rattle.tk_report.specs.Entries.{write_at};
 
@@ -14,8 +15,10 @@ use crate::acting::{Cue, Desk, Herald, act};
 use crate::arranging::turn_from;
 use crate::crew::Crew;
 use crate::desks::{cleared, desks_for};
+use crate::kept::Kept;
 use crate::pinned_write::PinnedWrite;
 use crate::run_error::RunError;
+use crate::sums::Sums;
 use crate::talking::{Round, talk_all};
 use crate::tap_bytes::{entries_from, give_sights, sights_from};
 use std::alloc::AllocGlobal;
@@ -33,14 +36,17 @@ use tk_words::Draws;
 
 /// What stays the same in a run of threads.
 #[derive(Drop)]
-pub(crate) struct Stage<'a, B: Naming, D: Draws, G: Gate> {
+pub(crate) struct Stage<'a, B: Naming, D: Draws, G: Gate, A: Sums> {
     pub script: &'a Script,
     pub draws: &'a D,
     pub gate: &'a G,
+    pub sums: &'a A,
     pub cluster: &'a Cluster<B>,
     pub crew: Crew,
     pub ghost same: { B.shape ≡ script.now.shape },
     pub ghost one_shape: { D.shape draws.now ≡ script.now.shape },
+    pub ghost right: { IsRightOver (even_ranges script.now.shape.buckets crew.shards)
+        (A.sum sums.now) },
 }
 
 /// A run of threads between two turns: how the turns so far came about, and the clients, their
@@ -50,6 +56,8 @@ pub(crate) struct Course<B: Naming> {
     pub group: Group,
     pub passes: Vec<Pass<B>>,
     pub herald: Herald<B>,
+    /// The blocks in ranges that each server keeps.
+    pub kept: Vec<Option<Kept>>,
 }
 
 /// All turns of a run, from the first.
@@ -58,9 +66,15 @@ pub(crate) fn run_turns<
     B: Naming + Send + Sync,
     D: Draws,
     G: Gate,
+    A: Sums,
     T: Taps,
     R: Threads + Wait + Sync + AllocGlobal,
->(rt: &R, stage: &Stage<'a, B, D, G>, course: &mut Course<B>, taps: &mut T) -> Result<(), RunError>
+>(
+    rt: &R,
+    stage: &Stage<'a, B, D, G, A>,
+    course: &mut Course<B>,
+    taps: &mut T,
+) -> Result<(), RunError>
     requires { IsCourse stage.now.script.now (D.book stage.now.draws.now) 0
         course.old.turns.items course.old.group course.old.passes.items
         course.old.herald.publisher }
@@ -87,11 +101,12 @@ fn run_turn<
     B: Naming + Send + Sync,
     D: Draws,
     G: Gate,
+    A: Sums,
     T: Taps,
     R: Threads + Wait + Sync + AllocGlobal,
 >(
     rt: &R,
-    stage: &Stage<'a, B, D, G>,
+    stage: &Stage<'a, B, D, G, A>,
     turn: u32,
     course: &mut Course<B>,
     taps: &mut T,
@@ -123,10 +138,11 @@ fn play_turn<
     B: Naming + Send + Sync,
     D: Draws,
     G: Gate,
+    A: Sums,
     R: Threads + Wait + Sync + AllocGlobal,
 >(
     rt: &R,
-    stage: &Stage<'a, B, D, G>,
+    stage: &Stage<'a, B, D, G, A>,
     turn: u32,
     course: &mut Course<B>,
 ) -> Result<Vec<Bytes>, Memory>
@@ -148,10 +164,12 @@ fn play_turn<
     let round = Round {
         turn,
         draws: stage.draws,
+        sums: stage.sums,
         servers,
         crew: stage.crew,
     };
-    let talks = talk_all(rt, &round, &mut course.group.clients, slips)?;
+    let clients = &mut course.group.clients;
+    let talks = talk_all(rt, &round, &mut course.kept, clients, slips)?;
     sights_from(
         rt,
         servers,
@@ -168,10 +186,11 @@ fn write_turn<
     B: Naming + Send + Sync,
     D: Draws,
     G: Gate,
+    A: Sums,
     R: Threads + Wait + Sync + AllocGlobal,
 >(
     rt: &R,
-    stage: &Stage<'a, B, D, G>,
+    stage: &Stage<'a, B, D, G, A>,
     turn: u32,
     course: &mut Course<B>,
 ) -> Result<(Vec<PinnedWrite>, Vec<u8>), Memory>
@@ -201,9 +220,16 @@ fn write_turn<
 }
 
 /// All write and pin in a turn at once, and then know of it.
-fn act_in<'a, B: Naming + Send + Sync, D: Draws, G: Gate, R: Threads + Wait + Sync + AllocGlobal>(
+fn act_in<
+    'a,
+    B: Naming + Send + Sync,
+    D: Draws,
+    G: Gate,
+    A: Sums,
+    R: Threads + Wait + Sync + AllocGlobal,
+>(
     rt: &R,
-    stage: &Stage<'a, B, D, G>,
+    stage: &Stage<'a, B, D, G, A>,
     turn: u32,
     course: &mut Course<B>,
     desks: &mut [Desk],

@@ -10,9 +10,12 @@ ghost use Rattle.tk_cluster.specs.Sets.{Stands};
 ghost use Rattle.tk_run.specs.declared.talking.Reading.{Reading as ReadingOf};
 ghost use Rattle.tk_run.specs.Answering.{MayAnswer, MayReply, AllStand, AreReplies};
 ghost use Rattle.tk_run.specs.Answering.{frame_of, epoch_of};
+ghost use Rattle.tk_run.specs.Ranging.{even_ranges, IsRightOver, bytes_made};
 
 use crate::crew::Crew;
+use crate::kept::Kept;
 use crate::ranging::batch_in_ranges;
+use crate::sums::Sums;
 use crate::talking::Reading;
 use std::alloc::{AllocGlobal, Global};
 use std::thread::Threads;
@@ -20,18 +23,22 @@ use tk_cluster::{AnswerError, EpochSet};
 use tk_shape::{Bytes, Memory};
 
 /// What the server at a place replies to the reads of all clients.
-pub(crate) fn replies_of<R: Threads + Sync + AllocGlobal>(
+pub(crate) fn replies_of<A: Sums, R: Threads + Sync + AllocGlobal>(
     rt: &R,
+    sums: &A,
+    kept: &mut Option<Kept>,
     server: usize,
     readings: &[Reading],
     crew: Crew,
 ) -> Result<Vec<Bytes>, Memory>
     requires asked { (shape : Shape) × (server < shape.servers)
-        × All (MayAnswer shape) readings.now }
+        × All (MayAnswer shape) readings.now
+        × IsRightOver (even_ranges shape.buckets crew.shards) (A.sum sums.now) }
     ensures { AreReplies server readings.now result }
 {
     let frames = frames_for(rt.alloc(), server, readings)?;
-    replies_from(rt, server as u32 + 1, readings, frames.as_slice(), crew)
+    let server = server as u32 + 1;
+    replies_from(rt, sums, kept, server, readings, frames.as_slice(), crew)
 }
 
 /// What all clients ask of the server at a place.
@@ -48,8 +55,10 @@ fn frames_for(alloc: Global, server: usize, readings: &[Reading]) -> Result<Vec<
 
 /// What a server replies to the frames of these clients. Those of clients side by side that read
 /// one epoch are answered in one batch.
-fn replies_from<R: Threads + Sync + AllocGlobal>(
+fn replies_from<A: Sums, R: Threads + Sync + AllocGlobal>(
     rt: &R,
+    sums: &A,
+    kept: &mut Option<Kept>,
     server: u32,
     readings: &[Reading],
     frames: &[Bytes],
@@ -57,7 +66,8 @@ fn replies_from<R: Threads + Sync + AllocGlobal>(
 ) -> Result<Vec<Bytes>, Memory>
     requires asked { (shape : Shape) × MayReply shape server readings.now frames.now }
     ensures { (shape : Shape) (E : List Placed) → AllStand readings.now shape E
-        → IfOk result (λ replies. replies.items ≡ map (reply_bytes shape E) frames.now) }
+        → IfOk result (λ replies. replies.items
+        ≡ map (bytes_made (A.sum sums.now) crew.shards shape E) frames.now) }
 {
     let mut replies = Vec::new(rt.alloc());
     let mut clients = readings;
@@ -65,7 +75,7 @@ fn replies_from<R: Threads + Sync + AllocGlobal>(
     'rows: while !clients.is_empty() {
         let (row, behind) = asked.split_at(in_a_row(clients));
         let set = clients[0].talk.set.as_ref();
-        let mut more = batch(rt, set, server, row, crew)?;
+        let mut more = batch(rt, sums, kept, set, server, row, crew)?;
         let (_answered, others) = clients.split_at(row.len());
         replies.append(&mut more)?;
         clients = others;
@@ -92,7 +102,29 @@ fn in_a_row(readings: &[Reading]) -> usize
 
 /// What a server replies to reads of a set's epoch. Where its blocks aren't divided the workers share
 /// the reads.
-fn batch<R: Threads + Sync + AllocGlobal>(
+fn batch<A: Sums, R: Threads + Sync + AllocGlobal>(
+    rt: &R,
+    sums: &A,
+    kept: &mut Option<Kept>,
+    set: &EpochSet,
+    server: u32,
+    frames: &[Bytes],
+    crew: Crew,
+) -> Result<Vec<Bytes>, Memory>
+    requires server { (1 ≤ server) × (server ≤ set.now.shape.servers) }
+    requires asked { All (IsAsked set.now) frames.now }
+    ensures { (shape : Shape) (E : List Placed) → Stands shape E set.now.number set.now
+        → IfOk result (λ replies. replies.items
+        ≡ map (bytes_made (A.sum sums.now) crew.shards shape E) frames.now) }
+{
+    if crew.shards > 1 {
+        return batch_in_ranges(rt, sums, kept, set, server, frames, crew);
+    }
+    batch_at_once(rt, set, server, frames, crew)
+}
+
+/// The same over all blocks at once.
+fn batch_at_once<R: Threads + Sync>(
     rt: &R,
     set: &EpochSet,
     server: u32,
@@ -104,9 +136,6 @@ fn batch<R: Threads + Sync + AllocGlobal>(
     ensures { (shape : Shape) (E : List Placed) → Stands shape E set.now.number set.now
         → IfOk result (λ replies. replies.items ≡ map (reply_bytes shape E) frames.now) }
 {
-    if crew.shards > 1 {
-        return batch_in_ranges(rt, set, server, frames, crew);
-    }
     match set.answer_many(rt, server, frames, crew.workers) {
         Ok(replies) => Ok(replies),
         Err(error) => Err(wanting(error)),

@@ -5,6 +5,7 @@ ghost use Rattle.tk_words.specs.Words.{words_of};
 ghost use Rattle.tk_client.specs.Client.{after_replies};
 ghost use Rattle.tk_run.specs.Reading.{MayTake, HasTaken, EachAt};
 
+use crate::sums::Sums;
 use crate::talking::{Reading, Round, Talk, all_done};
 use std::thread;
 use std::thread::Threads;
@@ -38,9 +39,9 @@ fn take_on<D: Draws>(draws: &D, reading: &mut Reading)
 
 /// All clients take the replies to their reads at once, in as many threads as there are workers but
 /// in two at least.
-pub(crate) fn take_all<'a, D: Draws, R: Threads + Sync>(
+pub(crate) fn take_all<'a, D: Draws, A: Sums, R: Threads + Sync>(
     rt: &R,
-    round: &Round<'a, D>,
+    round: &Round<'a, D, A>,
     readings: &mut [Reading],
 ) -> Result<(), Memory>
     requires { All (MayTake (D.shape round.now.draws.now)) readings.old }

@@ -8,11 +8,14 @@ ghost use Rattle.tk_run.specs.Clients.{AreClients, client_before};
 ghost use Rattle.tk_run.specs.Courses.{MayRead, AreTalks, AreBlank};
 ghost use Rattle.tk_run.specs.Reading.{readers, talks_of};
 ghost use Rattle.tk_run.specs.Answering.{epoch_of};
+ghost use Rattle.tk_run.specs.Ranging.{even_ranges, IsRightOver};
 
 use crate::answering::answer_all;
 use crate::ask_threads::ask_all;
 use crate::crew::Crew;
+use crate::kept::Kept;
 use crate::pinned_write::PinnedWrite;
+use crate::sums::Sums;
 use crate::taking::take_all;
 use std::alloc::{AllocGlobal, Global};
 use std::mem;
@@ -26,12 +29,15 @@ use tk_words::Draws;
 /// What is the same for all reads of a turn: which turn it is, the words, how many servers answer,
 /// and the crew that all of them share.
 #[derive(Drop)]
-pub(crate) struct Round<'a, D: Draws> {
+pub(crate) struct Round<'a, D: Draws, A: Sums> {
     pub turn: u32,
     pub draws: &'a D,
+    pub sums: &'a A,
     pub servers: u32,
     pub crew: Crew,
     pub ghost servers_are: { servers ≡ (D.shape draws.now).servers },
+    pub ghost right: { IsRightOver (even_ranges (D.shape draws.now).buckets crew.shards)
+        (A.sum sums.now) },
 }
 
 /// A read in a turn: the set that answers it, and for each server what it is asked and what it
@@ -54,9 +60,10 @@ pub(crate) struct Reading {
 
 /// All clients ask at once, each of the set that it pinned; then each server answers the reads of
 /// each epoch in one batch, and then all clients take the replies at once.
-pub(crate) fn talk_all<'a, D: Draws, R: Threads + Sync + AllocGlobal>(
+pub(crate) fn talk_all<'a, D: Draws, A: Sums, R: Threads + Sync + AllocGlobal>(
     rt: &R,
-    round: &Round<'a, D>,
+    round: &Round<'a, D, A>,
+    kept: &mut Vec<Option<Kept>>,
     clients: &mut Vec<Client>,
     slips: Vec<PinnedWrite>,
 ) -> Result<Vec<Talk>, Memory>
@@ -76,7 +83,7 @@ pub(crate) fn talk_all<'a, D: Draws, R: Threads + Sync + AllocGlobal>(
     let all = readings.as_mut_slice();
     ask_all(rt, round, all)?;
     by_epoch(all);
-    answer_all(rt, round.servers, all, round.crew)?;
+    answer_all(rt, round.sums, kept, round.servers, all, round.crew)?;
     take_all(rt, round, all)?;
     by_client(all);
     let (read, talks) = parted(alloc, readings)?;

@@ -1,11 +1,13 @@
 ghost use Rattle.std.specs.Prelude.{◌≡◌, ◌≤◌, ◌+◌, IfErr};
 ghost use Rattle.tk_io.specs.Content.{Rose};
+ghost use Rattle.tk_run.specs.Ranging.{even_ranges, IsRightOver};
 ghost use Rattle.tk_run.specs.Threads.{CameAbout};
 
 use crate::acting::Herald;
 use crate::course::{Course, Stage, run_turns};
 use crate::crew::Crew;
 use crate::run_error::RunError;
+use crate::sums::{OwnSums, Sums};
 use std::alloc::AllocGlobal;
 use std::marker::Brand;
 use std::sync::Wait;
@@ -41,24 +43,52 @@ pub fn threads<D: Draws, T: Taps, G: Gate, R: Threads + Wait + Sync + AllocGloba
         → Rose (T.faults taps.old) (T.faults taps.new)) }
     ensures counts { T.faults taps.old ≤ T.faults taps.new }
 {
+    threads_by(rt, script, draws, taps, gate, workers, shards, &OwnSums)
+}
+
+/// The same where this makes the sums over the ranges. It is asked for them over so many even ranges
+/// and over no others.
+pub fn threads_by<D: Draws, T: Taps, G: Gate, A: Sums, R: Threads + Wait + Sync + AllocGlobal>(
+    rt: &R,
+    script: &Script,
+    draws: &D,
+    taps: &mut T,
+    gate: &G,
+    workers: u32,
+    shards: u32,
+    sums: &A,
+) -> Result<(Outcome, Closed), RunError>
+    requires one_shape { D.shape draws.now ≡ script.now.shape }
+    requires workers { (1 ≤ workers) × (workers ≤ 64) }
+    requires shards { (1 ≤ shards) × (shards ≤ 64) }
+    requires right { IsRightOver (even_ranges script.now.shape.buckets shards) (A.sum sums.now) }
+    ensures run { CameAbout script.now (D.book draws.now) result
+        (T.tap taps.old) (T.tap taps.new) }
+    ensures rose { IfErr result (λ e. e ≡ RunError.Taps
+        → Rose (T.faults taps.old) (T.faults taps.new)) }
+    ensures counts { T.faults taps.old ≤ T.faults taps.new }
+{
     let blank = Blank::new(rt.alloc(), &script.shape, script.shape.clients + 1)?;
     let scene = Scene {
         script,
         draws,
         gate,
+        sums,
         crew: Crew { workers, shards },
     };
-    run_over::<Brand, D, T, G, R>(rt, &scene, blank, taps)
+    run_over::<Brand, D, T, G, A, R>(rt, &scene, blank, taps)
 }
 
 /// What a run of threads goes by.
 #[derive(Drop)]
-struct Scene<'a, D: Draws, G: Gate> {
+struct Scene<'a, D: Draws, G: Gate, A: Sums> {
     script: &'a Script,
     draws: &'a D,
     gate: &'a G,
+    sums: &'a A,
     crew: Crew,
     ghost one_shape: { D.shape draws.now ≡ script.now.shape },
+    ghost right: { IsRightOver (even_ranges script.now.shape.buckets crew.shards) (A.sum sums.now) },
 }
 
 /// A run over the cluster of a blank.
@@ -68,10 +98,11 @@ fn run_over<
     D: Draws,
     T: Taps,
     G: Gate,
+    A: Sums,
     R: Threads + Wait + Sync + AllocGlobal,
 >(
     rt: &R,
-    scene: &Scene<'a, D, G>,
+    scene: &Scene<'a, D, G, A>,
     blank: Blank,
     taps: &mut T,
 ) -> Result<(Outcome, Closed), RunError>
@@ -95,11 +126,13 @@ fn run_over<
             publisher,
             told: None,
         },
+        kept: Vec::new(rt.alloc()),
     };
     let stage = Stage {
         script: scene.script,
         draws: scene.draws,
         gate: scene.gate,
+        sums: scene.sums,
         cluster: &cluster,
         crew: scene.crew,
     };
@@ -109,6 +142,7 @@ fn run_over<
         group,
         passes,
         herald,
+        kept: _kept,
     } = course;
     let Herald {
         publisher,

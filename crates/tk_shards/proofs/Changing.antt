@@ -1,13 +1,25 @@
 -- Lists that are the same but for some elements.
-use Rattle.std.proofs.Common.{◌≡◌, ◌≢◌, ℕ, ◌+◌, ◌<◌, ◌≤◌, List, [], ◌∷◌, length, drop, set, ap, ap₂, sym, ◌∙◌}
+use Rattle.std.proofs.Common.{◌≡◌, ◌≢◌, ℕ, ◌+◌, ◌<◌, ◌≤◌, List, [], ◌∷◌, ◌++◌, length, drop, set, ap, ap₂, sym, ◌∙◌}
 use Rattle.std.proofs.Common.{subst, arith, inl, inr}
 use Rattle.std.specs.Prelude.{slice_index_or}
-use Rattle.std.proofs.lemmas.Bool.{cases_eq}
+use Rattle.std.proofs.lemmas.Bool.{cases_eq, cases_lt}
 use Rattle.std.proofs.lemmas.List.{length-set, get_or-set_same, get_or-set_other, get_or_default, drop_more}
-use Rattle.std.proofs.lemmas.List.{drop_all, same_lists}
+use Rattle.std.proofs.lemmas.List.{drop_all, same_lists, get_or_append_left, length-append}
+use Rattle.std.proofs.Math.Seq.{get_or-append_seam}
+use Rattle.std.specs.List.{All}
 use Rattle.std.proofs.lemmas.List.Elements.{All-cons, All-nil}
 use Rattle.tk_shards.specs.Shards.{Sharded, AreSameBut}
 use Rattle.tk_shards.proofs.Row.{shown_as}
+
+All-front : (P : ℕ → Type 0) (xs ys : List ℕ) → All P (xs ++ ys) → All P xs
+All-front P xs ys all k d low =
+    subst P (get_or_append_left xs ys d k low)
+    (all k d (omega (arith, low, length-append xs ys)))
+
+All-last : (P : ℕ → Type 0) (xs : List ℕ) (y : ℕ) → All P (xs ++ y ∷ []) → P y
+All-last P xs y all =
+    subst P (get_or-append_seam xs y [] y)
+    (all (length xs) y (omega (arith, length-append xs (y ∷ []))))
 
 -- the element of the next number taken over
 changed-here : (i : ℕ) (rest : List ℕ) (new old : List (List ℕ)) → AreSameBut (i ∷ rest) new old → i < length old →
@@ -81,3 +93,54 @@ module _ (old : Sharded) (changed : List ℕ) (new : List (List ℕ)) (k : ℕ) 
       sym (same_lists new s.blocks none.count (λ j d within. none.others j d within (All-nil (λ i. i ≢ j)))) in
       ap₂ (λ w r. shown_as w s.blocks r) taking.width taking.ranges
       ∙ ap (λ vs. shown_as old.width vs old.ranges) same
+
+-- ---- numbers that are found
+
+-- of the elements before number i those whose numbers aren't listed are the same
+pub record IsFound (i : ℕ) (new old : List (List ℕ)) (changed : List ℕ) : Type 0 where
+  pub others : (k : ℕ) → k < i → All (λ j. j ≢ k) changed →
+      slice_index_or new k [] ≡ slice_index_or old k []
+
+module _ {new old : List (List ℕ)} where
+  pub found-none : {i : ℕ} {changed : List ℕ} → i ≡ 0 → IsFound i new old changed
+  found-none none = record { others = λ k low apart. absurd (omega (arith, none, low)) }
+
+  -- the next is listed
+  pub found-listed : {i : ℕ} {changed more : List ℕ} → more ≡ changed ++ i ∷ [] →
+      IsFound i new old changed → IsFound (i + 1) new old more
+  found-listed {i} {changed} {more} is found =
+      record {
+        others = λ k low apart.
+            let all : All (λ j. j ≢ k) (changed ++ i ∷ []) = subst (All (λ j. j ≢ k)) is apart in
+            elim (cases_lt k i) [
+              | inl before ↦ found.others k before (All-front (λ j. j ≢ k) changed (i ∷ []) all)
+              | inr past ↦
+                  let here : i ≡ k = omega (arith, past, low) in
+                  absurd (All-last (λ j. j ≢ k) changed i all here)
+            ];
+      }
+
+  -- the next is the same
+  pub found-same : {i : ℕ} {changed : List ℕ} → slice_index_or new i [] ≡ slice_index_or old i [] →
+      IsFound i new old changed → IsFound (i + 1) new old changed
+  found-same {i} {changed} same found =
+      record {
+        others = λ k low apart. elim (cases_lt k i) [
+          | inl before ↦ found.others k before apart
+          | inr past ↦
+              let here : i ≡ k = omega (arith, past, low) in
+              subst (λ n. slice_index_or new n [] ≡ slice_index_or old n []) here same
+        ];
+      }
+
+  -- at the end the lists are the same but for those
+  pub found-all : {i : ℕ} {changed : List ℕ} → length new ≡ length old → length old ≤ i →
+      IsFound i new old changed → AreSameBut changed new old
+  found-all {i} {changed} counted past found =
+      record {
+        count = counted;
+        others = λ k d low apart.
+            get_or_default new k d [] low
+            ∙ found.others k (omega (arith, low, counted, past)) apart
+            ∙ get_or_default old k [] d (omega (arith, low, counted));
+      }

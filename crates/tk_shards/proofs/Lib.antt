@@ -3,11 +3,10 @@ pub mod Sized
 pub mod Gathered
 pub mod Padding
 pub mod Packed
-pub mod Rows
+pub mod Adding
 pub mod Totals
+pub mod Summed
 pub mod Row
 pub mod Dividing
 pub mod Changing
-pub mod Spanning
-pub mod Lending
 pub mod Ranges

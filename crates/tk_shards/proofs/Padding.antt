@@ -1,11 +1,11 @@
 -- Blocks of zeros around those of a range.
-use Rattle.std.proofs.Common.{◌≡◌, ℕ, zero, suc, ◌+◌, ◌*◌, ◌/◌, ◌%◌, ◌^◌, ◌<◌, ◌==◌, true, false, cond}
-use Rattle.std.proofs.Common.{List, [], ◌∷◌, ◌++◌, length, take, drop, replicate, slice_index, refl, ap, ap₂}
+use Rattle.std.proofs.Common.{◌≡◌, ℕ, zero, suc, ◌+◌, ◌*◌, ◌/◌, ◌%◌, true, false, cond}
+use Rattle.std.proofs.Common.{List, ◌∷◌, ◌++◌, length, replicate, refl, ap, ap₂}
 use Rattle.std.proofs.Common.{sym, ◌∙◌, arith}
-use Rattle.std.proofs.lemmas.List.{length-append, length-replicate, get_or-take, get_or-drop}
+use Rattle.std.proofs.lemmas.List.{length-append, length-replicate}
 use Rattle.tk_kernel.specs.Xor.{xor_bytes, xor_all}
 use Rattle.tk_kernel.specs.Pieces.{AllSized}
-use Rattle.tk_kernel.specs.Chosen.{has_bit, chosen_from, chosen_sum}
+use Rattle.tk_kernel.specs.Chosen.{has_bit, chosen_from}
 use Rattle.tk_kernel.proofs.Offers.{xor_all-append, zeros-xor_bytes, xor_bytes-zeros, length-xor_all, length-zeros}
 use Rattle.tk_kernel.proofs.Offers.{AllSized-chosen_from, AllSized-append, chosen_from-append}
 use Rattle.tk_shards.specs.Ranged.{Ranged, zero_blocks, lacking, padded, part_of}
@@ -29,28 +29,6 @@ AllSized-padded r each =
     AllSized-append r.width before (r.blocks ++ behind) (AllSized-zeros r.width (r.first % 8))
     (AllSized-append r.width r.blocks behind each (AllSized-zeros r.width (lacking (r.first + length r.blocks))))
 
--- the same choice by other bits
-chosen-same : (i j : ℕ) (bs : List (List ℕ)) (v w : List ℕ) →
-    ((k : ℕ) → k < length bs → has_bit v (i + k) ≡ has_bit w (j + k)) → chosen_from i bs v ≡ chosen_from j bs w
-chosen-same i j [] v w same = refl
-chosen-same i j (b ∷ bs) v w same =
-    let here : has_bit v i ≡ has_bit w j =
-    ap (has_bit v) (omega arith) ∙ same 0 (omega arith) ∙ ap (has_bit w) (omega arith) in
-    let others : chosen_from (i + 1) bs v ≡ chosen_from (j + 1) bs w =
-    chosen-same (i + 1) (j + 1) bs v w
-    (λ k h. ap (has_bit v) (omega arith) ∙ same (suc k) (omega arith) ∙ ap (has_bit w) (omega arith)) in
-    ap₂ (λ t rest. cond t (b ∷ rest) rest) here others
-
--- a bit of some bytes of a vector
-part-bit : (from count k : ℕ) (v : List ℕ) → k < 8 * count →
-    has_bit (take count (drop from v)) (0 + k) ≡ has_bit v (8 * from + k)
-part-bit from count k v h =
-    let byte : from + (0 + k) / 8 ≡ (8 * from + k) / 8 = omega arith in
-    let bit : (0 + k) % 8 ≡ (8 * from + k) % 8 = omega arith in
-    let read : slice_index (take count (drop from v)) ((0 + k) / 8) ≡ slice_index v (from + (0 + k) / 8) =
-    get_or-take count (drop from v) ((0 + k) / 8) 0 (omega arith) ∙ get_or-drop from v ((0 + k) / 8) 0 in
-    ap₂ (λ x r. x / 2 ^ r % 2 == 1) (read ∙ ap (slice_index v) byte) bit
-
 -- blocks of zeros add nothing, whichever are chosen
 zeros-sum : (width i n : ℕ) (v : List ℕ) → xor_all width (chosen_from i (zero_blocks width n) v) ≡ replicate width 0
 zeros-sum width i zero v = refl
@@ -63,11 +41,10 @@ zeros-sum width i (suc n) v =
     elim (has_bit v i) as (λ b. xor_all width (cond b (zeros ∷ others) others) ≡ zeros)
     [ true ↦ added | false ↦ rest ]
 
--- what the vector's bytes over a range choose of its blocks and of the zeros around them
-pub padded-sum : (r : Ranged) (v : List ℕ) (from count : ℕ) → AllSized r.width r.blocks → from ≡ r.first / 8 →
-    8 * count ≡ length (padded r) → chosen_sum r.width (padded r) (take count (drop from v)) ≡ part_of r v
-unfolding chosen_sum
-padded-sum r v from count each begins eights =
+-- what the vector's bytes from that over the range on choose of its blocks and of the zeros around them
+pub padded-sum : (r : Ranged) (v : List ℕ) (from : ℕ) → AllSized r.width r.blocks → from ≡ r.first / 8 →
+    xor_all r.width (chosen_from (8 * from) (padded r) v) ≡ part_of r v
+padded-sum r v from each begins =
     let width = r.width in
     let n = length r.blocks in
     let zeros = replicate {A = ℕ} width 0 in
@@ -85,9 +62,7 @@ padded-sum r v from count each begins eights =
     xor_all-append width own last last_sized
     ∙ ap (xor_bytes (xor_all width own)) (zeros-sum width (r.first + n) (lacking (r.first + n)) v)
     ∙ ap (λ k. xor_bytes (xor_all width own) (replicate k 0)) (sym own_long) ∙ xor_bytes-zeros (xor_all width own) in
-    ap (xor_all width) (chosen-same 0 (8 * from) (padded r) (take count (drop from v)) v
-    (λ k h. part-bit from count k v (omega arith)))
-    ∙ ap (xor_all width) (chosen_from-append (8 * from) before (r.blocks ++ behind) v)
+    ap (xor_all width) (chosen_from-append (8 * from) before (r.blocks ++ behind) v)
     ∙ ap (λ f. xor_all width (chosen_from (8 * from) before v ++ chosen_from f (r.blocks ++ behind) v)) first
     ∙ ap (λ ys. xor_all width (chosen_from (8 * from) before v ++ ys)) (chosen_from-append r.first r.blocks behind v)
     ∙ xor_all-append width (chosen_from (8 * from) before v) (own ++ last)

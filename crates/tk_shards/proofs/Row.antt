@@ -195,7 +195,7 @@ written-in width count i k rs d shard block shards is long at e =
 
 -- all ranges lie among the blocks for which vectors have bits
 pub asked-all : (width count : ℕ) (rs : List Ranged) (vectors : List (List ℕ)) → AreShards width count rs →
-    All (λ v. 8 * length v ≡ length (blocks_of rs)) vectors → All (IsAsked vectors) rs
+    All (λ v. 8 * length v ≡ length (blocks_of rs)) vectors → All (IsAsked width vectors) rs
 asked-all width count rs vectors shards bits k d low =
     let r = slice_index_or rs k d in
     let wide : IsOfWidth width r = shards.sized k d low in
@@ -210,6 +210,7 @@ asked-all width count rs vectors shards bits k d low =
       length-append r.blocks after,
     ) in
     record {
-      sized = subst (λ w. AllSized w r.blocks) (sym wide.wide) wide.sized;
+      wide = wide.wide;
+      sized = wide.sized;
       reach = λ j e within. omega (arith, ends, bits j e within);
     }

@@ -1,11 +1,12 @@
 -- The sums over all ranges, added, are those over the whole list.
-use Rattle.std.proofs.Common.{◌≡◌, ℕ, zero, suc, ◌+◌, ◌<◌, List, [], ◌∷◌, ◌++◌, length, map}
-use Rattle.std.proofs.Common.{replicate}
+use Rattle.std.proofs.Common.{◌≡◌, ℕ, zero, suc, ◌+◌, ◌*◌, ◌<◌, ◌≤◌, List, [], ◌∷◌, ◌++◌, length, map}
+use Rattle.std.proofs.Common.{replicate, take, drop}
 use Rattle.std.proofs.Common.{refl, ap, ap₂, sym, ◌∙◌, subst, arith}
 use Rattle.std.specs.Prelude.{slice_index_or, Vec, Ok, Err, IfOk}
 use Rattle.std.specs.Global.{Global}
 use Rattle.std.specs.List.{All}
-use Rattle.std.proofs.lemmas.List.Elements.{All-head, All-tail}
+use Rattle.std.proofs.lemmas.List.{map-append, take-append-drop, length-drop, drop-drop}
+use Rattle.std.proofs.lemmas.List.Elements.{All-head, All-tail, All-take, All-drop}
 use Rattle.tk_kernel.specs.Xor.{xor_bytes, xor_all}
 use Rattle.tk_kernel.specs.Pieces.{AllSized}
 use Rattle.tk_kernel.specs.Chosen.{chosen_from, chosen_sum}
@@ -13,8 +14,16 @@ use Rattle.tk_kernel.proofs.Offers.{xor_all-append, xor_bytes_assoc, xor_bytes-z
 use Rattle.tk_kernel.proofs.Offers.{length-xor_bytes}
 use Rattle.tk_kernel.proofs.Offers.{AllSized-chosen_from, AllSized-append, chosen_from-append}
 use Rattle.tk_shards.specs.Ranged.{Ranged, part_of}
-use Rattle.tk_shards.specs.Parts.{Part, HasParts, xor_rows, HasLengths, AreAlike, AddUp, IsTotal}
+use Rattle.tk_shards.specs.Parts.{Part, HasParts, sum_in, xor_rows, HasLengths, AreAlike, AddUp, IsTotal}
 use Rattle.tk_shards.specs.Shards.{blocks_of, AreInRow, IsOfWidth}
+
+none-left : {X : Type 0} (xs : List X) → length xs ≤ 0 → xs ≡ []
+none-left [] none = refl
+none-left (x ∷ xs) none = absurd (omega (arith, none))
+
+All-one : {X : Type 0} (P : X → Type 0) (x : X) → P x → All P (x ∷ [])
+All-one P x is zero d low = is
+All-one P x is (suc k) d low = absurd (omega (arith, low))
 
 pub lengths-xor_rows : (xs ys : List (List ℕ)) → map length ys ≡ map length xs →
     map length (xor_rows xs ys) ≡ map length xs
@@ -32,29 +41,6 @@ added-more start [] all part e = ap (λ xs. xor_rows xs part.items) e
 added-more start (Ok first ∷ parts) all part h = added-more (xor_rows start first.items) parts all part h
 added-more start (Err refusal ∷ parts) all part h = absurd h
 
--- each range's sums, made or not
-AreParts : List (List ℕ) → List Ranged → List Part → Type 0
-AreParts vs [] [] = Unit {0}
-AreParts vs [] (part ∷ parts) = ⊥
-AreParts vs (r ∷ rs) [] = ⊥
-AreParts vs (r ∷ rs) (part ∷ parts) = IfOk part (λ sums. sums.items ≡ map (part_of r) vs) × AreParts vs rs parts
-
-parts-behind : (vs : List (List ℕ)) (r : Ranged) (rs : List Ranged) (part : Part) (parts : List Part) →
-    HasParts (r ∷ rs) vs (part ∷ parts) → HasParts rs vs parts
-parts-behind vs r rs part parts h =
-    record {
-      count = let all = h.count in omega arith;
-      each = λ n d e less. h.each (suc n) d e (omega arith);
-    }
-
-are-parts : (vs : List (List ℕ)) (rs : List Ranged) (parts : List Part) → HasParts rs vs parts → AreParts vs rs parts
-unfolding AreParts
-are-parts vs [] [] h = tt
-are-parts vs [] (part ∷ parts) h = absurd (let all = h.count in omega arith)
-are-parts vs (r ∷ rs) [] h = absurd (let all = h.count in omega arith)
-are-parts vs (r ∷ rs) (part ∷ parts) h =
-    (h.each 0 part r (omega arith), are-parts vs rs parts (parts-behind vs r rs part parts h))
-
 module _ (width : ℕ) where
   length-part : (r : Ranged) (v : List ℕ) → IsOfWidth width r → length (part_of r v) ≡ width
   length-part r v h =
@@ -63,83 +49,173 @@ module _ (width : ℕ) where
       (AllSized-chosen_from width r.first r.blocks v h.sized))
       ∙ h.wide
 
-  lengths-part : (r q : Ranged) (vs : List (List ℕ)) → IsOfWidth width r → IsOfWidth width q →
-      map length (map (part_of r) vs) ≡ map length (map (part_of q) vs)
-  lengths-part r q [] h g = refl
-  lengths-part r q (v ∷ vs) h g =
-      ap₂ (λ n ns. n ∷ ns) (length-part r v h ∙ sym (length-part q v g)) (lengths-part r q vs h g)
+  sized-parts : (rs : List Ranged) (v : List ℕ) → All (IsOfWidth width) rs →
+      AllSized width (map (λ r. part_of r v) rs)
+  sized-parts [] v each = tt
+  sized-parts (r ∷ rs) v each = (
+    length-part r v (All-head (IsOfWidth width) r rs each),
+    sized-parts rs v (All-tail (IsOfWidth width) r rs each),
+  )
 
-  alike-from : (vs : List (List ℕ)) (q : Ranged) (rs : List Ranged) (parts : List Part) → IsOfWidth width q →
-      All (IsOfWidth width) rs → AreParts vs rs parts →
-      (k : ℕ) (d : Part) → k < length parts → HasLengths (map length (map (part_of q) vs)) (slice_index_or parts k d)
-  unfolding AreParts
-  alike-from vs q [] [] g each h k d less = absurd (omega arith)
-  alike-from vs q [] (part ∷ parts) g each h k d less = absurd h
-  alike-from vs q (r ∷ rs) [] g each h k d less = absurd h
-  alike-from vs q (r ∷ rs) (Ok part ∷ parts) g each h zero d less =
-      ap (map length) h.0 ∙ lengths-part r q vs (All-head (IsOfWidth width) r rs each) g
-  alike-from vs q (r ∷ rs) (Err refusal ∷ parts) g each h zero d less = tt
-  alike-from vs q (r ∷ rs) (part ∷ parts) g each h (suc k) d less =
-      alike-from vs q rs parts g (All-tail (IsOfWidth width) r rs each) h.1 k d (omega arith)
+  pub length-sum_in : (rs : List Ranged) (v : List ℕ) → All (IsOfWidth width) rs →
+      length (sum_in width rs v) ≡ width
+  unfolding sum_in
+  length-sum_in rs v each =
+      length-xor_all width (map (λ r. part_of r v) rs) (sized-parts rs v each)
 
-  -- the parts of ranges of one width have sums as long
-  pub parts-alike : (vs : List (List ℕ)) (rs : List Ranged) (parts : List Part) → 0 < length rs →
-      All (IsOfWidth width) rs → HasParts rs vs parts → AreAlike parts
-  unfolding AreParts
-  parts-alike vs [] parts some each h = absurd (omega arith)
-  parts-alike vs (r ∷ rs) [] some each h = absurd (let all = h.count in omega arith)
-  parts-alike vs (r ∷ rs) (Err refusal ∷ parts) some each h = tt
-  parts-alike vs (r ∷ rs) (Ok part ∷ parts) some each h =
-      let wide = All-head (IsOfWidth width) r rs each in
-      let first : part.items ≡ map (part_of r) vs = (are-parts vs (r ∷ rs) (Ok part ∷ parts) h).0 in
-      subst (λ xs. All (HasLengths (map length xs)) parts) (sym first)
-      (alike-from vs r rs parts wide (All-tail (IsOfWidth width) r rs each)
-      (are-parts vs (r ∷ rs) (Ok part ∷ parts) h).1)
+  sum_in-append : (rs qs : List Ranged) (v : List ℕ) → All (IsOfWidth width) qs →
+      sum_in width (rs ++ qs) v ≡ xor_bytes (sum_in width rs v) (sum_in width qs v)
+  unfolding sum_in
+  sum_in-append rs qs v each =
+      ap (xor_all width) (map-append (λ r. part_of r v) rs qs)
+      ∙ xor_all-append width (map (λ r. part_of r v) rs) (map (λ r. part_of r v) qs)
+      (sized-parts qs v each)
 
-  -- to a start, one list of bytes for each vector, the sums over these ranges
-  total-from : List Ranged → (List ℕ → List ℕ) → List ℕ → List ℕ
-  total-from rs f v = xor_bytes (f v) (xor_all width (map (λ r. part_of r v) rs))
+  pub sum_in-none : (v : List ℕ) → sum_in width [] v ≡ replicate width 0
+  unfolding sum_in
+  sum_in-none v = refl
+
+  sum_in-one : (r : Ranged) (v : List ℕ) → IsOfWidth width r → sum_in width (r ∷ []) v ≡ part_of r v
+  unfolding sum_in
+  sum_in-one r v wide =
+      ap (λ n. xor_bytes (part_of r v) (replicate n 0)) (sym (length-part r v wide))
+      ∙ xor_bytes-zeros (part_of r v)
+
+  -- one range more
+  pub sum_in-more : (rs : List Ranged) (r : Ranged) (v : List ℕ) → IsOfWidth width r →
+      sum_in width (rs ++ r ∷ []) v ≡ xor_bytes (sum_in width rs v) (part_of r v)
+  sum_in-more rs r v wide =
+      sum_in-append rs (r ∷ []) v (All-one (IsOfWidth width) r wide)
+      ∙ ap (xor_bytes (sum_in width rs v)) (sum_in-one r v wide)
+
+  -- a sum without ranges adds nothing
+  nothing-more : (f : List ℕ → List ℕ) (v : List ℕ) → length (f v) ≡ width →
+      f v ≡ xor_bytes (f v) (sum_in width [] v)
+  nothing-more f v long =
+      sym (ap (xor_bytes (f v)) (sum_in-none v ∙ ap (λ n. replicate n 0) (sym long))
+      ∙ xor_bytes-zeros (f v))
+
+  module _ (size : ℕ) (vs : List (List ℕ)) where
+    -- each part, made or not, of the ranges in chunks
+    InChunks : List Ranged → List Part → Type 0
+    InChunks rs [] = rs ≡ []
+    InChunks rs (part ∷ parts) =
+        IfOk part (λ sums. sums.items ≡ map (sum_in width (take size rs)) vs)
+        × InChunks (drop size rs) parts
+
+    parts-behind : (rs : List Ranged) (part : Part) (parts : List Part) →
+        HasParts width size rs vs (part ∷ parts) → HasParts width size (drop size rs) vs parts
+    parts-behind rs part parts h =
+        record {
+          reach = let all = h.reach in
+              let more : suc (length parts) * size ≡ size + length parts * size = omega arith in
+              omega (arith, length-drop size rs);
+          each = λ n d less.
+              let next : size + n * size ≡ suc n * size = omega arith in
+              subst (λ (qs : List Ranged). IfOk (slice_index_or parts n d)
+              (λ sums. sums.items ≡ map (sum_in width (take size qs)) vs))
+              (ap (λ m. drop m rs) (sym next) ∙ sym (drop-drop (n * size) size rs))
+              (h.each (suc n) d (omega (arith, less)));
+        }
+
+    in-chunks : (rs : List Ranged) (parts : List Part) → HasParts width size rs vs parts →
+        InChunks rs parts
+    unfolding InChunks
+    in-chunks rs [] h = none-left rs (let all = h.reach in omega arith)
+    in-chunks rs (part ∷ parts) h =
+        let none : 0 * size ≡ 0 = omega arith in
+        let first : drop (0 * size) rs ≡ rs = ap (λ m. drop m rs) none in (
+          subst (λ (qs : List Ranged). IfOk part
+              (λ sums. sums.items ≡ map (sum_in width (take size qs)) vs)) first
+              (h.each 0 part (omega arith)),
+          in-chunks (drop size rs) parts (parts-behind rs part parts h),
+        )
+
+    -- ---- all are as long
+
+    abbrev lengths : List ℕ
+    lengths = map (λ v. width) vs
+
+    sum-lengths : (rs : List Ranged) → All (IsOfWidth width) rs → (us : List (List ℕ)) →
+        map length (map (sum_in width rs) us) ≡ map (λ v. width) us
+    sum-lengths rs each [] = refl
+    sum-lengths rs each (u ∷ us) =
+        ap₂ (λ n ns. n ∷ ns) (length-sum_in rs u each) (sum-lengths rs each us)
+
+    alike-from : (rs : List Ranged) (parts : List Part) → All (IsOfWidth width) rs →
+        InChunks rs parts → (k : ℕ) (d : Part) → k < length parts →
+        HasLengths lengths (slice_index_or parts k d)
+    unfolding InChunks
+    alike-from rs [] each h k d less = absurd (omega arith)
+    alike-from rs (Ok part ∷ parts) each h zero d less =
+        ap (map length) h.0
+        ∙ sum-lengths (take size rs) (All-take (IsOfWidth width) size rs each) vs
+    alike-from rs (Err refusal ∷ parts) each h zero d less = tt
+    alike-from rs (part ∷ parts) each h (suc k) d less =
+        alike-from (drop size rs) parts (All-drop (IsOfWidth width) size rs each) h.1 k d
+        (omega arith)
+
+    alike-chunks : (rs : List Ranged) (parts : List Part) → 0 < length rs →
+        All (IsOfWidth width) rs → InChunks rs parts → AreAlike parts
+    unfolding InChunks
+    alike-chunks rs [] some each h = absurd (omega (arith, some, ap length h))
+    alike-chunks rs (Err refusal ∷ parts) some each h = tt
+    alike-chunks rs (Ok part ∷ parts) some each h =
+        let first : map length part.items ≡ lengths =
+        ap (map length) h.0
+        ∙ sum-lengths (take size rs) (All-take (IsOfWidth width) size rs each) vs
+        in
+        subst (λ ns. All (HasLengths ns) parts) (sym first)
+        (alike-from (drop size rs) parts (All-drop (IsOfWidth width) size rs each) h.1)
+
+    -- the parts of ranges of one width have sums as long
+    pub parts-alike : (rs : List Ranged) (parts : List Part) → 0 < length rs →
+        All (IsOfWidth width) rs → HasParts width size rs vs parts → AreAlike parts
+    parts-alike rs parts some each h = alike-chunks rs parts some each (in-chunks rs parts h)
+
+  -- ---- added up
 
   rows-added : (f g : List ℕ → List ℕ) (vs : List (List ℕ)) →
       xor_rows (map f vs) (map g vs) ≡ map (λ v. xor_bytes (f v) (g v)) vs
   rows-added f g [] = refl
   rows-added f g (v ∷ vs) = ap (λ xs. xor_bytes (f v) (g v) ∷ xs) (rows-added f g vs)
 
-  none-more : (f : List ℕ → List ℕ) (vs : List (List ℕ)) → ((v : List ℕ) → length (f v) ≡ width) →
-      map f vs ≡ map (total-from [] f) vs
-  unfolding total-from
-  none-more f [] long = refl
-  none-more f (v ∷ vs) long =
-      ap₂ (λ x xs. x ∷ xs)
-      (sym (ap (λ n. xor_bytes (f v) (replicate n 0)) (sym (long v)) ∙ xor_bytes-zeros (f v)))
-      (none-more f vs long)
+  map-same : (f g : List ℕ → List ℕ) → ((v : List ℕ) → f v ≡ g v) → (vs : List (List ℕ)) →
+      map f vs ≡ map g vs
+  map-same f g same [] = refl
+  map-same f g same (v ∷ vs) = ap₂ (λ x xs. x ∷ xs) (same v) (map-same f g same vs)
 
-  one-more : (r : Ranged) (rs : List Ranged) (f : List ℕ → List ℕ) (vs : List (List ℕ)) →
-      map (total-from rs (λ v. xor_bytes (f v) (part_of r v))) vs ≡ map (total-from (r ∷ rs) f) vs
-  unfolding total-from
-  one-more r rs f [] = refl
-  one-more r rs f (v ∷ vs) =
-      ap₂ (λ x xs. x ∷ xs)
-      (xor_bytes_assoc (f v) (part_of r v) (xor_all width (map (λ r. part_of r v) rs)))
-      (one-more r rs f vs)
+  -- the sums of the first ranges and those of the others
+  sum_in-split : (size : ℕ) (rs : List Ranged) (v : List ℕ) → All (IsOfWidth width) rs →
+      xor_bytes (sum_in width (take size rs) v) (sum_in width (drop size rs) v) ≡ sum_in width rs v
+  sum_in-split size rs v each =
+      sym (sum_in-append (take size rs) (drop size rs) v (All-drop (IsOfWidth width) size rs each))
+      ∙ ap (λ qs. sum_in width qs v) (take-append-drop size rs)
 
-  total-added : (vs : List (List ℕ)) (rs : List Ranged) (parts : List Part) (f : List ℕ → List ℕ)
-      (start all : List (List ℕ)) →
-      All (IsOfWidth width) rs → ((v : List ℕ) → length (f v) ≡ width) → start ≡ map f vs → AreParts vs rs parts →
-      AddUp start parts all → all ≡ map (total-from rs f) vs
-  unfolding AreParts
-  total-added vs [] [] f start all each long begun h e = e ∙ begun ∙ none-more f vs long
-  total-added vs [] (part ∷ parts) f start all each long begun h e = absurd h
-  total-added vs (r ∷ rs) [] f start all each long begun h e = absurd h
-  total-added vs (r ∷ rs) (Err refusal ∷ parts) f start all each long begun h e = absurd e
-  total-added vs (r ∷ rs) (Ok part ∷ parts) f start all each long begun h e =
-      let wide = All-head (IsOfWidth width) r rs each in
-      let next : xor_rows start part.items ≡ map (λ v. xor_bytes (f v) (part_of r v)) vs =
-      ap₂ xor_rows begun h.0 ∙ rows-added f (part_of r) vs in
-      total-added vs rs parts (λ v. xor_bytes (f v) (part_of r v)) (xor_rows start part.items) all
-      (All-tail (IsOfWidth width) r rs each)
-      (λ v. length-xor_bytes (f v) (part_of r v) (long v ∙ sym (length-part r v wide)) ∙ long v) next h.1 e
-      ∙ one-more r rs f vs
+  total-added : (size : ℕ) (vs : List (List ℕ)) (rs : List Ranged) (parts : List Part)
+      (f : List ℕ → List ℕ) (start all : List (List ℕ)) → All (IsOfWidth width) rs →
+      ((v : List ℕ) → length (f v) ≡ width) → start ≡ map f vs → InChunks size vs rs parts →
+      AddUp start parts all → all ≡ map (λ v. xor_bytes (f v) (sum_in width rs v)) vs
+  unfolding InChunks
+  total-added size vs rs [] f start all each long begun h e =
+      e ∙ begun
+      ∙ map-same f (λ v. xor_bytes (f v) (sum_in width rs v))
+      (λ v. nothing-more f v (long v) ∙ ap (λ qs. xor_bytes (f v) (sum_in width qs v)) (sym h)) vs
+  total-added size vs rs (Err refusal ∷ parts) f start all each long begun h e = absurd e
+  total-added size vs rs (Ok part ∷ parts) f start all each long begun h e =
+      let taken = sum_in width (take size rs) in
+      let rest = drop size rs in
+      let wide = All-take (IsOfWidth width) size rs each in
+      let next : xor_rows start part.items ≡ map (λ v. xor_bytes (f v) (taken v)) vs =
+      ap₂ xor_rows begun h.0 ∙ rows-added f taken vs in
+      total-added size vs rest parts (λ v. xor_bytes (f v) (taken v))
+      (xor_rows start part.items) all (All-drop (IsOfWidth width) size rs each)
+      (λ v. length-xor_bytes (f v) (taken v) (long v ∙ sym (length-sum_in (take size rs) v wide))
+      ∙ long v) next h.1 e
+      ∙ map-same (λ v. xor_bytes (xor_bytes (f v) (taken v)) (sum_in width rest v))
+      (λ v. xor_bytes (f v) (sum_in width rs v))
+      (λ v. xor_bytes_assoc (f v) (taken v) (sum_in width rest v)
+      ∙ ap (xor_bytes (f v)) (sum_in-split size rs v each)) vs
 
   pub AllSized-blocks : (rs : List Ranged) → All (IsOfWidth width) rs → AllSized width (blocks_of rs)
   AllSized-blocks [] each = tt
@@ -171,33 +247,33 @@ module _ (width : ℕ) where
       (AllSized-chosen_from width (n + length r.blocks) (blocks_of rs) v (AllSized-blocks rs others)))
       ∙ ap (xor_all width) (sym (chosen_from-append n r.blocks (blocks_of rs) v))
 
-  total-sums : (r : Ranged) (rs : List Ranged) (vs : List (List ℕ)) → AreInRow 0 (r ∷ rs) →
-      All (IsOfWidth width) (r ∷ rs) →
-      map (total-from rs (part_of r)) vs ≡ map (chosen_sum width (blocks_of (r ∷ rs))) vs
-  unfolding total-from chosen_sum
-  total-sums r rs [] row each = refl
-  total-sums r rs (v ∷ vs) row each =
-      ap₂ (λ x xs. x ∷ xs) (parts-sum 0 (r ∷ rs) v row each) (total-sums r rs vs row each)
+  -- the sum over ranges that make all blocks
+  sum_in-all : (rs : List Ranged) (v : List ℕ) → AreInRow 0 rs → All (IsOfWidth width) rs →
+      sum_in width rs v ≡ chosen_sum width (blocks_of rs) v
+  unfolding sum_in chosen_sum
+  sum_in-all rs v row each = parts-sum 0 rs v row each
 
   -- of all parts the sums are those over the whole list
-  pub total-is : (vs : List (List ℕ)) (rs : List Ranged) (parts : List Part) (all : List (List ℕ)) → 0 < length rs →
-      AreInRow 0 rs → All (IsOfWidth width) rs → HasParts rs vs parts → IsTotal parts all →
-      all ≡ map (chosen_sum width (blocks_of rs)) vs
-  unfolding AreParts
-  total-is vs [] parts all some row each h e = absurd (omega arith)
-  total-is vs (r ∷ rs) [] all some row each h e = absurd e
-  total-is vs (r ∷ rs) (Err refusal ∷ parts) all some row each h e = absurd e
-  total-is vs (r ∷ rs) (Ok part ∷ parts) all some row each h e =
-      let are = are-parts vs (r ∷ rs) (Ok part ∷ parts) h in
-      let wide = All-head (IsOfWidth width) r rs each in
-      total-added vs rs parts (part_of r) part.items all (All-tail (IsOfWidth width) r rs each)
-      (λ v. length-part r v wide) are.0 are.1 e
-      ∙ total-sums r rs vs row each
+  total-is : (size : ℕ) (vs : List (List ℕ)) (rs : List Ranged) (parts : List Part)
+      (all : List (List ℕ)) → AreInRow 0 rs → All (IsOfWidth width) rs → InChunks size vs rs parts →
+      IsTotal parts all → all ≡ map (chosen_sum width (blocks_of rs)) vs
+  unfolding InChunks
+  total-is size vs rs [] all row each h e = absurd e
+  total-is size vs rs (Err refusal ∷ parts) all row each h e = absurd e
+  total-is size vs rs (Ok part ∷ parts) all row each h e =
+      let wide = All-take (IsOfWidth width) size rs each in
+      total-added size vs (drop size rs) parts (sum_in width (take size rs)) part.items all
+      (All-drop (IsOfWidth width) size rs each) (λ v. length-sum_in (take size rs) v wide) h.0 h.1 e
+      ∙ map-same
+      (λ v. xor_bytes (sum_in width (take size rs) v) (sum_in width (drop size rs) v))
+      (chosen_sum width (blocks_of rs))
+      (λ v. sum_in-split size rs v each ∙ sum_in-all rs v row each) vs
 
   -- so are those that were made, if there was memory
-  pub totals-are : (vs : List (List ℕ)) (rs : List Ranged) (parts : List Part) (sums : Part) → 0 < length rs →
-      AreInRow 0 rs → All (IsOfWidth width) rs → HasParts rs vs parts →
+  pub totals-are : (size : ℕ) (vs : List (List ℕ)) (rs : List Ranged) (parts : List Part)
+      (sums : Part) → AreInRow 0 rs → All (IsOfWidth width) rs → HasParts width size rs vs parts →
       IfOk sums (λ all. IsTotal parts all.items) →
       IfOk sums (λ all. all.items ≡ map (chosen_sum width (blocks_of rs)) vs)
-  totals-are vs rs parts (Ok all) some row each h e = total-is vs rs parts all.items some row each h e
-  totals-are vs rs parts (Err refusal) some row each h e = tt
+  totals-are size vs rs parts (Ok all) row each h e =
+      total-is size vs rs parts all.items row each (in-chunks size vs rs parts h) e
+  totals-are size vs rs parts (Err refusal) row each h e = tt

@@ -1,27 +1,35 @@
--- Sums that are made range by range.
-use Rattle.std.specs.Prelude.{◌≡◌, ℕ, ◌<◌, List, [], ◌∷◌, length, map, slice_index_or, Vec, Result, Ok, Err, IfOk}
+-- Sums that are made some ranges at a time.
+use Rattle.std.specs.Prelude.{◌≡◌, ℕ, ◌*◌, ◌<◌, ◌≤◌, List, [], ◌∷◌, length, map, slice_index_or, Vec, Result, Ok, Err, IfOk}
+use Rattle.std.specs.Fork.{slice_chunk}
 use Rattle.std.specs.Global.{Global}
 use Rattle.std.specs.List.{All}
 use Rattle.tk_shape.specs.declared.memory.Memory.{Memory}
-use Rattle.tk_kernel.specs.Xor.{xor_bytes}
+use Rattle.tk_kernel.specs.Xor.{xor_bytes, xor_all}
 use Rattle.tk_kernel.specs.Pieces.{AllSized}
 use Rattle.tk_shards.specs.Ranged.{Ranged, part_of, Reaches}
 
--- the sums over one range, a sum for each vector, if there was memory
+-- the sums over some ranges, a sum for each vector, if there was memory
 abbrev pub Part : Type 0
 Part = Result (Vec (List ℕ) Global) Memory
 
--- a range of blocks of one size, for each of which the vectors have a bit
-pub record IsAsked (vectors : List (List ℕ)) (r : Ranged) : Type 0 where
-  pub sized : AllSized r.width r.blocks
+-- a range of blocks of this size, for each of which the vectors have a bit
+pub record IsAsked (width : ℕ) (vectors : List (List ℕ)) (r : Ranged) : Type 0 where
+  pub wide : r.width ≡ width
+  pub sized : AllSized width r.blocks
   pub reach : All (Reaches r) vectors
 
--- each part that was made has the sums over its range, and there is one for each range
-pub record HasParts (rs : List Ranged) (vectors : List (List ℕ)) (parts : List Part) : Type 0 where
-  pub count : length parts ≡ length rs
-  pub each : (n : ℕ) (d : Part) (e : Ranged) → n < length parts →
+-- the sum of the blocks of some ranges that a vector over all blocks chooses
+unfoldable pub sum_in : ℕ → List Ranged → List ℕ → List ℕ
+sum_in width rs vector = xor_all width (map (λ r. part_of r vector) rs)
+
+-- each part that was made has the sums over its ranges, of which there are so many in a row, and
+-- together they reach over all
+pub record HasParts (width size : ℕ) (rs : List Ranged) (vectors : List (List ℕ)) (parts : List Part)
+    : Type 0 where
+  pub reach : length rs ≤ length parts * size
+  pub each : (n : ℕ) (d : Part) → n < length parts →
       IfOk (slice_index_or parts n d)
-      (λ sums. sums.items ≡ map (part_of (slice_index_or rs n e)) vectors)
+      (λ sums. sums.items ≡ map (sum_in width (slice_chunk rs size n)) vectors)
 
 -- the sums of one list added to those of another
 abbrev pub xor_rows : List (List ℕ) → List (List ℕ) → List (List ℕ)

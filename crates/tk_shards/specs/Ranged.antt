@@ -1,7 +1,7 @@
 -- The blocks of a range.
-use Rattle.std.specs.Prelude.{ℕ, ◌+◌, ◌-◌, ◌*◌, ◌^◌, ◌/◌, ◌%◌, ◌≤◌, List, ◌++◌, length, take, drop, replicate}
+use Rattle.std.specs.Prelude.{ℕ, ◌+◌, ◌-◌, ◌*◌, ◌^◌, ◌%◌, ◌≤◌, List, ◌++◌, length, take, drop, replicate}
 use Rattle.tk_kernel.specs.Xor.{xor_all}
-use Rattle.tk_kernel.specs.Chosen.{chosen_from, chosen_sum}
+use Rattle.tk_kernel.specs.Chosen.{chosen_from}
 
 -- the bytes of each block, the number of the first, and the blocks
 pub record Ranged : Type 0 where
@@ -43,11 +43,3 @@ part_of r vector = xor_all r.width (chosen_from r.first r.blocks vector)
 -- a vector over all blocks has a bit for each up to the end of the range
 abbrev pub Reaches : Ranged → List ℕ → Type 0
 Reaches r vector = r.first + length r.blocks ≤ 8 * length vector
-
--- so many of a vector's bytes from a number on
-abbrev pub bytes_at : ℕ → ℕ → List ℕ → List ℕ
-bytes_at from count vector = take count (drop from vector)
-
--- the sum of whole eights of blocks that a vector's bytes from a number on choose
-abbrev pub sum_under : ℕ → List (List ℕ) → ℕ → List ℕ → List ℕ
-sum_under width blocks from vector = chosen_sum width blocks (bytes_at from (length blocks / 8) vector)

@@ -1,108 +1,96 @@
-//! The sums over all ranges, each range's by a worker.
-ghost use Rattle.std.specs.Prelude.{◌≡◌, ◌*◌, ◌<◌, ◌≤◌, length, map, IfOk};
+//! The sums over all ranges, of which each worker takes some.
+ghost use Rattle.std.specs.Prelude.{◌≡◌, ◌<◌, ◌≤◌, length, map, replicate, vec_len, IfOk};
 ghost use Rattle.std.specs.List.{All};
-ghost use Rattle.tk_kernel.specs.Pieces.{AllSized};
-ghost use Rattle.tk_shards.specs.Ranged.{part_of, most_blocks};
-ghost use Rattle.tk_shards.specs.Parts.{IsAsked, HasParts, xor_rows, AreAlike, IsTotal};
-ghost use Rattle.tk_shards.specs.Spans.{IsWithin, span_in};
+ghost use Rattle.tk_shards.specs.Parts.{IsAsked, HasParts, sum_in, xor_rows, AreAlike, IsTotal};
 
-use crate::lent::{Lender, Lent};
 use crate::shard::Shard;
-use crate::span::Span;
-use crate::sums::sums_under;
 use std::alloc::Global;
 use std::thread;
 use std::thread::Threads;
-use tk_answer::Blocks;
 use tk_kernel::xor_into;
 use tk_shape::{Bytes, Memory};
 
-/// The sums over one range, if there was memory for them.
+/// The sums over some ranges, if there was memory for them.
 pub(crate) type Part = Result<Vec<Bytes>, Memory>;
 
-/// The sums over each range, each in a thread of its own where one can be made.
+/// The sums over the ranges, of which each worker takes so many in a row, in a thread of its own where
+/// one can be made.
 pub(crate) fn parts_of<R: Threads + Sync>(
     rt: &R,
     alloc: Global,
+    width: usize,
     shards: &[Shard],
-    vectors: &[Bytes],
+    rows: &[Vec<u8>],
+    size: usize,
 ) -> Result<Vec<Part>, Memory>
-    requires { All (IsAsked vectors.now) shards.now }
-    ensures { IfOk result (λ parts. HasParts shards.now vectors.now parts.items) }
+    requires asked { All (IsAsked width (map (λ row. row.items) rows.now)) shards.now }
+    requires size { 0 < size }
+    ensures { IfOk result (λ parts.
+        HasParts width size shards.now (map (λ row. row.items) rows.now) parts.items) }
 {
-    let parts = thread::map_indices(
+    let parts = thread::map_chunks(
         rt,
         alloc,
-        shards.len(),
-        &|k: usize|
-            requires { (k < length shards.now) × All (IsAsked vectors.now) shards.now }
-        { sums_over(alloc, &shards[k], vectors) },
+        shards,
+        size,
+        &|_, taken|
+            requires { All (IsAsked width (map (λ row. row.items) rows.now)) taken.now }
+        { sums_over(alloc, width, taken, rows) },
     )?;
     Ok(parts)
 }
 
-/// For each vector over all blocks the sum of those of the range that it chooses.
-fn sums_over(alloc: Global, shard: &Shard, vectors: &[Bytes]) -> Result<Vec<Bytes>, Memory>
-    requires { IsAsked vectors.now shard.now }
-    ensures { IfOk result (λ sums. sums.items ≡ map (part_of shard.now) vectors.now) }
-{
-    sums_under(alloc, shard, (shard.first() / 8) as usize, vectors)
-}
-
-/// The sums over each of these spans of the lender's blocks, each in a thread of its own where one
-/// can be made.
-pub(crate) fn lent_parts<'a, B: Blocks, R: Threads + Sync>(
-    rt: &R,
+/// For each vector over all blocks the sum of those of these ranges that it chooses. Each range is
+/// gone over once for all vectors.
+fn sums_over(
     alloc: Global,
-    lender: &Lender<'a, B>,
-    spans: &[Span],
-    vectors: &[Bytes],
-) -> Result<Vec<Part>, Memory>
-    requires sized { AllSized (B.width lender.now.blocks.now) (B.blocks lender.now.blocks.now) }
-    requires spans { All (IsWithin (length (B.blocks lender.now.blocks.now))) spans.now }
-    requires vectors { All (λ v. 8 * length v ≡ length (B.blocks lender.now.blocks.now)) vectors.now }
-    requires small { length (B.blocks lender.now.blocks.now) ≤ most_blocks }
-    ensures { IfOk result (λ parts. HasParts
-        (map (span_in (B.width lender.now.blocks.now) (B.blocks lender.now.blocks.now)) spans.now)
-        vectors.now parts.items) }
-{
-    let parts = thread::map_indices(
-        rt,
-        alloc,
-        spans.len(),
-        &|k: usize|
-            requires place { k < length spans.now }
-            requires sized { AllSized (B.width lender.now.blocks.now) (B.blocks lender.now.blocks.now) }
-            requires spans { All (IsWithin (length (B.blocks lender.now.blocks.now))) spans.now }
-            requires vectors { All (λ v. 8 * length v ≡ length (B.blocks lender.now.blocks.now))
-                vectors.now }
-            requires small { length (B.blocks lender.now.blocks.now) ≤ most_blocks }
-        { lent_sums(alloc, lender, spans[k], vectors) },
-    )?;
-    Ok(parts)
-}
-
-/// For each vector over all blocks the sum of those of the span that it chooses.
-fn lent_sums<'a, B: Blocks>(
-    alloc: Global,
-    lender: &Lender<'a, B>,
-    span: Span,
-    vectors: &[Bytes],
+    width: usize,
+    shards: &[Shard],
+    rows: &[Vec<u8>],
 ) -> Result<Vec<Bytes>, Memory>
-    requires sized { AllSized (B.width lender.now.blocks.now) (B.blocks lender.now.blocks.now) }
-    requires span { IsWithin (length (B.blocks lender.now.blocks.now)) span }
-    requires vectors { All (λ v. 8 * length v ≡ length (B.blocks lender.now.blocks.now)) vectors.now }
-    requires small { length (B.blocks lender.now.blocks.now) ≤ most_blocks }
+    requires { All (IsAsked width (map (λ row. row.items) rows.now)) shards.now }
     ensures { IfOk result (λ sums. sums.items
-        ≡ map (part_of (span_in (B.width lender.now.blocks.now) (B.blocks lender.now.blocks.now)
-        span)) vectors.now) }
+        ≡ map (sum_in width shards.now) (map (λ row. row.items) rows.now)) }
 {
-    let lent = Lent {
-        blocks: lender.blocks,
-        zeros: lender.zeros.as_slice(),
-        span,
-    };
-    sums_under(alloc, &lent, (span.from / 8) as usize, vectors)
+    let mut sums = zeros(alloc, rows.len(), width)?;
+    for shard in shards {
+        shard.add(sums.as_mut_slice(), rows);
+    }
+    bytes_of(alloc, sums)
+}
+
+/// So many sums of no blocks.
+fn zeros(alloc: Global, count: usize, width: usize) -> Result<Vec<Vec<u8>>, Memory>
+    ensures count { IfOk result (λ sums. length sums.items ≡ count) }
+    ensures each { IfOk result (λ sums. All (λ sum. sum.items ≡ replicate width 0) sums.items) }
+{
+    let mut sums = Vec::with_capacity(alloc, count)?;
+    for _ in 0..count {
+        sums.push(vec![in alloc; 0u8; width]?)?;
+    }
+    Ok(sums)
+}
+
+/// The same bytes, none of which is copied.
+fn bytes_of(alloc: Global, rows: Vec<Vec<u8>>) -> Result<Vec<Bytes>, Memory>
+    ensures { IfOk result (λ out. out.items ≡ map (λ row. row.items) rows.items) }
+{
+    let mut out = Vec::new(alloc);
+    for row in rows {
+        out.push(Bytes::from_vec(row))?;
+    }
+    Ok(out)
+}
+
+/// A copy of the bytes of vectors.
+pub(crate) fn rows_of(alloc: Global, vectors: &[Bytes]) -> Result<Vec<Vec<u8>>, Memory>
+    ensures { IfOk result (λ rows. map (λ row. row.items) rows.items ≡ vectors.now) }
+{
+    let mut rows = Vec::with_capacity(alloc, vectors.len())?;
+    for vector in vectors {
+        rows.push(Vec::from_slice(alloc, vector.as_slice())?)?;
+    }
+    Ok(rows)
 }
 
 /// The sums of all parts, added, if there was memory for every part.

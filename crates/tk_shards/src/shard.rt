@@ -1,12 +1,16 @@
-ghost use Rattle.std.specs.Prelude.{◌≡◌, ◌+◌, ◌*◌, ◌^◌, ◌<◌, ◌≤◌, length, set, IfOk};
+ghost use Rattle.std.specs.Prelude.{◌≡◌, ℕ, ◌+◌, ◌*◌, ◌^◌, ◌<◌, ◌≤◌, length, set, slice_index_or, vec_len, Vec, IfOk};
+ghost use Rattle.std.specs.Global.{Global as GlobalOf};
+ghost use Rattle.std.specs.List.{All};
 ghost use Rattle.tk_answer.specs.Runs.{IsRun};
 ghost use Rattle.tk_kernel.specs.Pieces.{AllSized};
-ghost use Rattle.tk_shards.specs.Ranged.{range_in, padded, most_blocks};
+ghost use Rattle.tk_kernel.specs.Xor.{xor_bytes};
+ghost use Rattle.tk_shards.specs.Ranged.{range_in, part_of, padded, most_blocks};
 
 use crate::copying::{add_blocks, write_block};
 use std::alloc::Global;
 use std::marker::Model;
 use tk_answer::Blocks;
+use tk_kernel::xor_choose_each;
 use tk_shape::Memory;
 
 /// The blocks of a range, one behind the other; before and behind them blocks of zeros, so that
@@ -65,6 +69,22 @@ impl Shard {
         ensures { result ≡ self.now.first }
     {
         self.first
+    }
+
+    /// Adds to each sum what its vector over all blocks chooses of the range.
+    pub(crate) fn add(&self, sums: &mut [Vec<u8>], rows: &[Vec<u8>])
+        requires same { length sums.old ≡ length rows.now }
+        requires sized { All (λ v. vec_len v ≡ self.now.width) sums.old }
+        requires reach { All (λ v. self.now.first + length self.now.blocks ≤ 8 * vec_len v) rows.now }
+        ensures count { length sums.new ≡ length sums.old }
+        ensures each { (k : ℕ) (d e : Vec ℕ GlobalOf) → k < length sums.old
+            → (slice_index_or sums.new k d).items
+            ≡ xor_bytes (slice_index_or sums.old k d).items
+            (part_of self.now (slice_index_or rows.now k e).items) }
+    {
+        let width = self.width as usize;
+        let first = (self.first / 8) as usize;
+        xor_choose_each(sums, width, self.bytes.as_slice(), rows, first);
     }
 
     /// How many eights of blocks, also in part, the range has.

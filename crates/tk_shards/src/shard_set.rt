@@ -1,4 +1,4 @@
-ghost use Rattle.std.specs.Prelude.{◌≡◌, ◌*◌, ◌<◌, [], length, map, set, slice_index_or, IfOk, OnOk, OnErr, IsOk};
+ghost use Rattle.std.specs.Prelude.{◌≡◌, ◌*◌, ◌<◌, ◌≤◌, true, [], length, map, set, slice_index_or, IfOk, OnOk, OnErr, IsOk};
 ghost use Rattle.std.specs.List.{All};
 ghost use Rattle.tk_kernel.specs.Chosen.{chosen_sum};
 ghost use Rattle.tk_shards.specs.Division.{ranges_of};
@@ -6,7 +6,7 @@ ghost use Rattle.tk_shards.specs.Shards.{AreSameBut};
 
 use crate::division::Division;
 use crate::opening::shards_of;
-use crate::parts::{parts_of, total_of};
+use crate::parts::{parts_of, rows_of, total_of};
 use crate::place::place_of;
 use crate::shard::Shard;
 use std::alloc::Global;
@@ -94,12 +94,66 @@ impl ShardSet {
             ≡ map (chosen_sum self.now.width self.now.blocks) vectors.now) }
         ensures none { vectors.now ≡ [] → IsOk result }
     {
+        self.answer_by(rt, vectors, self.shards.len())
+    }
+
+    /// The same by at most so many workers side by side, who share the ranges.
+    pub fn answer_by<R: Threads + Sync>(
+        &self,
+        rt: &R,
+        vectors: &[Bytes],
+        workers: usize,
+    ) -> Result<Vec<Bytes>, Memory>
+        requires vectors { All (λ v. 8 * length v ≡ length self.now.blocks) vectors.now }
+        requires workers { 1 ≤ workers }
+        ensures sums { IfOk result (λ sums. sums.items
+            ≡ map (chosen_sum self.now.width self.now.blocks) vectors.now) }
+        ensures none { vectors.now ≡ [] → IsOk result }
+    {
         let alloc = *self.shards.allocator();
         if vectors.is_empty() {
             return Ok(Vec::new(alloc));
         }
-        let parts = parts_of(rt, alloc, self.shards.as_slice(), vectors)?;
+        let rows = rows_of(alloc, vectors)?;
+        let size = self.shards.len().div_ceil(workers);
+        let width = self.width as usize;
+        let parts = parts_of(
+            rt,
+            alloc,
+            width,
+            self.shards.as_slice(),
+            rows.as_slice(),
+            size,
+        )?;
         total_of(alloc, parts)
+    }
+
+    /// The numbers of those of its blocks that aren't these.
+    pub fn changes<B: Blocks>(&self, blocks: &B) -> Result<Vec<u32>, Memory>
+        requires width { B.width blocks.now ≡ self.now.width }
+        requires count { length (B.blocks blocks.now) ≡ length self.now.blocks }
+        ensures { IfOk result (λ changed.
+            AreSameBut changed.items (B.blocks blocks.now) self.now.blocks) }
+    {
+        let mut changed = Vec::new(*self.shards.allocator());
+        for i in 0..self.count() {
+            if !self.has(blocks, i) {
+                changed.push(i)?;
+            }
+        }
+        Ok(changed)
+    }
+
+    /// Whether block number `i` of these is its own.
+    fn has<B: Blocks>(&self, blocks: &B, i: u32) -> bool
+        requires within { i < length self.now.blocks }
+        requires count { length (B.blocks blocks.now) ≡ length self.now.blocks }
+        ensures { result ≡ true → slice_index_or (B.blocks blocks.now) i []
+            ≡ slice_index_or self.now.blocks i [] }
+    {
+        let width = blocks.width() as usize;
+        let own = self.width() as usize;
+        blocks.run(i)[..width] == self.run(i)[..own]
     }
 
     /// Takes over these blocks, of which only those of the listed numbers have changed. A listed

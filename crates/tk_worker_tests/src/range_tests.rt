@@ -8,7 +8,7 @@ use std::test::Fail;
 use std::thread::Threads;
 use tk_answer::answer;
 use tk_shape::{Bytes, Memory};
-use tk_shards::{Division, DivisionError, ShardSet, answer_in_ranges, ranges_make_the_sum};
+use tk_shards::{Division, DivisionError, ShardSet, ranges_make_the_sum};
 
 /// So many vectors of three bytes.
 fn vectors(alloc: Global, count: u8) -> Result<Vec<Bytes>, Memory>
@@ -26,7 +26,21 @@ fn vectors(alloc: Global, count: u8) -> Result<Vec<Bytes>, Memory>
     Ok(vectors)
 }
 
-/// Whether a set gives the sums over these blocks for each vector.
+/// Whether these are the sums over the blocks for each vector.
+fn are_sums(blocks: &Many, vectors: &[Bytes], sums: &[Bytes]) -> bool
+    requires { All (λ v. length v ≡ 3) vectors.now }
+{
+    for (vector, sum) in vectors.iter().zip(sums.iter()) {
+        let mut want = [0xff; 5];
+        answer(blocks, vector.as_slice(), &mut want);
+        if sum.as_slice() != want.as_slice() {
+            return false;
+        }
+    }
+    sums.len() == vectors.len()
+}
+
+/// Whether a set gives the sums over these blocks for each vector, by different numbers of workers.
 fn agrees<R: Threads + Sync>(
     rt: &R,
     blocks: &Many,
@@ -36,42 +50,14 @@ fn agrees<R: Threads + Sync>(
     requires bits { All (λ v. length v ≡ 3) vectors.now }
     requires blocks { length set.now.blocks ≡ 24 }
 {
-    let sums = set.answer_all(rt, vectors)?;
-    for (vector, sum) in vectors.iter().zip(sums.iter()) {
-        let mut want = [0xff; 5];
-        answer(blocks, vector.as_slice(), &mut want);
-        if sum.as_slice() != want.as_slice() {
-            return Ok(false);
-        }
-    }
-    Ok(sums.len() == vectors.len())
-}
-
-/// Whether the ranges of these blocks, which stay where they are, give the sums for each vector, by
-/// different numbers of workers.
-fn agrees_lent<R: Threads + Sync>(
-    rt: &R,
-    blocks: &Many,
-    division: &Division,
-    vectors: &[Bytes],
-) -> Result<bool, Memory>
-    requires bits { All (λ v. length v ≡ 3) vectors.now }
-    requires blocks { division.now.buckets ≡ 24 }
-{
     for workers in [1, 2, 3, 7, 64] {
-        let sums = answer_in_ranges(rt, blocks, division, vectors, workers)?;
-        for (vector, sum) in vectors.iter().zip(sums.iter()) {
-            let mut want = [0xff; 5];
-            answer(blocks, vector.as_slice(), &mut want);
-            if sum.as_slice() != want.as_slice() {
-                return Ok(false);
-            }
-        }
-        if sums.len() != vectors.len() {
+        let sums = set.answer_by(rt, vectors, workers)?;
+        if !are_sums(blocks, vectors, sums.as_slice()) {
             return Ok(false);
         }
     }
-    Ok(true)
+    let sums = set.answer_all(rt, vectors)?;
+    Ok(are_sums(blocks, vectors, sums.as_slice()))
 }
 
 /// The sum of the blocks of one vector, of which all bytes are alike.
@@ -95,7 +81,11 @@ fn three_ranges_recut_and_updated(rt: HostRuntime) -> Result<(), Fail> {
     assert!(rt; sum_of(&rt, &set, 0xa5)? == [0x0c; 41]);
     set.recut(Division::of(alloc, 8, &[1])?)?;
     assert!(rt; sum_of(&rt, &set, 0xa5)? == [0x0c; 41]);
-    set.update(&with_first(&blocks, 0x11), &[0]);
+    let next = with_first(&blocks, 0x11);
+    let changed = set.changes(&next)?;
+    assert!(rt; changed.len() == 1 && changed[0] == 0);
+    set.update(&next, changed.as_slice());
+    assert!(rt; set.changes(&next)?.is_empty());
     assert!(rt; sum_of(&rt, &set, 0xa5)? == [0x1c; 41]);
     Ok(())
 }
@@ -109,29 +99,6 @@ fn a_block_a_range_and_more_ranges_than_blocks(rt: HostRuntime) -> Result<(), Fa
     assert!(rt; sum_of(&rt, &set, 0xa5)? == [0x0c; 41]);
     set.recut(Division::of(alloc, 8, &[0, 3, 3, 3, 8])?)?;
     assert!(rt; sum_of(&rt, &set, 0xa5)? == [0x0c; 41]);
-    Ok(())
-}
-
-#[test]
-fn ranges_that_are_lent(rt: HostRuntime) -> Result<(), Fail> {
-    let alloc = rt.alloc();
-    let blocks = varied();
-    let many = vectors(alloc, 30)?;
-    let few = vectors(alloc, 3)?;
-    for shards in [1, 2, 3, 5, 7, 24, 64] {
-        let division = Division::even(alloc, 24, shards)?;
-        assert!(rt;
-            agrees_lent(&rt, &blocks, &division, &many)?,
-            "{shards} ranges"
-        );
-        assert!(rt;
-            agrees_lent(&rt, &blocks, &division, &few)?,
-            "{shards} ranges"
-        );
-    }
-    let division = Division::of(alloc, 24, &[0, 0, 3, 3, 4, 5, 13, 24, 24])?;
-    assert!(rt; agrees_lent(&rt, &blocks, &division, &many)?);
-    assert!(rt; answer_in_ranges(&rt, &blocks, &division, &[], 3)?.is_empty());
     Ok(())
 }
 

@@ -3,12 +3,12 @@ use Rattle.std.proofs.Common.{◌≡◌, ◌<◌, ◌≤◌, List, All, length, 
 use Rattle.std.proofs.lemmas.List.Elements.{All-drop}
 use Rattle.std.specs.Prelude.{slice_index_or}
 use Rattle.tk_shape.specs.declared.shape.Shape.{Shape}
-use Rattle.tk_replica.specs.Replies.{reply_bytes}
 use Rattle.tk_cluster.specs.declared.set.EpochSet.{EpochSet}
 use Rattle.tk_cluster.specs.Refusals.{IsAsked}
 use Rattle.tk_cluster.specs.Sets.{Stands}
 use Rattle.tk_run.specs.declared.talking.Reading.{Reading}
 use Rattle.tk_run.specs.Answering.{MayReply, set_of, epoch_of}
+use Rattle.tk_run.specs.Ranging.{bytes_made}
 use Rattle.tk_run.proofs.BatchLaws.{reply-rest, row-asked, rows-next, rows-end}
 use Rattle.tk_run.proofs.replying.replies_from.Goals as goal
 
@@ -94,7 +94,7 @@ rows-preserved g c =
           subst (λ (s : EpochSet). Stands shape E s.number s) (sym same)
           (so_far.stand shape E all 0 d some)
           in
-          rows-next (reply_bytes shape E) c.args.frames.now frames c.rows.replies.items
+          rows-next (bytes_made (g.A.Sums.sum c.args.sums.now) c.args.crew.shards shape E) c.args.frames.now frames c.rows.replies.items
           c.split_at.result.0.now c.split_at.result.1.now c.in_ok-more.more.items
           c.append.new.self.items n c.split_at.ensures.front behind
           (c.in_ok-more.ensures shape E stands) c.in_ok-append.ensures.items
@@ -106,5 +106,5 @@ returns g c shape E stands =
     let so_far = c.rows.invariant in
     let may = so_far.asked c.requires.asked.0 c.requires.asked.1 in
     let none : length c.rows.clients.now ≡ 0 = search rules in
-    rows-end (reply_bytes shape E) c.args.frames.now c.rows.asked.now c.rows.replies.items
+    rows-end (bytes_made (g.A.Sums.sum c.args.sums.now) c.args.crew.shards shape E) c.args.frames.now c.rows.asked.now c.rows.replies.items
     (omega (arith, none, may.counted)) (so_far.replied shape E stands)

@@ -2,8 +2,8 @@
 use Rattle.std.proofs.Common.{◌≡◌, ◌++◌, List, length, map}
 use Rattle.tk_shape.specs.declared.shape.Shape.{Shape}
 use Rattle.tk_frames.specs.declared.entry.Placed.{Placed}
-use Rattle.tk_replica.specs.Replies.{reply_bytes}
 use Rattle.tk_run.specs.Answering.{AllStand, MayReply}
+use Rattle.tk_run.specs.Ranging.{bytes_made}
 use Rattle.tk_run.proofs.replying.replies_from.Given as goal
 
 abbrev pub invariant-rows : goal.invariant-rows
@@ -14,8 +14,8 @@ invariant-rows g l =
       stand : (shape : Shape) (E : List Placed) → AllStand l.readings shape E →
           AllStand l.clients shape E;
       replied : (shape : Shape) (E : List Placed) → AllStand l.readings shape E →
-          l.replies.items ++ map (reply_bytes shape E) l.asked
-          ≡ map (reply_bytes shape E) l.frames;
+          l.replies.items ++ map (bytes_made (g.A.Sums.sum l.sums) l.crew.shards shape E) l.asked
+          ≡ map (bytes_made (g.A.Sums.sum l.sums) l.crew.shards shape E) l.frames;
     }
 
 abbrev pub decreases-rows : goal.decreases-rows

@@ -1,7 +1,8 @@
 -- What it replies to the frames that all clients ask of it.
-use Rattle.std.proofs.Common.{◌≡◌, ◌∙◌, subst, List, map}
+use Rattle.std.proofs.Common.{◌≡◌, ◌∙◌, ap, subst, List, map}
 use Rattle.std.specs.Prelude.{IfOk}
-use Rattle.tk_replica.specs.Replies.{reply_bytes}
+use Rattle.tk_run.specs.Ranging.{bytes_made}
+use Rattle.tk_run.proofs.RangingLaws.{all-right}
 use Rattle.tk_run.specs.Rows.{Frame}
 use Rattle.tk_run.proofs.AnsweredLaws.{asked-inside, replies-due}
 use Rattle.tk_run.proofs.replying.replies_of.Goals as goal
@@ -22,7 +23,10 @@ replies_from-requires-clause-asked g c κs within =
 
 pub returns : goal.returns
 returns g c shape E stands =
-    subst (λ (frames : List Frame). IfOk c.replies_from.result
-    (λ replies. replies.items ≡ map (reply_bytes shape E) frames))
-    (c.as_slice.ensures.value ∙ c.in_ok-frames.ensures)
+    let sum = g.A.Sums.sum c.args.sums.now in
+    let shards = c.args.crew.shards in
+    subst (λ (fs : List Frame). IfOk c.replies_from.result (λ replies. replies.items ≡ fs))
+    (ap (map (bytes_made sum shards shape E)) (c.as_slice.ensures.value ∙ c.in_ok-frames.ensures)
+    ∙ all-right sum shards c.requires.asked.0 shape E c.args.server c.args.readings.now
+    c.requires.asked.2 stands c.requires.asked.3)
     (c.replies_from.ensures shape E stands)

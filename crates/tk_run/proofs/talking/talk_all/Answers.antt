@@ -9,6 +9,7 @@ use Rattle.tk_run.specs.declared.pinned_write.PinnedWrite.{PinnedWrite}
 use Rattle.tk_run.specs.Clients.{AreClients, client_before}
 use Rattle.tk_run.specs.Turns.{placed_before}
 use Rattle.tk_run.specs.Courses.{MayRead, AreBlank, AreTalks}
+use Rattle.tk_run.specs.Ranging.{even_ranges, IsRightOver}
 use Rattle.tk_run.specs.Reading.{MayReadOn, MayTake, readers, talks_of}
 use Rattle.tk_run.proofs.TalkAll.{Begins, one-shape}
 use Rattle.tk_run.proofs.TalkSteps.{Stage, stage-same, stage-moved, begun, asking, replied, ended, all-begun}
@@ -60,6 +61,8 @@ answer_all-requires-clause-asked g c κs within =
       shape,
       c.args.round.now.servers_are ∙ ap (λ (s : Shape). s.servers) (sym c.requires.2),
       all-answerable (serves g at shape c.requires.2) may.legal may.turn_in ask,
+      subst (λ (s : Shape). IsRightOver (even_ranges s.buckets c.args.round.now.crew.shards)
+          (g.A.Sums.sum c.args.round.now.sums.now)) (sym c.requires.2) c.args.round.now.right,
     )
 
 pub answer_all-requires-clause-stand : goal.answer_all-requires-clause-stand

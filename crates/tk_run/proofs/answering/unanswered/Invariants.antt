@@ -1,6 +1,0 @@
--- As many places as there are servers so far.
-use Rattle.std.proofs.Common.{◌≡◌, length}
-use Rattle.tk_run.proofs.answering.unanswered.Given as goal
-
-abbrev pub invariant-servers : goal.invariant-servers
-invariant-servers l = length l.answers.items ≡ l._server

@@ -1,5 +1,0 @@
--- The order that is opened.
-use Rattle.tk_run.proofs.threaded.threads.Given as goal
-
-abbrev pub ghosts-run_over : goal.ghosts-run_over
-ghosts-run_over g a = record { table = a.blank.table; shape = a.blank.shape }
