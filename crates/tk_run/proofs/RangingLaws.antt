@@ -17,7 +17,7 @@ use Rattle.tk_replica.specs.declared.asker.Asker.{Asker}
 use Rattle.tk_replica.specs.Replies.{asker_of, asker_reply, both_vectors, frames_with, reply_bytes, reply_due}
 use Rattle.tk_cluster.specs.Many.{Names, AreNamed, AreReads}
 use Rattle.tk_shards.specs.Shards.{Sharded}
-use Rattle.tk_run.specs.Anew.{Summing, in_ranges}
+use Rattle.tk_run.specs.Ranged.{Summing, in_ranges}
 use Rattle.tk_run.specs.declared.talking.Reading.{Reading}
 use Rattle.tk_run.specs.Answering.{MayAnswer, AllStand, frame_of}
 use Rattle.tk_run.specs.Rows.{Frame}

@@ -13,7 +13,7 @@ use Rattle.tk_table.specs.Replies.{reply_to}
 use Rattle.tk_replica.specs.Replies.{reply_bytes}
 use Rattle.tk_shards.specs.Division.{ranges_of}
 use Rattle.tk_shards.specs.Shards.{Sharded}
-use Rattle.tk_run.specs.Anew.{Summing, in_ranges}
+use Rattle.tk_run.specs.Ranged.{Summing, in_ranges}
 
 -- where each of so many ranges begins and ends that divide the buckets evenly
 abbrev pub even_ranges : ℕ → ℕ → List (ℕ × ℕ)
