@@ -34,6 +34,9 @@ def telling(stage: Stage) -> None:
         ann.type(f"say ann goes later {number}")
     for end in [ann, ben, *stage.servers]:
         awaited(stage, end, "cem", went)
+    for client, member in enumerate([ann, ben]):
+        waiting = member.ticks() - stage.written(client)
+        demand(waiting <= 1, f"{waiting} ticks were given while a member was away")
     wait_in_journal(stage, ann)
     awaited(stage, ann, "cem", went)
     demand(not ann.lines("refused"), "a refusal was told once more")
