@@ -5,7 +5,7 @@ import pathlib
 import sys
 from typing import List
 
-FILE = pathlib.Path(__file__).resolve().parents[3] / "VERSION"
+FILE = pathlib.Path(__file__).resolve().parent / "../../../VERSION"
 
 
 def version_of(name: str) -> str:
