@@ -392,6 +392,14 @@ class Stage:
         program.close()
         told = [line for line in self.members[client].told() if line.split(" ")[0] in CAME]
         demand(told == due, f"client {client} told {told}, and not {due}")
+        self.check_order(client)
+
+    def check_order(self, client: int) -> None:
+        """That a text can be read from a turn on is told when that turn's read goes out: between what came by the reads
+        before and what comes by it."""
+        lines = [line.split(" ") for line in self.members[client].told()]
+        turns = [(int(line[3]), line[0] != "readable") for line in lines if line[0] in ("readable", *CAME)]
+        demand(turns == sorted(turns), f"client {client} told out of order: {self.members[client].told()}")
 
     def pads(self) -> None:
         """No two writes of one client and turn differ, wherever they went."""
