@@ -15,19 +15,20 @@ from parts.clock import until_next
 
 
 def outage(stage: Stage) -> None:
-    """A server is away for many ticks. No more than a tick waits for it, so turns don't run by when it is back."""
-    stage.make(5, 4)
+    """A server is away for many ticks, of which a phase has as many as it takes. No more than a tick waits for it, so turns
+    don't run by when it is back."""
+    stage.make(2, 12)
     stage.start()
     stage.wrote(0, 2)
     server = stage.servers[1]
     server.kill()
-    time.sleep(1)
     ticks = [it.ticks() for it in stage.members]
     stage.say(2)
     came = comings(stage, 20 * TICK_SECONDS)
     demand(len(came) <= 75, f"in {20 * TICK_SECONDS} s members came {len(came)} times to a server that was away")
     for member, before in zip(stage.members, ticks):
-        demand(member.ticks() <= before + 1, f"{member.ticks() - before} ticks were given while a server was away")
+        # (one may be given before the member knows that the server is away, and one waits)
+        demand(member.ticks() <= before + 2, f"{member.ticks() - before} ticks were given while a server was away")
     server.start()
     began, ticks = time.monotonic(), [it.ticks() for it in stage.members]
     stage.wrote(0, stage.written(0) + 4)
