@@ -5,7 +5,7 @@ use Rattle.tk_run.proofs.NumbersLaws.{same-but_all}
 use Rattle.tk_run.proofs.kept.brought.Goals as goal
 
 pub update-requires-clause-same : goal.update-requires-clause-same
-update-requires-clause-same c =
+update-requires-clause-same c κs =
     let set = c.args.kept.set in
     subst (λ (xs : List ℕ). AreSameBut xs c.args.blocks.now.blocks set.blocks)
     (sym c.as_slice.ensures.value)
