@@ -38,8 +38,8 @@ pub use count::displaced_with;
 pub use displacing::{displaced, displaced_in_order};
 pub use group::Group;
 pub use laws::{
-    agreement, clear, delivered, ends, honest_passing_over, honest_servers, laid_out, lifted, marks,
-    one_history, queues_send, records_are_shown, servers_alike, told,
+    agreement, clear, delivered, ends, honest_passing_over, honest_servers, laid_out, lifted,
+    marks, one_history, queues_send, records_are_shown, servers_alike, told,
 };
 pub use ledger::Ledger;
 pub use listing::all_sent;

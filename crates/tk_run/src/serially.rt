@@ -47,7 +47,15 @@ pub fn serial<D: Draws, T: Taps>(
     ensures counts { T.faults taps.old ≤ T.faults taps.new }
 {
     let history = History::serial(alloc, &script.shape)?;
-    let end = run_turns(alloc, script, draws, &history, taps, None, &mut Shelf::new(alloc))?;
+    let end = run_turns(
+        alloc,
+        script,
+        draws,
+        &history,
+        taps,
+        None,
+        &mut Shelf::new(alloc),
+    )?;
     Ok(Outcome::of(script, history, end.clients, end.displaced)?)
 }
 

@@ -69,7 +69,12 @@ impl Keeper for Changer {
 }
 
 /// What is left of the run that begins anew at an epoch, where the servers from a number on are given a changed byte.
-fn left(alloc: Global, epoch: u32, at: usize, from: u32) -> Result<Result<Ended, ResumeError>, Fail> {
+fn left(
+    alloc: Global,
+    epoch: u32,
+    at: usize,
+    from: u32,
+) -> Result<Result<Ended, ResumeError>, Fail> {
     let Ok(
         Input {
             first: script,

@@ -72,14 +72,13 @@ of-requires g c =
     let laws = g.met.D.Draws world.𝓛 world.𝓜 world.𝓡 ((λ s x. x), (λ x. x), (λ x. x), λ x. x) in
     let serves =
     subst (λ (shape : Shape). IsBook shape book) c.requires.one_shape (laws.serves c.args.draws.now)
-    in
-    (
+    in (
       words_of S.shape book,
       subst (λ (h : History). HasEnded S (words_of S.shape book) h c.in_ok-end.end.clients.items
-      c.in_ok-end.end.displaced) (sym c.in_ok-history.ensures.serial)
-      (own-end S book H due c.in_ok-end.end serves legal
-    (c.in_ok-end.ensures.left (own S book H due) (λ low kept. own-given S book H due _
-    (λ j. last-given _ _ (saved_before S book H due) kept)))),
+          c.in_ok-end.end.displaced) (sym c.in_ok-history.ensures.serial)
+          (own-end S book H due c.in_ok-end.end serves legal
+          (c.in_ok-end.ensures.left (own S book H due) (λ low kept. own-given S book H due _
+          (λ j. last-given _ _ (saved_before S book H due) kept)))),
     )
 
 pub returns-clause-left : goal.returns-clause-left

@@ -74,9 +74,11 @@ of-requires g c =
     let laws = g.met.D.Draws world.𝓛 world.𝓜 world.𝓡 ((λ s x. x), (λ x. x), (λ x. x), λ x. x) in
     let serves =
     subst (λ (shape : Shape). IsBook shape book) c.requires.one_shape (laws.serves c.args.draws.now)
-    in
-    (words_of S.shape book, own-end S book H due c.in_ok-end.end serves legal
-    (c.in_ok-end.ensures.left (own S book H due) (λ low kept. absurd (omega (arith, low)))))
+    in (
+      words_of S.shape book,
+      own-end S book H due c.in_ok-end.end serves legal
+          (c.in_ok-end.ensures.left (own S book H due) (λ low kept. absurd (omega (arith, low)))),
+    )
 
 pub returns-clause-left : goal.returns-clause-left
 returns-clause-left g c =
