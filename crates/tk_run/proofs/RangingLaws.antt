@@ -22,7 +22,7 @@ use Rattle.tk_run.specs.declared.talking.Reading.{Reading}
 use Rattle.tk_run.specs.Answering.{MayAnswer, AllStand, frame_of}
 use Rattle.tk_run.specs.Rows.{Frame}
 use Rattle.tk_run.specs.Ranging.{even_ranges, in_even_ranges, IsRightOver, reply_by, made_due, bytes_made}
-use Rattle.tk_run.proofs.AskingLaws.{map_same}
+use Rattle.tk_report.proofs.Offers.{map_same}
 
 -- a server's blocks, in ranges
 pub set-is : (shape : Shape) (R : List Record) (shards wide : ℕ) (blocks : List (List ℕ)) (set : Sharded) →
