@@ -116,8 +116,8 @@ def two_at_once(stage: Stage) -> None:
 
 
 async def greet_both(folder: Path) -> Tuple[List[bool], float]:
-    """Two greet a server, and the first one speaks before the second one greets, so soon after another start that it has
-    to wait. Gives which of them are heard, and when the second one greeted."""
+    """Two greet a server, and the first one speaks before the second one greets, so soon after another start that it
+    has to wait. Gives which of them are heard, and when the second one greeted."""
     one, other = Guest(folder), Guest(folder)
     await one.greet()
     one.link.send_mark(Mark.SPEAKS)

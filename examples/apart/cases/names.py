@@ -111,7 +111,8 @@ def stale_group_file(stage: Stage) -> None:
     genuine = (stale.folder / "group").read_bytes()
     (stale.folder / "group").write_bytes(genuine.replace(b"tick 0.25", b"tick 0.26"))
     stale.start()
-    stage.until(lambda: "server 1 (ann): it has another group file" in stale.complaints(), "a word about a stale group file")
+    stage.until(lambda: "server 1 (ann): it has another group file" in stale.complaints(),
+                "a word about a stale group file")
     stage.until(lambda: "cem (client 2): it has another group file" in stage.servers[0].complaints(),
                 "a server's word about a stale group file")
     stale.kill()

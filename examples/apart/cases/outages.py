@@ -15,8 +15,8 @@ from parts.clock import until_next
 
 
 def outage(stage: Stage) -> None:
-    """A server is away for many ticks, of which a phase has as many as it takes. No more than a tick waits for it, so turns
-    don't run by when it is back."""
+    """A server is away for many ticks, within a phase. No more than a tick waits for it, so turns don't run by when it
+    is back."""
     stage.make(2, 12)
     stage.start()
     stage.wrote(0, 2)

@@ -133,8 +133,8 @@ class End:
         self.process.wait()
 
     def has_come(self) -> bool:
-        """Whether each text that was typed is in a file of the folder, or has been told of. (They are counted: a short one
-        may stand anywhere by chance.)"""
+        """Whether each text that was typed is in a file of the folder, or has been told of. (They are counted: a short
+        one may stand anywhere by chance.)"""
         told = sum(len(self.lines(word, start)) for word in ("refused", "unsent") for start in range(len(self.files)))
         given = sum(peer == HOST and data[:1] == b"S" for peer, data in self.journal()[1:])
         return told + given + self.waiting(given) >= len(self.typed)
@@ -388,7 +388,8 @@ class Stage:
             for to, told in program.give(peer, data):
                 if to == HOST and told[:1] != b"r":
                     word, log, *rest = line_of(told).split(" ", 3)
-                    due.append(" ".join([word, self.labels.of(int(log)), rest[0], str(min(replies.values()) - 1), *rest[1:]]))
+                    turn = min(replies.values()) - 1
+                    due.append(" ".join([word, self.labels.of(int(log)), rest[0], str(turn), *rest[1:]]))
         program.close()
         told = [line for line in self.members[client].told() if line.split(" ")[0] in CAME]
         demand(told == due, f"client {client} told {told}, and not {due}")

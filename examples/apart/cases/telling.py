@@ -11,8 +11,8 @@ from parts.packets import HOST
 
 
 def telling(stage: Stage) -> None:
-    """A server comes late, a member goes and comes again. Whoever is there is told of it by name and with the time; what
-    was typed is told once, by the name of its log or by its number."""
+    """A server comes late, a member goes and comes again. Whoever is there is told of it by name and with the time;
+    what was typed is told once, by the name of its log or by its number."""
     stage.make(6, 3)
     ann, ben, cem = stage.members
     began = time.time()
@@ -63,8 +63,8 @@ def type_by_names(stage: Stage, ann: End) -> None:
 
 
 def wait_in_journal(stage: Stage, ann: End) -> None:
-    """Who stops is told of each text that is in the journal and not sent that it goes later. There is one, as a rule, with
-    the tick whose write waits for somebody else."""
+    """Who stops is told of each text that is in the journal and not sent that it goes later. There is one, as a rule,
+    with the tick whose write waits for somebody else."""
     ann.stop()
     given = sum(peer == HOST and data[:1] == b"S" for peer, data in ann.journal()[1:])
     late = given - len(ann.lines("sent"))

@@ -114,8 +114,8 @@ class Link:
         self.writer.transport.abort()
 
     async def hear_out(self) -> None:
-        """Passes over what still comes, up to so much and for a moment, until the other end closes the link: to close it
-        with bytes that nobody read could take back what was sent last."""
+        """Passes over what still comes, up to so much and for a moment, until the other end closes the link: to close
+        it with bytes that nobody read could take back what was sent last."""
         try:
             await asyncio.wait_for(self.reader.readexactly(TO_PASS_OVER), 1)
         except (OSError, EOFError, asyncio.TimeoutError):

@@ -211,8 +211,8 @@ class Member:
             allowed.cancel()
 
     async def carry(self, server: int, link: Link, count: int) -> None:
-        """Sends what the server lacks and takes what it sends, until the link breaks. Before all servers heard who speaks
-        nothing is taken, since the program might write or read then."""
+        """Sends what the server lacks and takes what it sends, until the link breaks. Before all servers heard who
+        speaks nothing is taken, since the program might write or read then."""
         sending = asyncio.create_task(ToServer(self, link, server, count).run())
         try:
             await self.carrier.first_of(self.is_heard, self.carrier.over)
@@ -233,7 +233,7 @@ class Member:
             sending.cancel()
 
     async def heard_leaving(self, server: int) -> None:
-        """A server heard that this member needs no more. It is kept, since that server may be gone at the next start."""
+        """A server heard that this member needs no more. That is kept: the server may be gone at the next start."""
         if server not in self.left:
             await self.carrier.keep([(LEFT, NUMBER.pack(server))])
             self.left.add(server)

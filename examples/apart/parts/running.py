@@ -128,8 +128,8 @@ class Running:
         if made.is_told():
             self.place.clear()
         else:
-            self.complaints.tell("the journal stays, since not every server answered that it heard that this member needs "
-                                 "no more: start this once more, or delete the folder if all servers have ended")
+            self.complaints.tell("the journal stays, since not every server answered that it heard that this member "
+                                 "needs no more: start this once more, or delete the folder if all servers have ended")
 
     def end(self, end: End) -> None:
         self.put(f"ended {end.word}")
