@@ -14,6 +14,7 @@ from cases.texts import fates
 # The long ones first.
 CASES = {"lying server": lying_server, "whole run": whole_run, "journals": journals, "address change": address_change,
          "clock steps": clock_steps, "outage": outage, "fates": fates, "telling": telling,
-         "copied folder": copied_folder, "two at once": two_at_once, "restored folder": restored_folder, "full disk": full_disk,
-         "different writes": different_writes, "silent links": silent_links, "flooding member": flooding_member,
-         "unread terminal": unread_terminal, "names and files": names_and_files, "leaving": leaving}
+         "copied folder": copied_folder, "two at once": two_at_once, "restored folder": restored_folder,
+         "full disk": full_disk, "different writes": different_writes, "silent links": silent_links,
+         "flooding member": flooding_member, "unread terminal": unread_terminal, "names and files": names_and_files,
+         "leaving": leaving}
