@@ -1,6 +1,10 @@
 //! A member: its keys, and the client that writes its log and follows all.
 ghost use Rattle.std.specs.Prelude.{◌≡◌, IfOk};
+ghost use Rattle.std.specs.Prelude.{◌+◌, ◌∷◌, [], OnOk};
 ghost use Rattle.std.specs.List.{range_with_len};
+ghost use Rattle.tk_client.specs.Client.{new_client};
+ghost use Rattle.tk_client.specs.Reader.{got_in};
+ghost use Rattle.tk_client.specs.Writing.{after_write, with_text};
 
 use crate::fault::Fault;
 use std::alloc::Global;
@@ -57,13 +61,18 @@ impl Member {
         })
     }
 
-    pub fn number(&self) -> u32 {
+    pub fn number(&self) -> u32
+        ensures { result ≡ self.now.client.number }
+    {
         self.client.number()
     }
 
     /// Says a text, which is written in the next turn.
     #[tactic(auto, using(crate::proofs::MemberLaws::said_member))]
-    pub fn say(&mut self, alloc: Global, text: &[u8]) -> Result<(), Fault> {
+    pub fn say(&mut self, alloc: Global, text: &[u8]) -> Result<(), Fault>
+        ensures said { let s = self.old.client in
+            OnOk result (self.new.client ≡ record s { writing = with_text s.number text.now s.writing }) }
+    {
         if self.said == self.client.shape().turns() {
             return Err(Fault::Over);
         }
@@ -74,7 +83,11 @@ impl Member {
     }
 
     /// What it writes in its next turn: a text, or a dummy of the same size.
-    pub fn write(&mut self, alloc: Global) -> Result<WriteFrame, Fault> {
+    pub fn write(&mut self, alloc: Global) -> Result<WriteFrame, Fault>
+        ensures written { OnOk result (self.new.written ≡ self.old.written + 1) }
+        ensures client { let s = self.old.client in
+            OnOk result (self.new.client ≡ record s { writing = after_write s.writing }) }
+    {
         if self.written == self.client.shape().turns() {
             return Err(Fault::Over);
         }
@@ -121,7 +134,9 @@ impl Member {
     }
 
     /// What it read on a log.
-    pub fn log(&self, log: u32) -> &[Got] {
+    pub fn log(&self, log: u32) -> &[Got]
+        ensures { result.now ≡ got_in self.now.client.reader.follows log }
+    {
         self.client.log(log)
     }
 }
