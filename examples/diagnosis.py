@@ -7,9 +7,11 @@ from script import FIELDS
 from shape import LIMITS, POWERS_OF_TWO, power_of_two
 from tool import Wrong
 
-# The sections of an input behind its first script, by the command that reads it; a tape comes where it is drawn.
-BEHIND = {"serial": [], "run": [], "resume": [], "lift": [], "relay": [], "view": ["history"],
-          "mirror": ["talek", "history"], "wrong": ["talek", "history", "replies"]}
+# All commands, each with the sections of its input behind the first script, or with None where it reads nothing. A tape
+# comes where the script is drawn.
+COMMANDS = {"serial": [], "run": [], "resume": [], "lift": [], "relay": [], "view": ["history"],
+            "mirror": ["talek", "history"], "wrong": ["talek", "history", "replies"],
+            "handle": None, "make": None, "tally": None}
 WITHOUT_KEYS = ("mirror", "wrong")
 # The lines that stand between a section's first one and its `end`.
 INSIDE = {"history": ["order", "reads"], "replies": ["reply"], "tape": ["x", "fill"]}
@@ -32,7 +34,7 @@ class Progress:
 
     def __init__(self, command):
         self.command = command  # its word, or None where nobody said it
-        self.behind = BEHIND.get(command, [])[:]
+        self.behind = list(COMMANDS.get(command) or [])
         self.section, self.step, self.scripts = "script", "talek", 0
         self.shape, self.shapes, self.is_drawn, self.counts = {}, [], False, {}
 
