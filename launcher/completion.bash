@@ -1,54 +1,43 @@
 # shellcheck shell=bash
 # Completion of the commands of Puchreus in Bash, as they are called where they are installed and as in a clone:
 #   . launcher/completion.bash
+# What may come at the cursor is what a command tells with --help.
 
-# Offers those of the further words that begin as the one at the cursor.
-_talek_offer() {
-    local word=$1
-    shift
-    mapfile -t COMPREPLY < <(compgen -W "$*" -- "$word")
+_talek_top=$(readlink -f "${BASH_SOURCE[0]}")
+_talek_top=${_talek_top%/launcher/*}
+
+# What the command of a name tells.
+_talek_about() {
+    local file=${1##*/} folder
+    file=${file#talek-}
+    for folder in "$_talek_top" "$_talek_top"/examples{,/apart}; do
+        if [ -x "$folder/$file" ]; then
+            "$folder/$file" --help
+            return
+        fi
+    done
 }
 
+# The words that may come first: those behind the command's name in its usage, and those that begin an indented line.
+_talek_words() {
+    sed -nE 's/^(usage: |       )[a-z-]+ ([a-z]+)( .*)?$/\2/p; s/^  ([a-z]+) .*/\1/p' | sort -u
+}
+
+_talek_options() {
+    { printf '%s\n' --help --version && grep -oE '(^|[ [])--?[a-z]+'; } | tr -d ' [' | sort -u
+}
+
+# Offers what begins as the word at the cursor.
 _talek() {
-    local word=$2 commands='serial run relay resume view mirror wrong handle lift make tally'
-    COMPREPLY=()
-    if [ "$COMP_CWORD" = 1 ]; then
-        _talek_offer "$word" "$commands --help --version --path"
-    elif [ "$COMP_CWORD" = 2 ]; then
-        case ${COMP_WORDS[1]} in
-            run) _talek_offer "$word" 1 2 4 8 ;;
-            view | mirror | wrong) _talek_offer "$word" 1 2 3 ;;
-        esac
+    local word=$2 offered=''
+    if [[ $word = -* ]]; then
+        offered=$(_talek_about "$1" | _talek_options)
+    elif [ "$COMP_CWORD" = 1 ]; then
+        offered=$(_talek_about "$1" | _talek_words)
     fi
+    mapfile -t COMPREPLY < <(compgen -W "$offered" -- "$word")
 }
 
-_talek_packets() {
-    COMPREPLY=()
-    if [ "$COMP_CWORD" = 1 ]; then
-        _talek_offer "$2" --path --help --version
-    fi
-}
-
-# The options and files of a tool, by the words that it takes first.
-_talek_tool() {
-    local word=$2 first=$3
-    COMPREPLY=()
-    if [[ "$word" = -* ]]; then
-        case ${1##*/} in
-            *switch) _talek_offer "$word" --program --keep --help --version ;;
-            *explain) _talek_offer "$word" -c --table --help --version ;;
-            *picture) _talek_offer "$word" -t -- --help --version ;;
-            *) _talek_offer "$word" --help --version ;;
-        esac
-    elif [ "$COMP_CWORD" = 1 ] && [ "$first" = "${COMP_WORDS[0]}" ]; then
-        case ${1##*/} in
-            *switch) _talek_offer "$word" serve join ;;
-            group | talek-group) _talek_offer "$word" identity new show root folder next change ;;
-        esac
-    fi
-}
-
-complete -F _talek talek
-complete -F _talek_packets talek-serve talek-member ./serve ./member
-complete -o bashdefault -o default -F _talek_tool talek-switch talek-group talek-new-group talek-summary talek-picture \
+complete -F _talek talek talek-serve talek-member ./serve ./member
+complete -o bashdefault -o default -F _talek talek-switch talek-group talek-new-group talek-summary talek-picture \
     talek-explain switch group new-group summary picture explain
