@@ -1,9 +1,7 @@
 -- What a client asks in a turn, and what it is then.
-use Rattle.std.proofs.Common.{◌≡◌, ◌∙◌, ap, ap₂, arith, ℕ, ◌+◌, ◌<◌, ◌≤◌, Bool, List}
-use Rattle.std.proofs.Common.{Option, le_trans, div-mul-le_self, le_of_mul-le-mul_right}
-use Rattle.tk_shape.specs.Lengths.{turn_count}
+use Rattle.std.proofs.Common.{◌≡◌, ◌∙◌, ap, ap₂, ℕ, Bool, List, Option}
 use Rattle.tk_schedule.specs.declared.history.History.{History}
-use Rattle.tk_schedule.specs.Schedule.{IsLegal, epoch_at, phases_over}
+use Rattle.tk_schedule.specs.Schedule.{epoch_at}
 use Rattle.tk_script.specs.declared.script.Script.{Script}
 use Rattle.tk_words.specs.Words.{WordBook, words_of}
 use Rattle.tk_table.specs.Shown.{is_shown}
@@ -17,18 +15,6 @@ use Rattle.tk_privacy.proofs.Offers.{Shows}
 use Rattle.tk_hostile.specs.declared.sides.Sides.{Sides}
 use Rattle.tk_hostile.specs.Choice.{Choice}
 use Rattle.tk_hostile.specs.Walks.{knows_before, client_in, client_open, asked_in}
-
--- no epoch is read that has no phase
-pub epoch-most : (S : Script) (H : History) (g c : ℕ) → IsLegal S.shape H →
-    g < turn_count S.shape → c < S.shape.clients → epoch_at H g c ≤ S.shape.phases
-epoch-most S H g c legal low client_low =
-    let ahead = (legal.each_turn g low).none_ahead c client_low in
-    let most : phases_over S.shape (g + 1) ≤ S.shape.phases =
-    le_of_mul-le-mul_right
-    (le_trans (div-mul-le_self (g + 1) S.shape.ticks) (omega (arith, low)))
-    S.shape.in_range.ticks_low
-    in
-    omega (arith, ahead, most)
 
 module _ (S : Script) (b : WordBook) (H : History) (sides : Sides) (F : Choice) (g c e : ℕ)
     (marks : List Bool) (s : ClientState) (was : s ≡ client_in S b H sides F g c)

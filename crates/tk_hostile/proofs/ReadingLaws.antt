@@ -24,11 +24,11 @@ use Rattle.tk_client.proofs.Offers.{asked-in_range, frames_in-spelled}
 use Rattle.tk_report.specs.Clients.{client_knowing, idle}
 use Rattle.tk_report.specs.Queues.{writing_before}
 use Rattle.tk_report.specs.Report.{read_over, target_for}
+use Rattle.tk_report.proofs.Offers.{epoch-most}
 use Rattle.tk_hostile.specs.declared.sides.Sides.{Sides}
 use Rattle.tk_hostile.specs.Choice.{Choice, replies_by}
 use Rattle.tk_hostile.specs.Wrong.{asks, reader_next, reader_asking}
 use Rattle.tk_hostile.specs.Walks.{knows_before, read_in, asked_in, client_open, client_out}
-use Rattle.tk_hostile.proofs.AskingLaws.{epoch-most}
 
 -- ---- the frame of a server, among those of all
 

@@ -7,9 +7,10 @@ use Rattle.tk_frames.specs.Spelling.{read_frame}
 use Rattle.tk_client.specs.Asked.{asked}
 use Rattle.tk_client.specs.Client.{ClientState, target_over}
 use Rattle.tk_report.specs.Clients.{client_knowing}
+use Rattle.tk_report.proofs.Offers.{epoch-most}
 use Rattle.tk_privacy.proofs.Offers.{filter-shows}
 use Rattle.tk_hostile.specs.Given.{sums_at}
-use Rattle.tk_hostile.proofs.AskingLaws.{epoch-most, asked-are, open-is}
+use Rattle.tk_hostile.proofs.AskingLaws.{asked-are, open-is}
 use Rattle.tk_hostile.proofs.reading.ask.Goals as goal
 
 pub read_frames-requires-clause-one_shape : goal.read_frames-requires-clause-one_shape
