@@ -1,6 +1,7 @@
 pub mod GivenLaws
 pub mod Regained
 pub mod WrongLaws
+pub mod HonestLaws
 pub mod Attacks
 pub mod Sighted
 pub mod AttackLaws

@@ -15,8 +15,8 @@ mod walking;
 
 pub use following::wrong_logs;
 pub use laws::{
-    acts_as_client, as_many_tapes, chosen_alike, one_to_one, one_to_one_attacked, same_seen,
-    same_view,
+    acts_as_client, as_many_tapes, chosen_alike, honest_replies, one_to_one, one_to_one_attacked,
+    same_seen, same_view,
 };
 pub use mirroring::wrong_mirror;
 pub use replies::Replies;
