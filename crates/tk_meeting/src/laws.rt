@@ -34,7 +34,8 @@ pub fn meetings_look_alike()
 {}
 
 /// When a member writes and asks depends on no text and no key: two groups of one shape in which the same happens but
-/// for what is said keep pace, whatever words they have, keyed or drawn.
+/// for what is said keep pace, whatever words they have, keyed or drawn; and on each link there are frames of the same
+/// kinds and lengths, in format 1 or where both have keyed words or both drawn ones.
 pub fn meetings_keep_pace()
     ensures { MeetingsKeepPace }
 {}

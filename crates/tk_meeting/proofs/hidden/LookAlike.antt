@@ -20,6 +20,7 @@ use Rattle.tk_meeting.proofs.Standing.{frames_of}
 use Rattle.tk_meeting.proofs.hidden.SameFrames.{same-write, same-read}
 use Rattle.tk_meeting.proofs.hidden.Unsaid.{same-course}
 use Rattle.tk_meeting.proofs.hidden.SameStreams.{WriteAlike, AskAlike, AreOfRun, same-seat, same-stream, same-frames}
+use Rattle.tk_meeting.proofs.hidden.Outlines.{KindsAgree, kinds-shown}
 use Rattle.tk_meeting.proofs.hidden.SameOutlines.{outlines-drop, stream-outlines, frames-outlines}
 
 -- ---- a group at a course
@@ -50,12 +51,12 @@ pub record ShowsCourse (S : Script) (b : WordBook) (q : Course) (m : Meeting) : 
 
 -- ---- two groups at one course
 
-module _ (A B : Script) (b d : WordBook) (w : WriteAlike A B b d) (q : Course) (m n : Meeting)
+module _ (A B : Script) (b d : WordBook) (shapes : A.shape ≡ B.shape) (q : Course) (m n : Meeting)
     (one : ShowsCourse A b q m) (other : ShowsCourse B d q n) where
   link : (c j : ℕ) → c < A.shape.clients → 1 ≤ j → j ≤ A.shape.servers → ShowsLink B d c j q n
   link c j client low high =
-      other.links c j (subst (λ (shape : Shape). c < shape.clients) w.shapes client) low
-      (subst (λ (shape : Shape). j ≤ shape.servers) w.shapes high)
+      other.links c j (subst (λ (shape : Shape). c < shape.clients) shapes client) low
+      (subst (λ (shape : Shape). j ≤ shape.servers) shapes high)
 
   -- the newest epoch of a server
   same-newest : (c j : ℕ) →
@@ -63,70 +64,72 @@ module _ (A B : Script) (b d : WordBook) (w : WriteAlike A B b d) (q : Course) (
       ≡ drop (came_of (q.paces c) j) (stream B d c j (newest_by B.shape (q.writes j)) (q.reads j c))
   same-newest c j =
       ap (λ (shape : Shape). drop (came_of (q.paces c) j)
-      (stream B d c j (newest_by shape (q.writes j)) (q.reads j c))) w.shapes
-
-  sees-alike : (j c : ℕ) → AskAlike A B b d j → 1 ≤ j → j ≤ A.shape.servers → c < A.shape.clients →
-      SeesAlike j c m n
-  sees-alike j c r low high client =
-      let x = one.links c j client low high in
-      let y = link c j client low high in
-      let run = one.of_run c j client low high in
-      record {
-        came =
-            x.seat
-            ∙ same-seat A B b d w j r c (q.writes j c) (q.reads j c) client run.writes_in run.reads_in
-            ∙ sym y.seat;
-        coming =
-            x.up
-            ∙ same-frames A B b d w j r c (q.writes j c) (q.reads j c) (q.up c j) client run.kinds_in
-            ∙ sym y.up;
-        going =
-            x.down
-            ∙ ap (drop (came_of (q.paces c) j))
-            (same-stream A B b d w j r c (newest_by A.shape (q.writes j)) (q.reads j c) client
-            run.reads_in)
-            ∙ same-newest c j ∙ sym y.down;
-      }
+      (stream B d c j (newest_by shape (q.writes j)) (q.reads j c))) shapes
 
   acts-alike : (c : ℕ) → c < A.shape.clients → ActsAlike c m n
   acts-alike c client =
       let x = one.clients c client in
-      let y = other.clients c (subst (λ (shape : Shape). c < shape.clients) w.shapes client) in
+      let y = other.clients c (subst (λ (shape : Shape). c < shape.clients) shapes client) in
       record { written = x.written ∙ sym y.written; asked = x.asked ∙ sym y.asked }
 
-  sized-alike : (j c : ℕ) → shows_vectors b ≡ shows_vectors d → IsBook A.shape b →
-      IsBook B.shape d → 1 ≤ j → j ≤ A.shape.servers → c < A.shape.clients → IsSizedAlike j c m n
-  sized-alike j c shows served serves low high client =
+  pub sized-alike : (j c : ℕ) → KindsAgree A.shape b d → IsBook A.shape b → IsBook B.shape d → 1 ≤ j →
+      j ≤ A.shape.servers → c < A.shape.clients → IsSizedAlike j c m n
+  sized-alike j c kinds served serves low high client =
       let x = one.links c j client low high in
       let y = link c j client low high in
       let run = one.of_run c j client low high in
       record {
         up =
             ap (map outline) x.up
-            ∙ frames-outlines A B b d w shows served serves c j (q.writes j c) (q.reads j c) (q.up c j)
-            low high client run.kinds_in
+            ∙ frames-outlines A B b d shapes kinds served serves c j (q.writes j c) (q.reads j c)
+            (q.up c j) low high client run.kinds_in
             ∙ ap (map outline) (sym y.up);
         down =
             ap (map outline) x.down
             ∙ outlines-drop (came_of (q.paces c) j)
             (stream A b c j (newest_by A.shape (q.writes j)) (q.reads j c))
             (stream B d c j (newest_by A.shape (q.writes j)) (q.reads j c))
-            (stream-outlines A B b d w shows served serves c j (newest_by A.shape (q.writes j))
+            (stream-outlines A B b d shapes kinds served serves c j (newest_by A.shape (q.writes j))
             (q.reads j c))
             ∙ ap (map outline) (same-newest c j ∙ sym y.down);
       }
 
-  pub look-alike : (h : ℕ) →
-      ((j : ℕ) → 1 ≤ j → j ≤ A.shape.servers → j ≢ h → AskAlike A B b d j) →
-      shows_vectors b ≡ shows_vectors d → IsBook A.shape b → IsBook B.shape d →
-      LooksAlike A.shape h m n
-  look-alike h asks shows served serves =
-      record {
-        seen = λ j c low high differ client.
-            sees-alike j c (asks j low high differ) low high client;
-        acted = λ c client. acts-alike c client;
-        sized = λ j c low high client. sized-alike j c shows served serves low high client;
-      }
+  module _ (w : WriteAlike A B b d) where
+    sees-alike : (j c : ℕ) → AskAlike A B b d j → 1 ≤ j → j ≤ A.shape.servers → c < A.shape.clients →
+        SeesAlike j c m n
+    sees-alike j c r low high client =
+        let x = one.links c j client low high in
+        let y = link c j client low high in
+        let run = one.of_run c j client low high in
+        record {
+          came =
+              x.seat
+              ∙ same-seat A B b d w j r c (q.writes j c) (q.reads j c) client run.writes_in run.reads_in
+              ∙ sym y.seat;
+          coming =
+              x.up
+              ∙ same-frames A B b d w j r c (q.writes j c) (q.reads j c) (q.up c j) client run.kinds_in
+              ∙ sym y.up;
+          going =
+              x.down
+              ∙ ap (drop (came_of (q.paces c) j))
+              (same-stream A B b d w j r c (newest_by A.shape (q.writes j)) (q.reads j c) client
+              run.reads_in)
+              ∙ same-newest c j ∙ sym y.down;
+        }
+
+    pub look-alike : (h : ℕ) →
+        ((j : ℕ) → 1 ≤ j → j ≤ A.shape.servers → j ≢ h → AskAlike A B b d j) →
+        shows_vectors b ≡ shows_vectors d → IsBook A.shape b → IsBook B.shape d →
+        LooksAlike A.shape h m n
+    look-alike h asks shows served serves =
+        record {
+          seen = λ j c low high differ client.
+              sees-alike j c (asks j low high differ) low high client;
+          acted = λ c client. acts-alike c client;
+          sized = λ j c low high client.
+              sized-alike j c (kinds-shown A.shape b d shows) served serves low high client;
+        }
 
 -- ---- the law
 
@@ -157,7 +160,7 @@ meetings_look_alike-if at A B h u is books others keys other_keys events more te
     = subst (λ (x : Course). ShowsCourse B d x n)
     (sym (same-course A.shape B.shape events changed is.one_shape same))
     (at B d others changed rest serves other_keys other_tells) in
-    look-alike A B b d w q m n one other h (λ j low high differ. record {
+    look-alike A B b d w.shapes q m n one other w h (λ j low high differ. record {
       reads = λ g c turn client.
           same-read A B (serial_history A.shape) h u is j g c low high differ turn client
           ∙ ap (λ (shape : Shape). read_at B d (serial_history shape) g c j) is.one_shape;

@@ -4,9 +4,10 @@ use Rattle.std.proofs.Common.{length, refl, ap, sym, ◌∙◌, subst, arith, le
 use Rattle.std.proofs.Common.{le_of_mul-le-mul_right, []}
 use Rattle.std.specs.Prelude.{slice_index, ◌==◌, nat_lt, ◌&&◌, flat_map}
 use Rattle.std.proofs.lemmas.List.{length-map, get_or_default}
+use Rattle.std.proofs.lemmas.List.FromFn.{length-map-range_with_len}
 use Rattle.std.proofs.lemmas.List.Elements.{recursion_from_All}
 use Rattle.tk_shape.specs.declared.shape.Shape.{Shape}
-use Rattle.tk_shape.specs.Lengths.{turn_count, width, reply_len}
+use Rattle.tk_shape.specs.Lengths.{turn_count, width, reply_len, write_len}
 use Rattle.tk_kernel.specs.Pieces.{AllSized}
 use Rattle.tk_kernel.specs.Chosen.{chosen_sum}
 use Rattle.tk_bits.proofs.Offers.{length-chosen_sum}
@@ -19,17 +20,22 @@ use Rattle.tk_frames.specs.declared.seeds.Seeds.TheVariants.{Plain, Seeded, Show
 use Rattle.tk_frames.specs.Order.{Record, before}
 use Rattle.tk_frames.specs.Slots.{slot_bytes}
 use Rattle.tk_frames.specs.Faults.{read_len_of}
-use Rattle.tk_frames.specs.Spelling.{read_kind, read_frame}
+use Rattle.tk_frames.specs.declared.entry.Placed.{Placed}
+use Rattle.tk_frames.specs.Spelling.{be32, read_kind, read_frame, write_frame}
+use Rattle.tk_frames.proofs.Frames.{length-write_frame}
 use Rattle.tk_frames.proofs.ReadLaws.{length-read_frame}
 use Rattle.tk_table.specs.Table.{layout, blocks_of}
 use Rattle.tk_table.proofs.Offers.{layout-read_back, layout-laid_out}
 use Rattle.tk_client.specs.Asked.{seeds_told, frame_with}
 use Rattle.tk_report.specs.Exchange.{read_at}
 use Rattle.tk_report.proofs.Offers.{epochs-ordered, epochs-storable}
-use Rattle.tk_serve.specs.Told.{reply_told}
+use Rattle.tk_replica.specs.Epochs.{filter_of}
+use Rattle.tk_packets.specs.Frames.{marks_len}
+use Rattle.tk_packets.specs.Marks.{mark_byte, mark_bytes}
+use Rattle.tk_serve.specs.Told.{reply_told, epoch_told, epoch_bytes}
 use Rattle.tk_meeting.specs.Hidden.{outline}
-use Rattle.tk_meeting.proofs.servers.InRange.{read-in_range}
-use Rattle.tk_meeting.proofs.Canonical.{serial, whole, read_from}
+use Rattle.tk_meeting.proofs.servers.InRange.{read-in_range, write-in_range}
+use Rattle.tk_meeting.proofs.Canonical.{serial, whole, read_from, write_in}
 
 -- ---- replies
 
@@ -88,6 +94,38 @@ same-reply A B b d r s shapes served serves =
     (kind-reply A b r ∙ sym (kind-reply B d s))
     (length-reply A b r served ∙ ap reply_len shapes ∙ sym (length-reply B d s serves))
 
+-- ---- epochs
+
+length-epoch : (shape : Shape) (E : List Placed) (e : ℕ) →
+    length (epoch_bytes shape E e) ≡ 6 + marks_len shape
+unfolding epoch_bytes mark_bytes
+length-epoch shape E e =
+    let marks = (epoch_told shape E e).marks in
+    let long : length marks ≡ marks_len shape =
+    length-map-range_with_len (mark_byte (filter_of shape (before E e))) 0 (marks_len shape)
+    in
+    omega (arith, length-append (be32 e) marks, long)
+
+pub same-epoch : (shape : Shape) (E F : List Placed) (e : ℕ) →
+    outline (epoch_bytes shape E e) ≡ outline (epoch_bytes shape F e)
+unfolding epoch_bytes
+same-epoch shape E F e =
+    outline-is (epoch_bytes shape E e) (epoch_bytes shape F e) refl
+    (length-epoch shape E e ∙ sym (length-epoch shape F e))
+
+-- ---- writes
+
+pub same-write_outline : (A B : Script) (b d : WordBook) (c g : ℕ) → A.shape ≡ B.shape →
+    IsBook A.shape b → IsBook B.shape d → c < A.shape.clients → g < turn_count A.shape →
+    outline (write_frame (write_in A b c g)) ≡ outline (write_frame (write_in B d c g))
+same-write_outline A B b d c g shapes served serves client turn =
+    outline-is (write_frame (write_in A b c g)) (write_frame (write_in B d c g)) refl
+    (length-write_frame A.shape (write_in A b c g) (write-in_range A b c g served client turn)
+    ∙ ap write_len shapes
+    ∙ sym (length-write_frame B.shape (write_in B d c g) (write-in_range B d c g serves
+    (subst (λ (shape : Shape). c < shape.clients) shapes client)
+    (subst (λ (shape : Shape). g < turn_count shape) shapes turn))))
+
 -- ---- reads
 
 -- the kind of a server's reads
@@ -127,11 +165,33 @@ length-read S b c j g served low high turn client =
     length-read_frame S.shape (read_from S b c j g) (read-in_range S b c j g served client low high turn)
     ∙ ap (read_len_of S.shape) (kind-read S b c j g)
 
+-- the reads of two books are of the same kinds
+abbrev pub KindsAgree : Shape → WordBook → WordBook → Type 0
+KindsAgree shape b d = (j : ℕ) → kind_to shape (shows_vectors b) j ≡ kind_to shape (shows_vectors d) j
+
+-- so they are where both books show their vectors or neither does, and in format 1
+pub kinds-shown : (shape : Shape) (b d : WordBook) → shows_vectors b ≡ shows_vectors d → KindsAgree shape b d
+kinds-shown shape b d shows j = ap (λ (shown : Bool). kind_to shape shown j) shows
+
+and-false : (x : Bool) → (x && false) ≡ false
+and-false true = refl
+and-false false = refl
+
+kinds-plain : (shape : Shape) (b : WordBook) → shape.format ≡ 1 → (j : ℕ) →
+    kind_to shape (shows_vectors b) j ≡ 2
+kinds-plain shape b one j =
+    let shows = shows_vectors b in
+    let kind = λ (told : Bool). read_kind (cond told (cond shows (Shown []) (Seeded [])) Plain) in
+    ap (λ (format : ℕ). kind (nat_lt j shape.servers && format == 2)) one
+    ∙ ap kind (and-false (nat_lt j shape.servers))
+
+pub kinds-in_format_1 : (shape : Shape) (b d : WordBook) → shape.format ≡ 1 → KindsAgree shape b d
+kinds-in_format_1 shape b d one j = kinds-plain shape b one j ∙ sym (kinds-plain shape d one j)
+
 module _ (A B : Script) (b d : WordBook) (shapes : A.shape ≡ B.shape)
-    (shows : shows_vectors b ≡ shows_vectors d) (served : IsBook A.shape b)
-    (serves : IsBook B.shape d) where
+    (kinds_agree : KindsAgree A.shape b d) (served : IsBook A.shape b) (serves : IsBook B.shape d) where
   same-kind : (j : ℕ) → kind_to A.shape (shows_vectors b) j ≡ kind_to B.shape (shows_vectors d) j
-  same-kind j = λ i. kind_to (shapes i) (shows i) j
+  same-kind j = kinds_agree j ∙ ap (λ (shape : Shape). kind_to shape (shows_vectors d) j) shapes
 
   pub same-read_outline : (c j g : ℕ) → 1 ≤ j → j ≤ A.shape.servers → g < turn_count A.shape →
       c < A.shape.clients →

@@ -1,12 +1,12 @@
 -- Groups whose courses are the same keep pace.
-use Rattle.std.proofs.Common.{◌≡◌, refl, ap, sym, ◌∙◌, subst, ℕ, suc, ◌+◌, ◌-◌, ◌≤◌, ◌<◌, List, [], ◌∷◌, length}
+use Rattle.std.proofs.Common.{◌≡◌, inl, inr, refl, ap, sym, ◌∙◌, subst, ℕ, suc, ◌+◌, ◌-◌, ◌≤◌, ◌<◌, List, [], ◌∷◌, length}
 use Rattle.std.proofs.lemmas.List.{length-drop}
 use Rattle.tk_shape.specs.declared.shape.Shape.{Shape}
 use Rattle.tk_script.specs.declared.script.Script.{Script}
 use Rattle.tk_words.specs.Words.{WordBook}
 use Rattle.tk_meeting.specs.Meeting.{Meeting}
 use Rattle.tk_meeting.specs.Events.{met}
-use Rattle.tk_meeting.specs.Pacing.{MeetingsKeepPace}
+use Rattle.tk_meeting.specs.Pacing.{HaveOneForm, MeetingsKeepPace}
 use Rattle.tk_meeting.proofs.Canonical.{stream}
 use Rattle.tk_meeting.proofs.Pace.{Kind, Wrote, Asked}
 use Rattle.tk_meeting.proofs.Standing.{frames_of}
@@ -14,7 +14,9 @@ use Rattle.tk_meeting.proofs.Course.{Course, newest_by, came_of, stream_len, cou
 use Rattle.tk_meeting.proofs.servers.Numbers.{stream-length}
 use Rattle.tk_meeting.proofs.courses.Keeps.{Keeps}
 use Rattle.tk_meeting.proofs.hidden.Unsaid.{same-course}
-use Rattle.tk_meeting.proofs.hidden.Kept.{AreKept, own-kept}
+use Rattle.tk_meeting.proofs.hidden.Kept.{AreKept, own-kept, at-courses}
+use Rattle.tk_meeting.proofs.hidden.LookAlike.{ShowsCourse, sized-alike}
+use Rattle.tk_meeting.proofs.hidden.Outlines.{KindsAgree, kinds-shown, kinds-in_format_1}
 
 length-frames : (S : Script) (b : WordBook) (c j g k : ℕ) (kinds : List Kind) →
     length (frames_of S b c j g k kinds) ≡ length kinds
@@ -46,6 +48,11 @@ counts-link S b q m keeps j c one most low =
           ∙ ap (λ k. k - came_of (q.paces c) j) (stream-length S b c j n (q.reads j c));
     }
 
+-- reads of one form are of the same kinds
+kinds-of : (shape : Shape) (a b : WordBook) → HaveOneForm shape a b → KindsAgree shape a b
+kinds-of shape a b (inl one) = kinds-in_format_1 shape a b one
+kinds-of shape a b (inr shows) = kinds-shown shape a b shows
+
 pub keep-pace : AreKept → MeetingsKeepPace
 keep-pace kept A B a b shapes served other_served books other_books keys other_keys events more tells other_events
     rest other_tells same =
@@ -76,4 +83,9 @@ keep-pace kept A B a b shapes served other_served books other_books keys other_k
             up = here.up ∙ ap (λ (x : Course). length (x.up c j)) course ∙ sym there.up;
             down = here.down ∙ (λ i. count_down (shapes i) (course i) j c) ∙ sym there.down;
           };
+      sized = λ form j c first most low.
+          sized-alike A B a b shapes q m n (at-courses kept A a books events more served keys tells)
+          (subst (λ (x : Course). ShowsCourse B b x n) (sym course)
+          (at-courses kept B b other_books other_events rest other_served other_keys other_tells)) j c
+          (kinds-of A.shape a b form) served other_served first most low;
     }

@@ -1,22 +1,23 @@
--- The kinds and lengths of frames on a link, where two scripts have each client write the same.
+-- The kinds and lengths of frames on a link, where two groups have one shape and reads of the same kinds.
 use Rattle.std.proofs.Common.{◌≡◌, ℕ, zero, suc, ◌+◌, ◌≤◌, ◌<◌, min, List, [], ◌∷◌, ◌++◌, map, drop, flat_map}
-use Rattle.std.proofs.Common.{refl, ap, ap₂, sym, ◌∙◌, arith}
+use Rattle.std.proofs.Common.{Bool, true, false, cond, refl, ap, ap₂, sym, ◌∙◌, arith}
+use Rattle.std.specs.Prelude.{nat_le, ◌&&◌}
 use Rattle.std.specs.List.{range_with_len}
 use Rattle.std.proofs.lemmas.List.{map-append}
 use Rattle.tk_shape.specs.declared.shape.Shape.{Shape}
 use Rattle.tk_shape.specs.Lengths.{turn_count}
 use Rattle.tk_script.specs.declared.script.Script.{Script}
-use Rattle.tk_words.specs.Words.{WordBook, IsBook, shows_vectors}
-use Rattle.tk_frames.specs.Spelling.{write_frame}
-use Rattle.tk_frames.specs.declared.write_frame.WriteFrame.{WriteFrame}
-use Rattle.tk_serve.specs.Told.{closing_told, turns_read}
+use Rattle.tk_words.specs.Words.{WordBook, IsBook}
+use Rattle.tk_schedule.specs.Schedule.{is_closing, phase_of}
+use Rattle.tk_serve.specs.Told.{closing_told, turns_read, epoch_bytes}
 use Rattle.tk_meeting.specs.Hidden.{outline}
 use Rattle.tk_meeting.proofs.Canonical.{read_from, whole, told_in_turn, stream}
 use Rattle.tk_meeting.proofs.Pace.{Kind, Wrote, Asked}
 use Rattle.tk_meeting.proofs.Standing.{frames_of}
 use Rattle.tk_meeting.proofs.servers.Places.{read-turn}
-use Rattle.tk_meeting.proofs.hidden.SameStreams.{WriteAlike, AreOfRun, same-whole}
-use Rattle.tk_meeting.proofs.hidden.Outlines.{same-reply, same-read_outline}
+use Rattle.tk_meeting.proofs.hidden.SameStreams.{AreOfRun}
+use Rattle.tk_meeting.proofs.hidden.Outlines.{KindsAgree, same-reply, same-read_outline}
+use Rattle.tk_meeting.proofs.hidden.Outlines.{same-epoch, same-write_outline}
 
 pub outlines-drop : (n : ℕ) (xs ys : List (List ℕ)) → map outline xs ≡ map outline ys →
     map outline (drop n xs) ≡ map outline (drop n ys)
@@ -37,21 +38,31 @@ outlines-flat f h a (suc n) same =
     (outlines-flat f h (a + 1) n (λ k low. same k (omega (arith, low))))
     ∙ sym (map-append outline (h a) (flat_map h (range_with_len (a + 1) n)))
 
-module _ (A B : Script) (b d : WordBook) (w : WriteAlike A B b d)
-    (shows : shows_vectors b ≡ shows_vectors d) (served : IsBook A.shape b)
-    (serves : IsBook B.shape d) where
+-- what a condition lets through has one outline
+cond-alike : (x : Bool) (p q : List ℕ) → outline p ≡ outline q →
+    map outline (cond x (p ∷ []) []) ≡ map outline (cond x (q ∷ []) [])
+cond-alike true p q same = ap (λ (o : ℕ × ℕ). o ∷ []) same
+cond-alike false p q same = refl
+
+module _ (A B : Script) (b d : WordBook) (shapes : A.shape ≡ B.shape)
+    (kinds_agree : KindsAgree A.shape b d) (served : IsBook A.shape b) (serves : IsBook B.shape d) where
   same-closing : (c j n g : ℕ) →
-      closing_told A.shape (whole A b) n (read_from A b c j g).turn
-      ≡ closing_told B.shape (whole B d) n (read_from B d c j g).turn
+      map outline (closing_told A.shape (whole A b) n (read_from A b c j g).turn)
+      ≡ map outline (closing_told B.shape (whole B d) n (read_from B d c j g).turn)
   same-closing c j n g =
-      ap (closing_told A.shape (whole A b) n) (read-turn A b c j g ∙ sym (read-turn B d c j g))
-      ∙ (λ i. closing_told (w.shapes i) (same-whole A B b d w i) n (read_from B d c j g).turn)
+      let turn = (read_from B d c j g).turn in
+      let phase = phase_of A.shape turn in
+      ap (λ (t : ℕ). map outline (closing_told A.shape (whole A b) n t))
+      (read-turn A b c j g ∙ sym (read-turn B d c j g))
+      ∙ cond-alike (is_closing A.shape turn && nat_le phase n) (epoch_bytes A.shape (whole A b) phase)
+      (epoch_bytes A.shape (whole B d) phase) (same-epoch A.shape (whole A b) (whole B d) phase)
+      ∙ ap (λ (shape : Shape). map outline (closing_told shape (whole B d) n turn)) shapes
 
   same-told : (c j n g : ℕ) →
       map outline (told_in_turn A b c j n g) ≡ map outline (told_in_turn B d c j n g)
   same-told c j n g =
-      ap₂ (λ (x : ℕ × ℕ) (xs : List (List ℕ)). x ∷ map outline xs)
-      (same-reply A B b d (read_from A b c j g) (read_from B d c j g) w.shapes served serves)
+      ap₂ (λ (x : ℕ × ℕ) (xs : List (ℕ × ℕ)). x ∷ xs)
+      (same-reply A B b d (read_from A b c j g) (read_from B d c j g) shapes served serves)
       (same-closing c j n g)
 
   pub stream-outlines : (c j n k : ℕ) →
@@ -61,7 +72,7 @@ module _ (A B : Script) (b d : WordBook) (w : WriteAlike A B b d)
       outlines-flat (told_in_turn A b c j n) (told_in_turn B d c j n) 0 (min k (turns_read A.shape n))
       (λ g low. same-told c j n g)
       ∙ ap (λ (shape : Shape). map outline (flat_map (told_in_turn B d c j n)
-      (range_with_len 0 (min k (turns_read shape n))))) w.shapes
+      (range_with_len 0 (min k (turns_read shape n))))) shapes
 
   pub frames-outlines : (c j g k : ℕ) (kinds : List Kind) → 1 ≤ j → j ≤ A.shape.servers →
       c < A.shape.clients → AreOfRun (turn_count A.shape) g k kinds →
@@ -69,10 +80,10 @@ module _ (A B : Script) (b d : WordBook) (w : WriteAlike A B b d)
   unfolding frames_of
   frames-outlines c j g k [] low high client turns = refl
   frames-outlines c j g k (Wrote ∷ kinds) low high client turns =
-      ap₂ (λ (x : WriteFrame) (xs : List (ℕ × ℕ)). outline (write_frame x) ∷ xs)
-      (w.writes g c turns.0 client)
+      ap₂ (λ (x : ℕ × ℕ) (xs : List (ℕ × ℕ)). x ∷ xs)
+      (same-write_outline A B b d c g shapes served serves client turns.0)
       (frames-outlines c j (g + 1) k kinds low high client turns.1)
   frames-outlines c j g k (Asked ∷ kinds) low high client turns =
       ap₂ (λ (x : ℕ × ℕ) (xs : List (ℕ × ℕ)). x ∷ xs)
-      (same-read_outline A B b d w.shapes shows served serves c j k low high turns.0 client)
+      (same-read_outline A B b d shapes kinds_agree served serves c j k low high turns.0 client)
       (frames-outlines c j g (k + 1) kinds low high client turns.1)
