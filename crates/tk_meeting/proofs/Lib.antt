@@ -11,3 +11,4 @@ pub mod examples
 pub mod own
 pub mod gotten
 pub mod scripts
+pub mod shown

@@ -7,3 +7,4 @@ pub mod Hidden
 pub mod Scripts
 pub mod Pacing
 pub mod Counted
+pub mod Shown

@@ -6,6 +6,7 @@ ghost use Rattle.tk_meeting.specs.Laws.{MeetingsAreSerial};
 ghost use Rattle.tk_meeting.specs.OwnBooks.{OwnKeysServe};
 ghost use Rattle.tk_meeting.specs.Pacing.{MeetingsKeepPace};
 ghost use Rattle.tk_meeting.specs.Scripts.{MeetingsHaveScripts};
+ghost use Rattle.tk_meeting.specs.Shown.{MembersActAlike};
 
 /// Two groups in which the same happens but for what is said: whatever all servers but the hidden one look for at any
 /// time in what they see together, they find it over as many tapes of the one as of the other.
@@ -49,4 +50,11 @@ pub fn own_keys_serve()
 /// Whatever happens, there is a script that has what was said: each text in the turn that its writer wrote next.
 pub fn meetings_have_scripts()
     ensures { MeetingsHaveScripts }
+{}
+
+/// What a member reads decides nothing of when it writes, asks and ends, whatever servers send it: members that stand
+/// alike, and to which packets come that show the same, stand alike then, or have ended at the same packet for the same
+/// fault.
+pub fn members_act_alike()
+    ensures { MembersActAlike }
 {}

@@ -6,5 +6,5 @@ mod laws;
 
 pub use laws::{
     meetings_are_serial, meetings_as_often, meetings_deliver, meetings_have_scripts,
-    meetings_keep_pace, meetings_look_alike, own_keys_serve,
+    meetings_keep_pace, meetings_look_alike, members_act_alike, own_keys_serve,
 };
