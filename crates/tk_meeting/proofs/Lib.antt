@@ -12,3 +12,4 @@ pub mod own
 pub mod gotten
 pub mod scripts
 pub mod shown
+pub mod lying

@@ -8,3 +8,6 @@ pub mod Scripts
 pub mod Pacing
 pub mod Counted
 pub mod Shown
+pub mod Lying
+pub mod Matched
+pub mod Adaptive

@@ -1,8 +1,10 @@
 //! Why a group on several machines does what the serial run does, and looks the same to all servers but one.
+ghost use Rattle.tk_meeting.specs.Adaptive.{LiarsPlayAlike};
 ghost use Rattle.tk_meeting.specs.Counted.{MeetingsAsOften};
 ghost use Rattle.tk_meeting.specs.Delivery.{MeetingsDeliver};
 ghost use Rattle.tk_meeting.specs.Hidden.{MeetingsLookAlike};
 ghost use Rattle.tk_meeting.specs.Laws.{MeetingsAreSerial};
+ghost use Rattle.tk_meeting.specs.Matched.{HonestHold, LiarsSeeAlike, MatchedOneToOne};
 ghost use Rattle.tk_meeting.specs.OwnBooks.{OwnKeysServe};
 ghost use Rattle.tk_meeting.specs.Pacing.{MeetingsKeepPace};
 ghost use Rattle.tk_meeting.specs.Scripts.{MeetingsHaveScripts};
@@ -57,4 +59,26 @@ pub fn meetings_have_scripts()
 /// fault.
 pub fn members_act_alike()
     ensures { MembersActAlike }
+{}
+
+/// Over matched tapes all servers but the hidden one get the same of two groups in which the same is done but for what
+/// is said, whatever these servers send; and each client goes on, or has ended for the same fault, at the same time.
+pub fn liars_see_alike()
+    ensures { LiarsSeeAlike }
+{}
+
+/// Each tape of a group is matched with just one of another group, whatever is done in both.
+pub fn matched_one_to_one()
+    ensures { MatchedOneToOne }
+{}
+
+/// Servers that lie by all that they have seen so far see the same of two groups over matched tapes at each step, and so
+/// do the same in both.
+pub fn liars_play_alike()
+    ensures { LiarsPlayAlike }
+{}
+
+/// A hidden server that holds the writes of a run is one of which the laws on liars speak.
+pub fn honest_hold()
+    ensures { HonestHold }
 {}

@@ -5,6 +5,7 @@
 mod laws;
 
 pub use laws::{
-    meetings_are_serial, meetings_as_often, meetings_deliver, meetings_have_scripts,
-    meetings_keep_pace, meetings_look_alike, members_act_alike, own_keys_serve,
+    honest_hold, liars_play_alike, liars_see_alike, matched_one_to_one, meetings_are_serial,
+    meetings_as_often, meetings_deliver, meetings_have_scripts, meetings_keep_pace,
+    meetings_look_alike, members_act_alike, own_keys_serve,
 };

@@ -28,7 +28,7 @@ use Rattle.tk_meeting.specs.Meeting.{Meeting}
 use Rattle.tk_meeting.specs.Events.{Event, Said, Ticked, WentAhead, Greeted, Up, Down, happens, after_events, met}
 use Rattle.tk_meeting.specs.Laws.{sayings, Tells, news_before, tells_read}
 
-unfoldable computing : ⊤
+unfoldable pub computing : ⊤
 unfolding of_report.computing numbers chosen_sum levels_from search_end
     layout_with layout_on bits_from mark_bytes frame_with with_says writing_before read_pair read_at
     frames_before empty_seats turns_written write_refusal read_refusal refusal_by

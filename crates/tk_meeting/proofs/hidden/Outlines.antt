@@ -40,7 +40,7 @@ use Rattle.tk_meeting.proofs.Canonical.{serial, whole, read_from, write_in}
 -- ---- replies
 
 -- each block of an epoch has the width of the shape's blocks
-blocks-sized : (S : Script) (b : WordBook) (e : ℕ) → IsBook S.shape b →
+pub blocks-sized : (S : Script) (b : WordBook) (e : ℕ) → IsBook S.shape b →
     AllSized (width S.shape) (blocks_of (layout S.shape (before (whole S b) e)))
 blocks-sized S b e served =
     let shape = S.shape in

@@ -1,7 +1,7 @@
 -- Members to which packets come one after the other.
 use Rattle.std.proofs.Common.{◌≡◌, refl, ap, ap₂, sym, ◌∙◌, subst, ℕ, ◌+◌, ◌-◌, Bool, true, false, cond, List, [], ◌∷◌, map}
 use Rattle.std.proofs.Common.{Option, Some, None}
-use Rattle.std.specs.Prelude.{nat_lt, nat_le, ◌==◌, ◌&&◌, ◌||◌, slice_index, replicate, slice_index_or, slice_set, Result, Ok, Err}
+use Rattle.std.specs.Prelude.{nat_lt, nat_le, ◌==◌, ◌&&◌, ◌||◌, slice_index, slice_index_or, slice_set, Result, Ok, Err}
 use Rattle.std.specs.Option.{is_none, is_some}
 use Rattle.std.specs.Simd.Lanes.{fold_l}
 use Rattle.tk_shape.specs.declared.shape.Shape.{Shape}
@@ -21,7 +21,7 @@ use Rattle.tk_member.specs.Courses.{behind_if, after_packet, after_packets}
 use Rattle.tk_meeting.specs.Shown.{Face, Stand, stand, Sent, Replied, Told, Came, OfHost, OfServer}
 use Rattle.tk_meeting.specs.Shown.{packet_shown, outcome, stand_after, MembersActAlike}
 use Rattle.tk_meeting.proofs.shown.Faces.{refused_by}
-use Rattle.tk_meeting.proofs.shown.Steps.{gone_ahead, gone_by_ticks, asks_due, has_asked, acted, none-shown, heard_so}
+use Rattle.tk_meeting.proofs.shown.Steps.{gone_ahead, gone_by_ticks, asks_due, has_asked, acted, acting, none-shown, heard_so}
 use Rattle.tk_meeting.proofs.shown.Steps.{settled_so, settled_by_so, replied_so, told_so, served_so, step_so}
 use Rattle.tk_meeting.proofs.shown.Steps.{step-outcome}
 use Rattle.tk_meeting.proofs.telling.Rising.{cond-has}
@@ -43,20 +43,20 @@ HasShape shape (Err fault) = Unit {0}
 heard-shape : (s : Stand) (word : Option HostWord) → HasShape s.shape (heard_so s word)
 unfolding heard_so
 heard-shape s None = tt
-heard-shape s (Some (Say log text)) = acted-shape s
-heard-shape s (Some Tick) = acted-shape _
-heard-shape s (Some (Ahead turns)) = acted-shape _
+heard-shape s (Some (Say log text)) = refl
+heard-shape s (Some Tick) = refl
+heard-shape s (Some (Ahead turns)) = refl
 heard-shape s (Some (Has packets)) =
-    cond-has (HasShape s.shape) (nat_lt (s.written + s.asked) packets) (Err Older) (Ok (acted s)) tt (acted-shape s)
+    cond-has (HasShape s.shape) (nat_lt (s.written + s.asked) packets) (Err Older) (Ok s) tt refl
 
 settled-shape : (s : Stand) (o : Option TakeError) → HasShape s.shape (settled_so s o)
 unfolding settled_so
 settled-shape s (Some error) = tt
-settled-shape s None = acted-shape (record s { read = None; replies = replicate s.shape.servers None })
+settled-shape s None = refl
 
 settled_by-shape : (s : Stand) (o : Option (List Face)) → HasShape s.shape (settled_by_so s o)
 unfolding settled_by_so
-settled_by-shape s None = acted-shape s
+settled_by-shape s None = refl
 settled_by-shape s (Some faces) = settled-shape s (refused_by s.number faces s.read)
 
 replied-shape : (s : Stand) (j : ℕ) (f : Face) → HasShape s.shape (replied_so s j f)
@@ -69,7 +69,7 @@ replied-shape s j f =
 told-shape : (s : Stand) (r : Result (List Telling) Fault) → HasShape s.shape (told_so s r)
 unfolding told_so
 told-shape s (Err fault) = tt
-told-shape s (Ok told) = acted-shape (record s { told = told })
+told-shape s (Ok told) = refl
 
 served-shape : (s : Stand) (j : ℕ) (sent : Sent) → HasShape s.shape (served_so s j sent)
 unfolding served_so
@@ -85,6 +85,10 @@ step-shape s (OfHost word) = heard-shape s word
 step-shape s (OfServer j sent) =
     cond-has (HasShape s.shape) (nat_le j s.shape.servers) (served_so s j sent) (Err Peer) (served-shape s j sent) tt
 
+acting-shape : (shape : Shape) (r : Result Stand Fault) → HasShape shape r → HasShape shape (acting r)
+acting-shape shape (Ok s) has = acted-shape s ∙ has
+acting-shape shape (Err fault) has = tt
+
 -- ---- one packet
 
 over_so : Stand → Bool
@@ -98,7 +102,7 @@ kept (Err fault) = None
 
 packet_so : Option Stand → Came → Option Stand
 packet_so None x = None
-packet_so (Some s) x = cond (over_so s) None (kept (step_so s x))
+packet_so (Some s) x = cond (over_so s) None (kept (acting (step_so s x)))
 
 over-shown : (m : MemberState) → is_over m ≡ over_so (stand m)
 unfolding over_so
@@ -126,9 +130,9 @@ packet-of_shape : (shape : Shape) (o : Option Stand) (x : Came) → IsOfShape sh
 unfolding packet_so
 packet-of_shape shape None x has = tt
 packet-of_shape shape (Some s) x has =
-    cond-has (IsOfShape shape) (over_so s) None (kept (step_so s x)) tt
-    (kept-of_shape shape (step_so s x)
-    (subst (λ (k : Shape). HasShape k (step_so s x)) has (step-shape s x)))
+    cond-has (IsOfShape shape) (over_so s) None (kept (acting (step_so s x))) tt
+    (kept-of_shape shape (acting (step_so s x))
+    (acting-shape shape (step_so s x) (subst (λ (k : Shape). HasShape k (step_so s x)) has (step-shape s x))))
 
 packet-after : (b : WordBook) (shape : Shape) (o : Option Turned) (p : PacketView) →
     IsOfShape shape (stand_after o) →
@@ -140,7 +144,7 @@ packet-after b shape (Some t) p has =
     either (is_over m) (behind_if t (step b m p))
     ∙ ap₂ (λ (over : Bool) (o : Option Stand). cond over None o) (over-shown m)
     (kept-shown t (step b m p) ∙ ap kept (step-outcome b m p)
-    ∙ ap (λ (k : Shape). kept (step_so (stand m) (packet_shown k p))) has)
+    ∙ ap (λ (k : Shape). kept (acting (step_so (stand m) (packet_shown k p)))) has)
   where
     either : (over : Bool) (o : Option Turned) → stand_after (cond over None o) ≡ cond over None (stand_after o)
     either true o = refl
@@ -163,7 +167,7 @@ pub act-alike : MembersActAlike
 unfolding after_packets
 act-alike a b m n same =
     record {
-      one = λ p q shown. step-outcome a m p ∙ ap₂ step_so same shown ∙ sym (step-outcome b n q);
+      one = λ p q shown. step-outcome a m p ∙ ap₂ (λ (s : Stand) (x : Came). acting (step_so s x)) same shown ∙ sym (step-outcome b n q);
       all = λ ps qs shown.
           packets-after a m.client.shape (Some (unmoved m)) ps refl
           ∙ ap₂ (λ (s : Stand) (xs : List Came). fold_l packet_so (Some s) xs) same shown

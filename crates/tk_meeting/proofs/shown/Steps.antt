@@ -1,8 +1,8 @@
--- How a member stands after a step follows from how it stood, and from what shows of what came.
-use Rattle.std.proofs.Common.{◌≡◌, refl, ap, sym, ◌∙◌, arith, ℕ, zero, suc, ◌+◌, ◌-◌, ◌*◌, Bool, true, false, cond}
-use Rattle.std.proofs.Common.{List, ◌∷◌, map, Option, Some, None}
+-- How a member stands before it acts follows from how it stood, and from what shows of what came.
+use Rattle.std.proofs.Common.{◌≡◌, inl, inr, refl, ap, sym, subst, ◌∙◌, arith, ℕ, zero, suc, ◌+◌, ◌-◌, ◌*◌, Bool, true, false, cond}
+use Rattle.std.proofs.Common.{List, [], ◌∷◌, map, Option, Some, None}
 use Rattle.std.specs.Prelude.{min, nat_le, nat_lt, ◌==◌, ◌&&◌, ◌||◌, replicate, slice_index, slice_index_or, slice_set}
-use Rattle.std.specs.Prelude.{Result, Ok, Err}
+use Rattle.std.specs.Prelude.{◌⊎◌, Result, Ok, Err}
 use Rattle.std.specs.Option.{option_map, is_none, is_some}
 use Rattle.tk_shape.specs.declared.shape.Shape.{Shape}
 use Rattle.tk_shape.specs.Lengths.{turn_count}
@@ -11,6 +11,7 @@ use Rattle.tk_words.specs.Words.{WordBook, BookWords, words_of}
 use Rattle.tk_client.specs.declared.open_read.OpenRead.{OpenRead}
 use Rattle.tk_client.specs.declared.say_error.SayError.{SayError}
 use Rattle.tk_client.specs.declared.take_error.TakeError.{TakeError}
+use Rattle.tk_client.specs.Writing.{Writing, with_text}
 use Rattle.tk_client.specs.Saying.{fault_of}
 use Rattle.tk_client.specs.Client.{refusal_in}
 use Rattle.tk_packets.specs.Packets.{PacketView}
@@ -23,9 +24,13 @@ use Rattle.tk_member.specs.Epochs.{Telling, known, with_epoch}
 use Rattle.tk_member.specs.Members.{MemberState}
 use Rattle.tk_member.specs.Acting.{Turned, wrote, after_turn, ahead_due, goes_ahead, ticks_due, goes_by_ticks}
 use Rattle.tk_member.specs.Acting.{may_ask, asks, unmoved, asks_if_due, acts}
-use Rattle.tk_member.specs.Steps.{said, heard, all_of, settled, settled_by, with_reply, replied, told_epoch, served, step}
+use Rattle.tk_member.specs.News.{refused_packet}
+use Rattle.tk_member.specs.Steps.{tells_and_acts, counted_up, said, heard, all_of, after_settling, told_after, settled}
+use Rattle.tk_member.specs.Steps.{settled_by, with_reply, replied, told_epoch, served, step}
 use Rattle.tk_meeting.specs.Shown.{Face, face, read_shown, Stand, stand, word_shown, Sent, Replied, Told, frame_shown}
 use Rattle.tk_meeting.specs.Shown.{Came, OfHost, OfServer, packet_shown, outcome}
+use Rattle.tk_meeting.proofs.members.Packets.{AreToHost}
+use Rattle.tk_meeting.proofs.members.Told.{news-tell, tell-to_host}
 use Rattle.tk_meeting.proofs.shown.Faces.{all-mapped, there-mapped, set-mapped, refused_by, refusal-shown}
 
 -- ---- acting
@@ -93,42 +98,26 @@ acts-stands b m =
     in
     asks-stands b second ∙ ap asked_if_due (two ∙ ap gone_by_ticks one)
 
--- ---- words of the host
+-- what becomes of it once it has acted
+abbrev pub acting : Result Stand Fault → Result Stand Fault
+acting (Ok s) = Ok (acted s)
+acting (Err fault) = Err fault
+
+-- ---- how it stands before it acts
 
 unfoldable pub heard_so : Stand → Option HostWord → Result Stand Fault
 heard_so s None = Err Peer
-heard_so s (Some (Say log text)) = Ok (acted s)
-heard_so s (Some Tick) = Ok (acted (record s { ticks = min (s.ticks + 1) (turn_count s.shape) }))
-heard_so s (Some (Ahead turns)) = Ok (acted (record s { ahead = min (s.ahead + turns) (turn_count s.shape) }))
-heard_so s (Some (Has packets)) = cond (nat_lt (s.written + s.asked) packets) (Err Older) (Ok (acted s))
-
-said-outcome : (b : WordBook) (m : MemberState) (log : ℕ) (text : List ℕ) (o : Option SayError) →
-    outcome (said b m log text o) ≡ Ok (acted (stand m))
-said-outcome b m log text (Some error) = ap Ok (acts-stands b m)
-said-outcome b m log text None = ap Ok (acts-stands b _)
-
-pub heard-outcome : (b : WordBook) (m : MemberState) (word : Option HostWord) →
-    outcome (heard b m word) ≡ heard_so (stand m) (word_shown word)
-unfolding heard_so
-heard-outcome b m None = refl
-heard-outcome b m (Some (Say log text)) =
-    said-outcome b m log text (fault_of m.client.shape m.client.writing.logs log text)
-heard-outcome b m (Some Tick) = ap Ok (acts-stands b _)
-heard-outcome b m (Some (Ahead turns)) = ap Ok (acts-stands b _)
-heard-outcome b m (Some (Has packets)) = either (nat_lt (m.written + m.asked) packets)
-  where
-    either : (t : Bool) → outcome (cond t (Err Older) (Ok (acts b m))) ≡ cond t (Err Older) (Ok (acted (stand m)))
-    either true = refl
-    either false = ap Ok (acts-stands b m)
-
--- ---- frames of servers
+heard_so s (Some (Say log text)) = Ok s
+heard_so s (Some Tick) = Ok (record s { ticks = min (s.ticks + 1) (turn_count s.shape) })
+heard_so s (Some (Ahead turns)) = Ok (record s { ahead = min (s.ahead + turns) (turn_count s.shape) })
+heard_so s (Some (Has packets)) = cond (nat_lt (s.written + s.asked) packets) (Err Older) (Ok s)
 
 unfoldable pub settled_so : Stand → Option TakeError → Result Stand Fault
 settled_so s (Some error) = Err Refused
-settled_so s None = Ok (acted (record s { read = None; replies = replicate s.shape.servers None }))
+settled_so s None = Ok (record s { read = None; replies = replicate s.shape.servers None })
 
 unfoldable pub settled_by_so : Stand → Option (List Face) → Result Stand Fault
-settled_by_so s None = Ok (acted s)
+settled_by_so s None = Ok s
 settled_by_so s (Some faces) = settled_so s (refused_by s.number faces s.read)
 
 unfoldable pub replied_so : Stand → ℕ → Face → Result Stand Fault
@@ -139,7 +128,7 @@ replied_so s j f =
 
 unfoldable pub told_so : Stand → Result (List Telling) Fault → Result Stand Fault
 told_so s (Err fault) = Err fault
-told_so s (Ok told) = Ok (acted (record s { told = told }))
+told_so s (Ok told) = Ok (record s { told = told })
 
 unfoldable pub served_so : Stand → ℕ → Sent → Result Stand Fault
 served_so s j (Replied f) = replied_so s j f
@@ -147,107 +136,217 @@ served_so s j (Told frame) =
     let kind = slice_index frame 0 in
     cond (kind == 0x0b) (told_so s (with_epoch s.shape s.told j frame)) (cond (kind == 0x0c) (Err Refused) (Err Peer))
 
-none-faces : (shape : Shape) (n : ℕ) → map (option_map (face shape)) (replicate n None) ≡ replicate n None
-none-faces shape zero = refl
-none-faces shape (suc n) = ap (λ xs. None ∷ xs) (none-faces shape n)
-
-settled-outcome : (b : WordBook) (m : MemberState) (replies : List (List ℕ)) (o : Option TakeError) →
-    outcome (settled b m replies o) ≡ settled_so (stand m) o
-unfolding settled_so
-settled-outcome b m replies (Some error) = refl
-settled-outcome b m replies None =
-    ap Ok (acts-stands b _
-    ∙ ap (λ (faces : List (Option Face)). acted (record (stand m) { read = None; replies = faces }))
-    (none-faces m.client.shape m.client.shape.servers))
-
-settled_by-outcome : (b : WordBook) (m : MemberState) (o : Option (List (List ℕ))) →
-    outcome (settled_by b m o) ≡ settled_by_so (stand m) (option_map (map (face m.client.shape)) o)
-unfolding settled_by_so
-settled_by-outcome b m None = ap Ok (acts-stands b m)
-settled_by-outcome b m (Some replies) =
-    settled-outcome b m replies (refusal_in replies m.client)
-    ∙ ap (settled_so (stand m)) (refusal-shown m.client.shape m.client.number replies m.client.read)
-
-replied-outcome : (b : WordBook) (m : MemberState) (j : ℕ) (reply : List ℕ) →
-    outcome (replied b m j reply) ≡ replied_so (stand m) j (face m.client.shape reply)
-unfolding replied_so
-replied-outcome b m j reply =
-    let shape = m.client.shape in
-    let f = face shape in
-    let now : MemberState = with_reply m j reply in
-    let faces : map (option_map f) now.replies ≡ slice_set (map (option_map f) m.replies) (j - 1) (Some (f reply)) =
-    set-mapped (option_map f) m.replies (j - 1) (Some reply)
-    in
-    let settles : outcome (settled_by b now (all_of now.replies))
-    ≡ settled_by_so (record (stand m) { replies = slice_set (stand m).replies (j - 1) (Some (f reply)) })
-    (all_of (slice_set (stand m).replies (j - 1) (Some (f reply)))) =
-    settled_by-outcome b now (all_of now.replies)
-    ∙ ap (settled_by_so (stand now)) (all-mapped f now.replies)
-    ∙ ap (λ (xs : List (Option Face)). settled_by_so (record (stand m) { replies = xs }) (all_of xs)) faces
-    in
-    either (is_none m.client.read || is_some (slice_index_or m.replies (j - 1) None)) _ _ settles
-    ∙ (λ i. cond (sym (none-shown m.client.read) i || sym (there-mapped f m.replies (j - 1)) i) (Err Peer)
-    (settled_by_so (record (stand m) { replies = slice_set (stand m).replies (j - 1) (Some (f reply)) })
-    (all_of (slice_set (stand m).replies (j - 1) (Some (f reply))))))
-  where
-    either : (t : Bool) (r : Result Turned Fault) (s : Result Stand Fault) → outcome r ≡ s →
-        outcome (cond t (Err Peer) r) ≡ cond t (Err Peer) s
-    either true r s same = refl
-    either false r s same = same
-
-told-outcome : (b : WordBook) (m : MemberState) (r : Result (List Telling) Fault) →
-    outcome (told_epoch b m r) ≡ told_so (stand m) r
-unfolding told_so
-told-outcome b m (Err fault) = refl
-told-outcome b m (Ok told) = ap Ok (acts-stands b _)
-
-pub served-outcome : (b : WordBook) (m : MemberState) (j : ℕ) (frame : List ℕ) →
-    outcome (served b m j frame) ≡ served_so (stand m) j (frame_shown m.client.shape frame)
-unfolding served_so
-served-outcome b m j frame =
-    first (slice_index frame 0 == 3)
-  where
-    last : (t : Bool) → outcome (cond t (Err Refused) (Err Peer)) ≡ cond t (Err Refused) (Err Peer)
-    last true = refl
-    last false = refl
-
-    second : (t : Bool) →
-        outcome (cond t (told_epoch b m (with_epoch m.client.shape m.told j frame))
-        (cond (slice_index frame 0 == 0x0c) (Err Refused) (Err Peer)))
-        ≡ cond t (told_so (stand m) (with_epoch m.client.shape m.told j frame))
-        (cond (slice_index frame 0 == 0x0c) (Err Refused) (Err Peer))
-    second true = told-outcome b m (with_epoch m.client.shape m.told j frame)
-    second false = last (slice_index frame 0 == 0x0c)
-
-    first : (t : Bool) →
-        outcome (cond t (replied b m j frame)
-        (cond (slice_index frame 0 == 0x0b) (told_epoch b m (with_epoch m.client.shape m.told j frame))
-        (cond (slice_index frame 0 == 0x0c) (Err Refused) (Err Peer))))
-        ≡ served_so (stand m) j (cond t (Replied (face m.client.shape frame)) (Told frame))
-    first true = replied-outcome b m j frame
-    first false = second (slice_index frame 0 == 0x0b)
-
--- ---- any packet
-
 unfoldable pub step_so : Stand → Came → Result Stand Fault
 step_so s (OfHost word) = heard_so s word
 step_so s (OfServer j sent) = cond (nat_le j s.shape.servers) (served_so s j sent) (Err Peer)
 
+-- ---- a member before it acts
+
+-- it goes on to act, with this to write after so many turns, and stands so
+pub record Readies (b : WordBook) (writing : Writing) (written : ℕ) (shape : Shape) (number : ℕ)
+    (result : Result Turned Fault) (ready : Result Stand Fault) : Type 0 where
+  pub first : MemberState
+  pub told : List PacketView
+  pub is : result ≡ tells_and_acts b told first
+  pub stands : ready ≡ Ok (stand first)
+  pub writing_is : first.client.writing ≡ writing
+  pub written_is : first.written ≡ written
+  pub shape_is : first.client.shape ≡ shape
+  pub number_is : first.client.number ≡ number
+  pub to_host : AreToHost told
+
+-- it has ended
+pub record Ends (result : Result Turned Fault) (ready : Result Stand Fault) : Type 0 where
+  pub fault : Fault
+  pub is : result ≡ Err fault
+  pub ready_is : ready ≡ Err fault
+
+abbrev pub EndsOrReadies : WordBook → Writing → MemberState → Result Turned Fault → Result Stand Fault → Type 0
+EndsOrReadies b writing m result ready =
+    Ends result ready ⊎ Readies b writing m.written m.client.shape m.client.number result ready
+
+-- a member that acts as it is
+as-is : (b : WordBook) (told : List PacketView) (m : MemberState) → AreToHost told →
+    Readies b m.client.writing m.written m.client.shape m.client.number (tells_and_acts b told m) (Ok (stand m))
+as-is b told m to_host =
+    record {
+      first = m;
+      told = told;
+      is = refl;
+      stands = refl;
+      writing_is = refl;
+      written_is = refl;
+      shape_is = refl;
+      number_is = refl;
+      to_host = to_host;
+    }
+
+-- by a test it ends or not
+unless-ends : (b : WordBook) (writing : Writing) (m : MemberState) (t : Bool) (fault : Fault)
+    (r : Result Turned Fault) (s : Result Stand Fault) → EndsOrReadies b writing m r s →
+    EndsOrReadies b writing m (cond t (Err fault) r) (cond t (Err fault) s)
+unless-ends b writing m true fault r s goes = inl (record { fault = fault; is = refl; ready_is = refl })
+unless-ends b writing m false fault r s goes = goes
+
+-- by a test one of two
+pub either-goes : (b : WordBook) (writing : Writing) (m : MemberState) (t : Bool) (r r' : Result Turned Fault)
+    (s s' : Result Stand Fault) → EndsOrReadies b writing m r s → EndsOrReadies b writing m r' s' →
+    EndsOrReadies b writing m (cond t r r') (cond t s s')
+either-goes b writing m true r r' s s' goes goes' = goes
+either-goes b writing m false r r' s s' goes goes' = goes'
+
+-- ---- words of the host
+
+unfoldable pub said_writing : ℕ → List ℕ → Option SayError → Writing → Writing
+said_writing log text (Some error) writing = writing
+said_writing log text None writing = with_text log text writing
+
+said-readies : (b : WordBook) (m : MemberState) (log : ℕ) (text : List ℕ) (o : Option SayError) →
+    EndsOrReadies b (said_writing log text o m.client.writing) m (said b m log text o) (Ok (stand m))
+unfolding said_writing
+said-readies b m log text (Some error) = inr (as-is b (refused_packet log error ∷ []) m (refl, tt))
+said-readies b m log text None =
+    let writing = with_text log text m.client.writing in
+    inr (as-is b [] (record m { client = record m.client { writing = writing } }) tt)
+
+-- what it then has to write
+unfoldable pub heard_writing : MemberState → Option HostWord → Writing
+heard_writing m None = m.client.writing
+heard_writing m (Some (Say log text)) =
+    said_writing log text (fault_of m.client.shape m.client.writing.logs log text) m.client.writing
+heard_writing m (Some Tick) = m.client.writing
+heard_writing m (Some (Ahead turns)) = m.client.writing
+heard_writing m (Some (Has packets)) = m.client.writing
+
+pub heard-readies : (b : WordBook) (m : MemberState) (word : Option HostWord) →
+    EndsOrReadies b (heard_writing m word) m (heard b m word) (heard_so (stand m) (word_shown word))
+unfolding heard_so heard_writing
+heard-readies b m None = inl (record { fault = Peer; is = refl; ready_is = refl })
+heard-readies b m (Some (Say log text)) =
+    said-readies b m log text (fault_of m.client.shape m.client.writing.logs log text)
+heard-readies b m (Some Tick) = inr (as-is b [] (record m { ticks = counted_up m (m.ticks + 1) }) tt)
+heard-readies b m (Some (Ahead turns)) = inr (as-is b [] (record m { ahead = counted_up m (m.ahead + turns) }) tt)
+heard-readies b m (Some (Has packets)) =
+    unless-ends b m.client.writing m (nat_lt (m.written + m.asked) packets) Older (tells_and_acts b [] m)
+    (Ok (stand m)) (inr (as-is b [] m tt))
+
+-- ---- frames of servers
+
+none-faces : (shape : Shape) (n : ℕ) → map (option_map (face shape)) (replicate n None) ≡ replicate n None
+none-faces shape zero = refl
+none-faces shape (suc n) = ap (λ xs. None ∷ xs) (none-faces shape n)
+
+settled-readies : (b : WordBook) (m : MemberState) (replies : List (List ℕ)) (o : Option TakeError) →
+    EndsOrReadies b m.client.writing m (settled b m replies o) (settled_so (stand m) o)
+unfolding settled_so
+settled-readies b m replies (Some error) = inl (record { fault = Refused; is = refl; ready_is = refl })
+settled-readies b m replies None =
+    let shape = m.client.shape in
+    let words = words_of shape b in
+    let after = after_settling words replies m in
+    let ready : List (Option Face) → Result Stand Fault = λ faces. Ok (record (stand m) { read = None; replies = faces })
+    in
+    subst (λ (faces : List (Option Face)).
+    EndsOrReadies b m.client.writing m (tells_and_acts b (told_after words replies m) after) (ready faces))
+    (none-faces shape shape.servers)
+    (inr (as-is b (told_after words replies m) after
+    (tell-to_host (told_after words replies m) (news-tell shape m.client.reader after.client.reader))))
+
+settled_by-readies : (b : WordBook) (m : MemberState) (o : Option (List (List ℕ))) →
+    EndsOrReadies b m.client.writing m (settled_by b m o)
+    (settled_by_so (stand m) (option_map (map (face m.client.shape)) o))
+unfolding settled_by_so
+settled_by-readies b m None = inr (as-is b [] m tt)
+settled_by-readies b m (Some replies) =
+    subst (λ (o : Option TakeError).
+    EndsOrReadies b m.client.writing m (settled b m replies (refusal_in replies m.client)) (settled_so (stand m) o))
+    (refusal-shown m.client.shape m.client.number replies m.client.read)
+    (settled-readies b m replies (refusal_in replies m.client))
+
+replied-readies : (b : WordBook) (m : MemberState) (j : ℕ) (reply : List ℕ) →
+    EndsOrReadies b m.client.writing m (replied b m j reply) (replied_so (stand m) j (face m.client.shape reply))
+unfolding replied_so
+replied-readies b m j reply =
+    let shape = m.client.shape in
+    let f = face shape in
+    let now : MemberState = with_reply m j reply in
+    let faces = slice_set (stand m).replies (j - 1) (Some (f reply)) in
+    let same : map (option_map f) now.replies ≡ faces =
+    set-mapped (option_map f) m.replies (j - 1) (Some reply)
+    in
+    let ready : List (Option Face) → Option (List Face) → Result Stand Fault =
+    λ xs o. settled_by_so (record (stand m) { replies = xs }) o
+    in
+    let none = is_none m.client.read in
+    let there = is_some (slice_index_or m.replies (j - 1) None) in
+    let path : cond (none || there) (Err Peer)
+    (settled_by_so (stand now) (option_map (map f) (all_of now.replies)))
+    ≡ cond (is_none (stand m).read || is_some (slice_index_or (stand m).replies (j - 1) None)) (Err Peer)
+    (ready faces (all_of faces)) =
+    (λ i. cond (sym (none-shown m.client.read) i || sym (there-mapped f m.replies (j - 1)) i) (Err Peer)
+    (ready (map (option_map f) now.replies) (all-mapped f now.replies i)))
+    ∙ ap (λ (xs : List (Option Face)).
+    cond (is_none (stand m).read || is_some (slice_index_or (stand m).replies (j - 1) None)) (Err Peer)
+    (ready xs (all_of xs))) same
+    in
+    subst (EndsOrReadies b m.client.writing m (replied b m j reply)) path
+    (unless-ends b m.client.writing m (none || there) Peer (settled_by b now (all_of now.replies))
+    (settled_by_so (stand now) (option_map (map f) (all_of now.replies)))
+    (settled_by-readies b now (all_of now.replies)))
+
+told-readies : (b : WordBook) (m : MemberState) (r : Result (List Telling) Fault) →
+    EndsOrReadies b m.client.writing m (told_epoch b m r) (told_so (stand m) r)
+unfolding told_so
+told-readies b m (Err fault) = inl (record { fault = fault; is = refl; ready_is = refl })
+told-readies b m (Ok told) = inr (as-is b [] (record m { told = told }) tt)
+
+pub served-readies : (b : WordBook) (m : MemberState) (j : ℕ) (frame : List ℕ) →
+    EndsOrReadies b m.client.writing m (served b m j frame)
+    (served_so (stand m) j (frame_shown m.client.shape frame))
+unfolding served_so
+served-readies b m j frame = first (slice_index frame 0 == 3)
+  where
+    first : (t : Bool) →
+        EndsOrReadies b m.client.writing m
+        (cond t (replied b m j frame)
+        (cond (slice_index frame 0 == 0x0b) (told_epoch b m (with_epoch m.client.shape m.told j frame))
+        (cond (slice_index frame 0 == 0x0c) (Err Refused) (Err Peer))))
+        (served_so (stand m) j (cond t (Replied (face m.client.shape frame)) (Told frame)))
+    first true = replied-readies b m j frame
+    first false =
+        either-goes b m.client.writing m (slice_index frame 0 == 0x0b)
+        (told_epoch b m (with_epoch m.client.shape m.told j frame))
+        (cond (slice_index frame 0 == 0x0c) (Err Refused) (Err Peer))
+        (told_so (stand m) (with_epoch m.client.shape m.told j frame))
+        (cond (slice_index frame 0 == 0x0c) (Err Refused) (Err Peer))
+        (told-readies b m (with_epoch m.client.shape m.told j frame))
+        (unless-ends b m.client.writing m (slice_index frame 0 == 0x0c) Refused (Err Peer) (Err Peer)
+        (inl (record { fault = Peer; is = refl; ready_is = refl })))
+
+-- ---- once it has acted
+
+pub acted-outcome : (b : WordBook) (writing : Writing) (m : MemberState) (r : Result Turned Fault)
+    (s : Result Stand Fault) → EndsOrReadies b writing m r s → outcome r ≡ acting s
+acted-outcome b writing m r s (inl e) = ap outcome e.is ∙ sym (ap acting e.ready_is)
+acted-outcome b writing m r s (inr e) =
+    ap outcome e.is ∙ ap Ok (acts-stands b e.first) ∙ sym (ap acting e.stands)
+
 pub step-outcome : (b : WordBook) (m : MemberState) (p : PacketView) →
-    outcome (step b m p) ≡ step_so (stand m) (packet_shown m.client.shape p)
+    outcome (step b m p) ≡ acting (step_so (stand m) (packet_shown m.client.shape p))
 unfolding step step_so
 step-outcome b m p = first (p.peer == 0)
   where
     second : (t : Bool) →
         outcome (cond t (served b m p.peer p.bytes) (Err Peer))
-        ≡ cond t (served_so (stand m) p.peer (frame_shown m.client.shape p.bytes)) (Err Peer)
-    second true = served-outcome b m p.peer p.bytes
+        ≡ acting (cond t (served_so (stand m) p.peer (frame_shown m.client.shape p.bytes)) (Err Peer))
+    second true = acted-outcome b m.client.writing m _ _ (served-readies b m p.peer p.bytes)
     second false = refl
 
     first : (t : Bool) →
         outcome (cond t (heard b m (word_in p.bytes))
         (cond (nat_le p.peer m.client.shape.servers) (served b m p.peer p.bytes) (Err Peer)))
-        ≡ step_so (stand m)
-        (cond t (OfHost (word_shown (word_in p.bytes))) (OfServer p.peer (frame_shown m.client.shape p.bytes)))
-    first true = heard-outcome b m (word_in p.bytes)
+        ≡ acting (step_so (stand m)
+        (cond t (OfHost (word_shown (word_in p.bytes))) (OfServer p.peer (frame_shown m.client.shape p.bytes))))
+    first true =
+        acted-outcome b (heard_writing m (word_in p.bytes)) m _ _ (heard-readies b m (word_in p.bytes))
     first false = second (nat_le p.peer m.client.shape.servers)

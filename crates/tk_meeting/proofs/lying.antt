@@ -1,0 +1,16 @@
+pub mod Growth
+pub mod Writes
+pub mod Acts
+pub mod Outcomes
+pub mod Asks
+pub mod Speaks
+pub mod Went
+pub mod Books
+pub mod Alike
+pub mod Cores
+pub mod Reads
+pub mod Same
+pub mod Asked
+pub mod Tapes
+pub mod Matches
+pub mod Plays

@@ -1,0 +1,123 @@
+-- Members that stand alike ask the same of each server to which their reads show the same.
+use Rattle.std.proofs.Common.{◌≡◌, ◌≢◌, refl, sym, ap, ◌∙◌, subst, arith, ℕ, ◌≤◌, ◌<◌, Bool, true, false, cond}
+use Rattle.std.proofs.Common.{List, [], ◌∷◌, Option}
+use Rattle.std.specs.Prelude.{nat_lt, nat_le, ◌&&◌}
+use Rattle.std.specs.Option.{is_none}
+use Rattle.std.specs.List.{range_with_len}
+use Rattle.std.proofs.lemmas.Bool.{and_parts, ltb-true}
+use Rattle.tk_shape.specs.declared.shape.Shape.{Shape}
+use Rattle.tk_shape.specs.Lengths.{turn_count}
+use Rattle.tk_schedule.specs.Schedule.{phases_over}
+use Rattle.tk_script.specs.declared.script.Script.{Script}
+use Rattle.tk_words.specs.Words.{WordBook, words_of}
+use Rattle.tk_frames.specs.declared.read_frame.ReadFrame.{ReadFrame}
+use Rattle.tk_frames.specs.Spelling.{read_frame}
+use Rattle.tk_client.specs.declared.target.Target.{Target}
+use Rattle.tk_client.specs.Asked.{pair_for, frame_for}
+use Rattle.tk_client.specs.Client.{target_over}
+use Rattle.tk_privacy.specs.Privacy.{Pairs}
+use Rattle.tk_member.specs.Epochs.{filter_of, marks_at}
+use Rattle.tk_member.specs.Members.{MemberState, known_to}
+use Rattle.tk_member.specs.Acting.{packets_from, may_ask, asks, asks_if_due, unmoved, epoch_due}
+use Rattle.tk_meeting.specs.Meeting.{frames_for}
+use Rattle.tk_meeting.proofs.members.Asking.{map-map}
+use Rattle.tk_meeting.proofs.members.Packets.{own-frame}
+use Rattle.tk_meeting.specs.Shown.{Stand, stand}
+use Rattle.tk_meeting.specs.Lying.{Hidden}
+use Rattle.tk_meeting.proofs.lying.Books.{IsOf, ShowAlike}
+use Rattle.tk_meeting.proofs.shown.Steps.{asks_due, none-shown}
+
+-- what a member that asks now asks for
+abbrev target_now : WordBook → MemberState → Option Target
+target_now b m =
+    let shape = m.client.shape in
+    let epoch = epoch_due shape m.asked in
+    target_over (words_of shape b) (filter_of shape (marks_at shape m.told epoch)) epoch m.client
+
+-- the frame of its read for server j
+frame-asked : (b : WordBook) (m : MemberState) (j : ℕ) → 1 ≤ j → j ≤ m.client.shape.servers →
+    let shape = m.client.shape in
+    let pair = pair_for (words_of shape b) m.asked m.client.number (target_now b m) in
+    frames_for j (asks b m).packets
+    ≡ read_frame (frame_for shape b m.asked m.client.number (epoch_due shape m.asked) pair j) ∷ []
+frame-asked b m j low high =
+    let shape = m.client.shape in
+    let pair = pair_for (words_of shape b) m.asked m.client.number (target_now b m) in
+    let frame : ℕ → ReadFrame = frame_for shape b m.asked m.client.number (epoch_due shape m.asked) pair in
+    ap (λ (fs : List (List ℕ)). frames_for j (packets_from 1 fs))
+    (map-map read_frame frame (range_with_len 1 shape.servers))
+    ∙ own-frame (λ k. read_frame (frame k)) 1 shape.servers j low (omega (arith, high))
+
+module _ (A B : Script) (h : Hidden) (a b : WordBook) (pairs others : Pairs)
+    (show : ShowAlike A B h a b pairs others) (c : ℕ) (client : c < A.shape.clients) (m n : MemberState)
+    (shape : m.client.shape ≡ A.shape) (number : m.client.number ≡ c)
+    (other_shape : n.client.shape ≡ B.shape) (other_number : n.client.number ≡ c)
+    (within : m.written ≤ turn_count A.shape) (same : stand m ≡ stand n) where
+  -- the read frame of m, where its read is for these buckets
+  frame-first : (j : ℕ) → 1 ≤ j → j ≤ A.shape.servers → IsOf A.shape a pairs c (asks a m).member.client.read →
+      frames_for j (asks a m).packets
+      ≡ read_frame (frame_for A.shape a m.asked c (phases_over A.shape m.asked) (pairs m.asked c) j) ∷ []
+  frame-first j low high is =
+      frame-asked a m j low (subst (λ (k : Shape). j ≤ k.servers) (sym shape) high)
+      ∙ (λ i. read_frame (frame_for (shape i) a m.asked (number i) (epoch_due (shape i) m.asked)
+      (pair_for (words_of (shape i) a) m.asked (number i) (target_now a m)) j) ∷ [])
+      ∙ ap (λ (p : ℕ × ℕ). read_frame (frame_for A.shape a m.asked c (phases_over A.shape m.asked) p j) ∷ []) is
+
+  frame-second : (j : ℕ) → 1 ≤ j → j ≤ A.shape.servers → IsOf B.shape b others c (asks b n).member.client.read →
+      frames_for j (asks b n).packets
+      ≡ read_frame (frame_for B.shape b n.asked c (phases_over B.shape n.asked) (others n.asked c) j) ∷ []
+  frame-second j low high is =
+      frame-asked b n j low
+      (subst (λ (k : Shape). j ≤ k.servers) (show.one_shape ∙ sym other_shape) high)
+      ∙ (λ i. read_frame (frame_for (other_shape i) b n.asked (other_number i) (epoch_due (other_shape i) n.asked)
+      (pair_for (words_of (other_shape i) b) n.asked (other_number i) (target_now b n)) j) ∷ [])
+      ∙ ap (λ (p : ℕ × ℕ). read_frame (frame_for B.shape b n.asked c (phases_over B.shape n.asked) p j) ∷ []) is
+
+  asked_same : m.asked ≡ n.asked
+  asked_same = ap (λ (s : Stand). s.asked) same
+
+  frames-asked : (j : ℕ) → 1 ≤ j → j ≤ A.shape.servers → j ≢ h.server → m.asked < turn_count A.shape →
+      IsOf A.shape a pairs c (asks a m).member.client.read →
+      IsOf B.shape b others c (asks b n).member.client.read →
+      frames_for j (asks a m).packets ≡ frames_for j (asks b n).packets
+  frames-asked j low high differ turn is other_is =
+      let frame = λ (g e : ℕ). read_frame (frame_for B.shape b g c e (others g c) j) ∷ [] in
+      frame-first j low high is
+      ∙ ap (λ (r : ReadFrame). read_frame r ∷ [])
+      (show.reads m.asked c (phases_over A.shape m.asked) j turn client low high differ)
+      ∙ ap (λ (k : Shape). frame m.asked (phases_over k m.asked)) show.one_shape
+      ∙ ap (λ (g : ℕ). frame g (phases_over B.shape g)) asked_same
+      ∙ sym (frame-second j low high other_is)
+
+  asks-either : (t : Bool) (j : ℕ) → (t ≡ true → m.asked < turn_count A.shape) → 1 ≤ j → j ≤ A.shape.servers →
+      j ≢ h.server → IsOf A.shape a pairs c (cond t (asks a m) (unmoved m)).member.client.read →
+      IsOf B.shape b others c (cond t (asks b n) (unmoved n)).member.client.read →
+      frames_for j (cond t (asks a m) (unmoved m)).packets ≡ frames_for j (cond t (asks b n) (unmoved n)).packets
+  asks-either true j turn low high differ is other_is = frames-asked j low high differ (turn refl) is other_is
+  asks-either false j turn low high differ is other_is = refl
+
+  may-same : may_ask m ≡ may_ask n
+  may-same = may m ∙ ap asks_due same ∙ sym (may n)
+    where
+      may : (x : MemberState) → may_ask x ≡ asks_due (stand x)
+      may x =
+          ap (λ (t : Bool). nat_lt x.asked x.written && t && nat_le (epoch_due x.client.shape x.asked) (known_to x))
+          (sym (none-shown x.client.read))
+
+  due : may_ask m ≡ true → m.asked < turn_count A.shape
+  due is =
+      let known = nat_le (epoch_due m.client.shape m.asked) (known_to m) in
+      let both = and_parts (nat_lt m.asked m.written && is_none m.client.read) known is in
+      let low : m.asked < m.written =
+      ltb-true m.asked m.written (and_parts (nat_lt m.asked m.written) (is_none m.client.read) both.0).0
+      in
+      omega (arith, low, within)
+
+  pub asks-alike : (j : ℕ) → 1 ≤ j → j ≤ A.shape.servers → j ≢ h.server →
+      IsOf A.shape a pairs c (asks_if_due a m).member.client.read →
+      IsOf B.shape b others c (asks_if_due b n).member.client.read →
+      frames_for j (asks_if_due a m).packets ≡ frames_for j (asks_if_due b n).packets
+  asks-alike j low high differ is other_is =
+      let others_now : Bool → Type 0 = λ t. IsOf B.shape b others c (cond t (asks b n) (unmoved n)).member.client.read in
+      asks-either (may_ask m) j due low high differ is (subst others_now (sym may-same) other_is)
+      ∙ ap (λ (t : Bool). frames_for j (cond t (asks b n) (unmoved n)).packets) may-same

@@ -1,0 +1,99 @@
+-- What was said to members whose servers lie only grows, as it does among honest servers.
+use Rattle.std.proofs.Common.{◌≡◌, refl, sym, ◌∙◌, subst, ℕ, List, [], ◌∷◌, ◌++◌, Option, Some, None}
+use Rattle.std.specs.Prelude.{Result, Ok, Err}
+use Rattle.tk_shape.specs.declared.shape.Shape.{Shape}
+use Rattle.tk_script.specs.declared.script.Script.{Script}
+use Rattle.tk_words.specs.Words.{WordBook}
+use Rattle.tk_client.specs.declared.say_error.SayError.{SayError}
+use Rattle.tk_member.specs.declared.fault.Fault.{Fault}
+use Rattle.tk_member.specs.declared.fault.Fault.TheVariants.{Peer}
+use Rattle.tk_member.specs.Steps.{served}
+use Rattle.tk_member.specs.declared.word.HostWord.TheVariants.{Say, Tick, Ahead, Has}
+use Rattle.tk_member.specs.Members.{MemberState}
+use Rattle.tk_member.specs.Acting.{Turned}
+use Rattle.tk_meeting.specs.Meeting.{Meeting, Saying, opening, member_went}
+use Rattle.tk_meeting.specs.Events.{noted, say_fault, unless_ended, is_client, is_server}
+use Rattle.tk_meeting.specs.Laws.{Tells}
+use Rattle.tk_meeting.proofs.telling.Rising.{RisesIn, cond-has, heard-rises, served-rises}
+use Rattle.tk_meeting.proofs.telling.Growing.{Grows, grows-none, grows-next, grows-noted, grows-went}
+use Rattle.tk_meeting.proofs.telling.Foreseeing.{Foresees}
+use Rattle.tk_meeting.specs.Lying.{Deed, Says, Ticks, GoesAhead, Claims, Sends, Answers, doer, Hidden, answer_to}
+use Rattle.tk_meeting.specs.Lying.{member_does, said_more, said_after, went_on, does, after_deeds, lied}
+
+noted-is : (c : ℕ) (y : Saying) (o : Option SayError) (m : Meeting) →
+    noted c y o m ≡ record m { said = said_more m c y o }
+noted-is c y (Some error) m = refl
+noted-is c y None m = refl
+
+grows-said : (m : Meeting) (d : Deed) → Grows m (record m { said = said_after m d })
+grows-said m (Says c log text) =
+    let y : Saying = record { log = log; text = text } in
+    let o = say_fault m c log text in
+    subst (Grows m) (noted-is c y o m) (grows-noted c y o m)
+grows-said m (Ticks c) = grows-none m
+grows-said m (GoesAhead c turns) = grows-none m
+grows-said m (Claims c count) = grows-none m
+grows-said m (Sends c j frame) = grows-none m
+grows-said m (Answers c) = grows-none m
+
+does-rises : (h : Hidden) (b : WordBook) (m : MemberState) (d : Deed) → RisesIn m.written (member_does h b m d)
+does-rises h b m (Says c log text) = heard-rises b m (Some (Say log text))
+does-rises h b m (Ticks c) = heard-rises b m (Some Tick)
+does-rises h b m (GoesAhead c turns) = heard-rises b m (Some (Ahead turns))
+does-rises h b m (Claims c count) = heard-rises b m (Some (Has count))
+does-rises h b m (Sends c j frame) =
+    cond-has (RisesIn m.written) (is_server m.client.shape j) (served b m j frame) (Err Peer) (served-rises b m j frame) tt
+does-rises h b m (Answers c) =
+    served-rises b m h.server (answer_to h b m.client.shape m.client.number m.client.read)
+
+grows-went_on : (m : Meeting) (d : Deed) (r : Result Turned Fault) → RisesIn (m.members (doer d)).written r →
+    Grows m (went_on m d r)
+grows-went_on m d (Ok t) rises =
+    let said : Meeting = record m { said = said_after m d } in
+    grows-next m said (member_went said (doer d) (Ok t)) (grows-said m d) (grows-went said (doer d) (Ok t) rises)
+grows-went_on m d (Err fault) rises = grows-went m (doer d) (Err fault) rises
+
+grows-does : (shape : Shape) (h : Hidden) (b : WordBook) (m : Meeting) (d : Deed) → Grows m (does shape h b m d)
+unfolding does
+grows-does shape h b m d =
+    let c = doer d in
+    let after : Meeting = went_on m d (member_does h b (m.members c) d) in
+    let grows : Grows m after = grows-went_on m d (member_does h b (m.members c) d) (does-rises h b (m.members c) d) in
+    cond-has (Grows m) (is_client shape c) (unless_ended (m.ended c) m after) m (unless (m.ended c) after grows)
+    (grows-none m)
+  where
+    unless : (o : Option Fault) (after : Meeting) → Grows m after → Grows m (unless_ended o m after)
+    unless None after grows = grows
+    unless (Some fault) after grows = grows-none m
+
+grows-deeds : (shape : Shape) (h : Hidden) (b : WordBook) (m : Meeting) (deeds : List Deed) →
+    Grows m (after_deeds shape h b m deeds)
+unfolding after_deeds
+grows-deeds shape h b m [] = grows-none m
+grows-deeds shape h b m (d ∷ ds) =
+    grows-next m (does shape h b m d) (after_deeds shape h b (does shape h b m d) ds) (grows-does shape h b m d)
+    (grows-deeds shape h b (does shape h b m d) ds)
+
+pub deeds-append : (shape : Shape) (h : Hidden) (b : WordBook) (m : Meeting) (deeds more : List Deed) →
+    after_deeds shape h b m (deeds ++ more) ≡ after_deeds shape h b (after_deeds shape h b m deeds) more
+unfolding after_deeds
+deeds-append shape h b m [] more = refl
+deeds-append shape h b m (d ∷ ds) more = deeds-append shape h b (does shape h b m d) ds more
+
+-- at any time this much of the script is said, where the script has the texts of all that is still to be done
+pub foresees-deeds : (S : Script) (h : Hidden) (b : WordBook) (deeds more : List Deed) →
+    Tells S (lied S h b (deeds ++ more)) → Foresees S (lied S h b deeds)
+foresees-deeds S h b deeds more tells =
+    let now : Meeting = lied S h b deeds in
+    let last : Meeting = after_deeds S.shape h b now more in
+    let first : Grows (opening S) now = grows-deeds S.shape h b (opening S) deeds in
+    let next : Grows now last = grows-deeds S.shape h b now more in
+    let all : Tells S last = subst (Tells S) (deeds-append S.shape h b (opening S) deeds more) tells in
+    record {
+      each = λ c in_clients. let a = first c in let n = next c in record {
+        before = λ k low in_turns. sym (n.past k low) ∙ all c k in_clients in_turns;
+        rest = n.more;
+        here = λ in_turns. sym (all c (now.members c).written in_clients in_turns) ∙ n.here;
+        behind = λ k high. a.behind k high;
+      };
+    }

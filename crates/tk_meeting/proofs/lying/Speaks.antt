@@ -1,0 +1,171 @@
+-- A member has to write what the script has, by what was said to it, whatever servers send it.
+use Rattle.std.proofs.Common.{◌≡◌, refl, sym, ap, ◌∙◌, subst, arith, ℕ, ◌+◌, ◌≤◌, ◌<◌, Bool, true, false, cond}
+use Rattle.std.proofs.Common.{List, [], ◌∷◌, ◌++◌, Option, Some, None}
+use Rattle.std.specs.Prelude.{◌==◌}
+use Rattle.std.proofs.lemmas.Bool.{eqb-true, eqb-false, ne_eqb}
+use Rattle.tk_shape.specs.declared.shape.Shape.{Shape}
+use Rattle.tk_shape.specs.Lengths.{turn_count}
+use Rattle.tk_script.specs.declared.script.Script.{Script}
+use Rattle.tk_words.specs.Words.{WordBook}
+use Rattle.tk_client.specs.Writing.{Writing, with_text}
+use Rattle.tk_client.specs.declared.say_error.SayError.{SayError}
+use Rattle.tk_client.specs.Saying.{fault_of}
+use Rattle.tk_member.specs.Members.{MemberState}
+use Rattle.tk_member.specs.Acting.{Turned, asks, unmoved, may_ask, asks_if_due, acts}
+use Rattle.tk_meeting.specs.Meeting.{Meeting, Saying, changed}
+use Rattle.tk_meeting.specs.Events.{say_fault}
+use Rattle.tk_meeting.proofs.Canonical.{with_sayings}
+use Rattle.tk_meeting.proofs.Standing.{IsForetold}
+use Rattle.tk_meeting.proofs.telling.Foreseeing.{ForeseesOf}
+use Rattle.tk_meeting.proofs.courses.Picks.{itself}
+use Rattle.tk_meeting.specs.Shown.{Stand, stand}
+use Rattle.tk_meeting.specs.Lying.{Deed, Says, Ticks, GoesAhead, Claims, Sends, Answers, doer, said_more, said_after}
+use Rattle.tk_meeting.proofs.shown.Steps.{acts-stands}
+use Rattle.tk_meeting.proofs.lying.Writes.{queue}
+use Rattle.tk_meeting.proofs.lying.Acts.{ahead_of, ticks_of, acted-written, Written, acts-so}
+use Rattle.tk_meeting.proofs.shown.Steps.{said_writing, heard_writing}
+use Rattle.tk_meeting.proofs.lying.Outcomes.{does_writing}
+
+-- a member to which this was said, by turns
+pub record Speaks (S : Script) (c : ℕ) (said : ℕ → List Saying) (m : MemberState) : Type 0 where
+  pub shape : m.client.shape ≡ S.shape
+  pub number : m.client.number ≡ c
+  pub writing : m.client.writing ≡ queue S c m.written (said m.written)
+  pub within : m.written ≤ turn_count S.shape
+  pub later : (k : ℕ) → m.written < k → said k ≡ []
+
+-- ---- a text more
+
+said-one : (saids : List Saying) (log : ℕ) (text : List ℕ) (w : Writing) →
+    with_text log text (with_sayings saids w) ≡ with_sayings (saids ++ record { log = log; text = text } ∷ []) w
+unfolding with_sayings
+said-one [] log text w = refl
+said-one (y ∷ ys) log text w = said-one ys log text (with_text y.log y.text w)
+
+module _ (S : Script) (m : Meeting) (c : ℕ) (speaks : Speaks S c (m.said c) (m.members c)) where
+  abbrev member : MemberState
+  member = m.members c
+
+  -- what it has to write then is what was said to it then, also for later turns
+  pub record Queued (said : ℕ → List Saying) (writing : Writing) : Type 0 where
+    pub writing_is : writing ≡ queue S c member.written (said member.written)
+    pub later : (k : ℕ) → member.written < k → said k ≡ []
+
+  queued_as : Queued (m.said c) member.client.writing
+  queued_as = record { writing_is = speaks.writing; later = speaks.later }
+
+  queued_said : (log : ℕ) (text : List ℕ) (o : Option SayError) →
+      Queued (said_more m c (record { log = log; text = text }) o c) (said_writing log text o member.client.writing)
+  unfolding said_writing
+  queued_said log text (Some error) = queued_as
+  queued_said log text None =
+      let y : Saying = record { log = log; text = text } in
+      let g = member.written in
+      let mine : ℕ → List Saying = changed g (m.said c g ++ y ∷ []) (m.said c) in
+      let own : changed c mine m.said c ≡ mine = λ i. cond (itself c i) mine (m.said c) in
+      let here : mine g ≡ m.said c g ++ y ∷ [] = λ i. cond (itself g i) (m.said c g ++ y ∷ []) (m.said c g) in
+      record {
+        writing_is =
+            ap (with_text log text) speaks.writing
+            ∙ said-one (m.said c g) log text _
+            ∙ ap (queue S c g) (sym here)
+            ∙ ap (λ (s : ℕ → List Saying). queue S c g (s g)) (sym own);
+        later = λ k past.
+            ap (λ (s : ℕ → List Saying). s k) own
+            ∙ (λ i. cond (ne_eqb k g (λ e. omega (arith, e, past)) i) (m.said c g ++ y ∷ []) (m.said c k))
+            ∙ speaks.later k past;
+      }
+
+  pub queued : (d : Deed) → doer d ≡ c → Queued (said_after m d c) (does_writing member d)
+  unfolding does_writing heard_writing
+  queued (Says e log text) is =
+      subst (λ (k : ℕ). Queued (said_more m k (record { log = log; text = text }) (say_fault m k log text) c)
+      (does_writing member (Says k log text))) (sym is)
+      (queued_said log text (fault_of member.client.shape member.client.writing.logs log text))
+  queued (Ticks e) is = queued_as
+  queued (GoesAhead e turns) is = queued_as
+  queued (Claims e count) is = queued_as
+  queued (Sends e j frame) is = queued_as
+  queued (Answers e) is = queued_as
+
+-- ---- acting
+
+asked-shape : (b : WordBook) (m : MemberState) → (asks_if_due b m).member.client.shape ≡ m.client.shape
+asked-shape b m = either (may_ask m)
+  where
+    either : (t : Bool) → (cond t (asks b m) (unmoved m)).member.client.shape ≡ m.client.shape
+    either true = refl
+    either false = refl
+
+asked-number : (b : WordBook) (m : MemberState) → (asks_if_due b m).member.client.number ≡ m.client.number
+asked-number b m = either (may_ask m)
+  where
+    either : (t : Bool) → (cond t (asks b m) (unmoved m)).member.client.number ≡ m.client.number
+    either true = refl
+    either false = refl
+
+asked-writing : (b : WordBook) (m : MemberState) → (asks_if_due b m).member.client.writing ≡ m.client.writing
+asked-writing b m = either (may_ask m)
+  where
+    either : (t : Bool) → (cond t (asks b m) (unmoved m)).member.client.writing ≡ m.client.writing
+    either true = refl
+    either false = refl
+
+-- so many turns it wrote when it has acted
+abbrev pub written_then : MemberState → ℕ
+written_then m = m.written + ahead_of (stand m) + ticks_of (stand m)
+
+pub acts-written : (b : WordBook) (m : MemberState) → (acts b m).member.written ≡ written_then m
+acts-written b m = ap (λ (s : Stand). s.written) (acts-stands b m) ∙ acted-written (stand m)
+
+module _ (S : Script) (b : WordBook) (c : ℕ) (client : c < S.shape.clients) (m : MemberState)
+    (said : ℕ → List Saying) (shape : m.client.shape ≡ S.shape) (number : m.client.number ≡ c)
+    (writing : m.client.writing ≡ queue S c m.written (said m.written))
+    (later : (k : ℕ) → m.written < k → said k ≡ []) (before_in : m.written ≤ turn_count S.shape)
+    (foresees : ForeseesOf S c (acts b m).member.written said) where
+  pub within_then : written_then m ≤ turn_count S.shape
+  within_then =
+      let turns = turn_count m.client.shape in
+      let low : m.written ≤ turns = subst (λ (k : Shape). m.written ≤ turn_count k) (sym shape) before_in in
+      let ahead : m.written + ahead_of (stand m) ≤ turns = omega (arith, low) in
+      let all : written_then m ≤ turns = omega (arith, ahead) in
+      subst (λ (k : Shape). written_then m ≤ turn_count k) shape all
+
+  foretold : IsForetold S c m.written (written_then m) (said m.written)
+  foretold =
+      let n : (acts b m).member.written ≡ written_then m = acts-written b m in
+      let within = within_then in
+      record {
+        here = λ more. foresees.before m.written (omega (arith, n, more)) (omega (arith, more, within));
+        behind = λ k past more.
+            sym (foresees.before k (omega (arith, n, more)) (omega (arith, more, within))) ∙ later k past;
+      }
+
+  pub written-so : Written S b c m (said m.written)
+  written-so = acts-so S b c m (said m.written) shape number writing within_then foretold
+
+  -- what was said for the turn that it then writes next
+  said-then : (t : Bool) → (m.written == written_then m) ≡ t →
+      cond t (said m.written) [] ≡ said (written_then m)
+  said-then true is = ap said (eqb-true m.written (written_then m) is)
+  said-then false is =
+      sym (later (written_then m)
+      (omega (arith, eqb-false m.written (written_then m) is)))
+
+  pub speaks-then : Speaks S c said (acts b m).member
+  speaks-then =
+      let w = written-so in
+      let n : (acts b m).member.written ≡ written_then m = acts-written b m in
+      let member : (acts b m).member ≡ (asks_if_due b w.last).member =
+      ap (λ (t : Turned). t.member) w.acts_are
+      in
+      record {
+        shape = ap (λ (x : MemberState). x.client.shape) member ∙ asked-shape b w.last ∙ w.shape;
+        number = ap (λ (x : MemberState). x.client.number) member ∙ asked-number b w.last ∙ w.number;
+        writing =
+            ap (λ (x : MemberState). x.client.writing) member ∙ asked-writing b w.last ∙ w.writing
+            ∙ ap (queue S c (written_then m)) (said-then (m.written == written_then m) refl)
+            ∙ ap (λ (k : ℕ). queue S c k (said k)) (sym n);
+        within = subst (λ (k : ℕ). k ≤ turn_count S.shape) (sym n) within_then;
+        later = λ k past. later k (omega (arith, n, past));
+      }
