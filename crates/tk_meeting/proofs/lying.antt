@@ -1,5 +1,4 @@
 pub mod Growth
-pub mod Writes
 pub mod Acts
 pub mod Outcomes
 pub mod Asks
@@ -14,3 +13,5 @@ pub mod Asked
 pub mod Tapes
 pub mod Matches
 pub mod Plays
+pub mod Said
+pub mod Often

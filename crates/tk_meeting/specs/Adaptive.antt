@@ -1,14 +1,15 @@
 -- Servers that lie by all that they have seen so far.
-use Rattle.std.specs.Prelude.{◌≡◌, ℕ, zero, suc, ◌+◌, List, [], ◌∷◌, ◌++◌, map, Option}
+use Rattle.std.specs.Prelude.{◌≡◌, ℕ, zero, suc, ◌+◌, Bool, List, [], ◌∷◌, ◌++◌, length, map, Option}
 use Rattle.std.specs.List.{range_with_len}
 use Rattle.tk_shape.specs.declared.shape.Shape.{Shape}
+use Rattle.tk_shape.specs.Lengths.{tape_len}
 use Rattle.tk_script.specs.declared.script.Script.{Script}
 use Rattle.tk_words.specs.Words.{WordBook, drawn}
-use Rattle.tk_privacy.specs.Counts.{all_but}
+use Rattle.tk_privacy.specs.Counts.{all_but, count_tapes}
 use Rattle.tk_member.specs.declared.fault.Fault.{Fault}
 use Rattle.tk_meeting.specs.Meeting.{Meeting, Saying}
 use Rattle.tk_meeting.specs.Laws.{Tells}
-use Rattle.tk_meeting.specs.Lying.{Deed, Says, Ticks, GoesAhead, Claims, Sends, Answers, Hidden, lied}
+use Rattle.tk_meeting.specs.Lying.{Deed, Says, Ticks, GoesAhead, Claims, Sends, Answers, Hidden, lied, DoAlike}
 use Rattle.tk_meeting.specs.Matched.{AreGroups, AreMatched}
 
 -- what all servers but the hidden one see together: the frames that each got of each client, and of each client why it
@@ -74,3 +75,18 @@ LiarsPlayAlike =
     AreMatched A B h one.deeds deeds u v → Tells A (lied A h (drawn u) one.deeds) →
     Tells B (lied B h (drawn v) deeds) →
     PlayAlike one (play B h (drawn v) liars others steps) deeds
+
+-- ---- by counting
+
+-- over each tape a script has what is said by these deeds
+abbrev pub TellsLied : Script → Hidden → List Deed → Type 0
+TellsLied S h deeds = (u : List ℕ) → length u ≡ tape_len S.shape → Tells S (lied S h (drawn u) deeds)
+
+-- Whatever liars whose deeds are settled beforehand look for in what they see at any time, they find it over as many
+-- tapes of the one group as of the other.
+abbrev pub LiarsAsOften : Type 0
+LiarsAsOften =
+    (A B : Script) (h : Hidden) → AreGroups A B h → (deeds more others rest : List Deed) → DoAlike deeds others →
+    TellsLied A h (deeds ++ more) → TellsLied B h (others ++ rest) → (test : Sight → Bool) →
+    count_tapes (tape_len A.shape) (λ u. test (sight A.shape h (lied A h (drawn u) deeds)))
+    ≡ count_tapes (tape_len B.shape) (λ v. test (sight B.shape h (lied B h (drawn v) others)))

@@ -4,10 +4,10 @@ pub mod OwnBooks
 pub mod Laws
 pub mod Delivery
 pub mod Hidden
-pub mod Scripts
 pub mod Pacing
 pub mod Counted
 pub mod Shown
 pub mod Lying
+pub mod Scripts
 pub mod Matched
 pub mod Adaptive

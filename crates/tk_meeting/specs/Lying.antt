@@ -1,7 +1,8 @@
 -- The members of a group apart whose servers lie. One server is hidden: it tells nobody what it gets, and answers each
 -- read over the writes that it holds. Whatever else comes to a member is what those like who have the other servers
 -- and the network.
-use Rattle.std.specs.Prelude.{◌≡◌, ◌≢◌, ℕ, ◌≤◌, ◌<◌, cond, List, [], ◌∷◌, ◌++◌, map, Option, Some, None, Result, Ok, Err}
+use Rattle.std.specs.Prelude.{◌≡◌, ◌≢◌, ℕ, ◌≤◌, ◌<◌, cond, List, [], ◌∷◌, ◌++◌, map, Option, Some, None, Result, Ok}
+use Rattle.std.specs.Prelude.{Err}
 use Rattle.tk_shape.specs.declared.shape.Shape.{Shape}
 use Rattle.tk_shape.specs.Lengths.{width}
 use Rattle.tk_kernel.specs.Pieces.{AllSized}

@@ -4,6 +4,7 @@ use Rattle.tk_script.specs.declared.script.Script.{Script}
 use Rattle.tk_words.specs.Words.{WordBook}
 use Rattle.tk_meeting.specs.Events.{Event, met}
 use Rattle.tk_meeting.specs.Laws.{Tells}
+use Rattle.tk_meeting.specs.Lying.{Deed, Hidden, HoldsBlocks, lied}
 
 -- a script of the same group that has what was said
 pub record HasScript (S : Script) (books : ℕ → WordBook) (events : List Event) : Type 0 where
@@ -17,3 +18,18 @@ pub record HasScript (S : Script) (books : ℕ → WordBook) (events : List Even
 abbrev pub MeetingsHaveScripts : Type 0
 MeetingsHaveScripts =
     (S : Script) (books : ℕ → WordBook) (events : List Event) → HasScript S books events
+
+-- ---- where servers lie
+
+-- a script of the same group that has what was said, whatever words its clients have
+pub record HasLiedScript (S : Script) (h : Hidden) (deeds : List Deed) : Type 0 where
+  pub script : Script
+  pub same_shape : script.shape ≡ S.shape
+  pub same_keys : script.keys ≡ S.keys
+  pub same_roles : script.roles ≡ S.roles
+  pub tells : (b : WordBook) → Tells script (lied script h b deeds)
+
+-- Whatever is done to a group whose servers lie, there is such a script.
+abbrev pub LiedHaveScripts : Type 0
+LiedHaveScripts =
+    (S : Script) (h : Hidden) (deeds : List Deed) → HoldsBlocks S.shape h → HasLiedScript S h deeds

@@ -1,5 +1,5 @@
 //! Why a group on several machines does what the serial run does, and looks the same to all servers but one.
-ghost use Rattle.tk_meeting.specs.Adaptive.{LiarsPlayAlike};
+ghost use Rattle.tk_meeting.specs.Adaptive.{LiarsAsOften, LiarsPlayAlike};
 ghost use Rattle.tk_meeting.specs.Counted.{MeetingsAsOften};
 ghost use Rattle.tk_meeting.specs.Delivery.{MeetingsDeliver};
 ghost use Rattle.tk_meeting.specs.Hidden.{MeetingsLookAlike};
@@ -7,7 +7,7 @@ ghost use Rattle.tk_meeting.specs.Laws.{MeetingsAreSerial};
 ghost use Rattle.tk_meeting.specs.Matched.{HonestHold, LiarsSeeAlike, MatchedOneToOne};
 ghost use Rattle.tk_meeting.specs.OwnBooks.{OwnKeysServe};
 ghost use Rattle.tk_meeting.specs.Pacing.{MeetingsKeepPace};
-ghost use Rattle.tk_meeting.specs.Scripts.{MeetingsHaveScripts};
+ghost use Rattle.tk_meeting.specs.Scripts.{LiedHaveScripts, MeetingsHaveScripts};
 ghost use Rattle.tk_meeting.specs.Shown.{MembersActAlike};
 
 /// Two groups in which the same happens but for what is said: whatever all servers but the hidden one look for at any
@@ -78,7 +78,19 @@ pub fn liars_play_alike()
     ensures { LiarsPlayAlike }
 {}
 
+/// Whatever liars whose deeds are settled beforehand look for in what they see at any time, they find it over as many
+/// tapes of one group as of another one, in which the same is done but for what is said.
+pub fn liars_as_often()
+    ensures { LiarsAsOften }
+{}
+
 /// A hidden server that holds the writes of a run is one of which the laws on liars speak.
 pub fn honest_hold()
     ensures { HonestHold }
+{}
+
+/// Whatever is done to a group whose servers lie, there is a script that has what was said, whatever words its clients
+/// have.
+pub fn lied_have_scripts()
+    ensures { LiedHaveScripts }
 {}

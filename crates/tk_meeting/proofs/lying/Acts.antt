@@ -1,5 +1,6 @@
 -- What any member does when it acts: it writes what the serial run has it write, and then asks if a read is due.
-use Rattle.std.proofs.Common.{◌≡◌, refl, sym, ap, ap₂, ◌∙◌, arith, ℕ, zero, suc, ◌+◌, ◌-◌, ◌*◌, ◌≤◌, Bool, true, false, cond}
+use Rattle.std.proofs.Common.{◌≡◌, refl, ap, ◌∙◌, arith, ℕ, ◌+◌, ◌-◌, ◌*◌, ◌≤◌, Bool, true}
+use Rattle.std.proofs.Common.{false, cond}
 use Rattle.std.proofs.Common.{List}
 use Rattle.std.specs.Prelude.{min}
 use Rattle.tk_shape.specs.Lengths.{turn_count}
@@ -12,47 +13,12 @@ use Rattle.tk_member.specs.Members.{MemberState}
 use Rattle.tk_member.specs.Acting.{Turned, behind, followed_by, wrote, goes_ahead, goes_by_ticks}
 use Rattle.tk_member.specs.Acting.{asks_if_due, acts}
 use Rattle.tk_meeting.specs.Meeting.{Saying}
-use Rattle.tk_meeting.specs.Laws.{sayings}
 use Rattle.tk_meeting.proofs.Standing.{IsForetold, said_on}
-use Rattle.tk_meeting.proofs.members.Writing.{packets_on, packets-both, nothing-said, said-later, said-still}
+use Rattle.tk_meeting.proofs.members.Writing.{packets_on, packets-both}
 use Rattle.tk_meeting.specs.Shown.{Stand, stand}
 use Rattle.tk_meeting.proofs.shown.Steps.{gone_ahead, gone_by_ticks, asks_due, has_asked, acted}
-use Rattle.tk_meeting.proofs.lying.Writes.{queue, with_writing, turned_with, wrote-so}
-
--- ---- what is said and foretold, in two steps
-
-said-both : (g n k : ℕ) (saids : List Saying) →
-    said_on (g + n) (g + n + k) (said_on g (g + n) saids) ≡ said_on g (g + n + k) saids
-said-both g zero k saids =
-    let e : g ≡ g + 0 = omega arith in
-    ap₂ (λ (x : ℕ) (ys : List Saying). said_on x (g + 0 + k) ys) (sym e) (said-still g (g + 0) saids e)
-said-both g (suc n) k saids =
-    ap (said_on (g + suc n) (g + suc n + k)) (said-later g (g + suc n) saids (omega arith))
-    ∙ nothing-said (g + suc n) (g + suc n + k)
-    ∙ sym (said-later g (g + suc n + k) saids (omega arith))
-
-foretold-front : (S : Script) (c g n k : ℕ) (saids : List Saying) → k ≤ n →
-    IsForetold S c g n saids → IsForetold S c g k saids
-foretold-front S c g n k saids within told =
-    record {
-      here = λ low. told.here (omega (arith, low, within));
-      behind = λ i above low. told.behind i above (omega (arith, low, within));
-    }
-
-foretold-on : (S : Script) (c g n k : ℕ) (saids : List Saying) → IsForetold S c g (g + n + k) saids →
-    IsForetold S c (g + n) (g + n + k) (said_on g (g + n) saids)
-foretold-on S c g zero k saids told =
-    let e : g ≡ g + 0 = omega arith in
-    record {
-      here = λ low. said-still g (g + 0) saids e ∙ told.here (omega (arith, low)) ∙ ap (sayings S c) e;
-      behind = λ i above low. told.behind i (omega (arith, above)) low;
-    }
-foretold-on S c g (suc n) k saids told =
-    record {
-      here = λ low.
-          said-later g (g + suc n) saids (omega arith) ∙ sym (told.behind (g + suc n) (omega arith) low);
-      behind = λ i above low. told.behind i (omega (arith, above)) low;
-    }
+use Rattle.tk_meeting.proofs.members.Writing.{queue, with_writing, turned_with, wrote-so}
+use Rattle.tk_meeting.proofs.members.Acting.{said-both, foretold-front, foretold-on}
 
 -- ---- how many writes are due
 

@@ -1,5 +1,6 @@
 -- Two groups in which the same is done but for what is said show the same to all servers but the hidden one.
-use Rattle.std.proofs.Common.{◌≡◌, refl, sym, ap, ap₂, ◌∙◌, subst, arith, inl, inr, ℕ, suc, ◌≤◌, ◌<◌, Bool, true, false, cond}
+use Rattle.std.proofs.Common.{◌≡◌, refl, sym, ap, ap₂, ◌∙◌, subst, arith, inl, inr, ℕ, suc, ◌≤◌, ◌<◌, Bool, true}
+use Rattle.std.proofs.Common.{false, cond}
 use Rattle.std.proofs.Common.{List, [], ◌∷◌, ◌++◌, map, length, drop, Option, Some, None}
 use Rattle.std.specs.Prelude.{◌==◌, slice_index_or, Result, Ok, Err}
 use Rattle.std.proofs.lemmas.Bool.{eqb-true, ltb-true, true≢false}
@@ -31,7 +32,7 @@ use Rattle.tk_meeting.proofs.members.Packets.{AreToHost}
 use Rattle.tk_meeting.proofs.shown.Steps.{EndsOrReadies, Readies}
 use Rattle.tk_meeting.proofs.lying.Growth.{foresees-deeds}
 use Rattle.tk_meeting.proofs.lying.Outcomes.{does_writing, deed-readies, ready-same, doer-shown}
-use Rattle.tk_meeting.proofs.lying.Writes.{queue}
+use Rattle.tk_meeting.proofs.members.Writing.{queue}
 use Rattle.tk_meeting.proofs.lying.Speaks.{Speaks, Queued, queued}
 use Rattle.tk_meeting.proofs.lying.Went.{IsReady, speaks, other-speaks, stands-then, frames-then}
 

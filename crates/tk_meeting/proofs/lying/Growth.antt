@@ -20,7 +20,7 @@ use Rattle.tk_meeting.proofs.telling.Foreseeing.{Foresees}
 use Rattle.tk_meeting.specs.Lying.{Deed, Says, Ticks, GoesAhead, Claims, Sends, Answers, doer, Hidden, answer_to}
 use Rattle.tk_meeting.specs.Lying.{member_does, said_more, said_after, went_on, does, after_deeds, lied}
 
-noted-is : (c : ℕ) (y : Saying) (o : Option SayError) (m : Meeting) →
+pub noted-is : (c : ℕ) (y : Saying) (o : Option SayError) (m : Meeting) →
     noted c y o m ≡ record m { said = said_more m c y o }
 noted-is c y (Some error) m = refl
 noted-is c y None m = refl

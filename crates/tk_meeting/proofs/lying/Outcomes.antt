@@ -1,5 +1,6 @@
 -- How a member stands after a deed, before it acts, follows from how it stood and from what shows of the deed.
-use Rattle.std.proofs.Common.{◌≡◌, inl, cond, refl, ap, ap₂, sym, ◌∙◌, arith, ℕ, ◌+◌, List, [], ◌∷◌, ◌++◌, Option, Some, None}
+use Rattle.std.proofs.Common.{◌≡◌, inl, cond, refl, ap, ap₂, sym, ◌∙◌, arith, ℕ, ◌+◌, List, [], ◌∷◌, ◌++◌, Option}
+use Rattle.std.proofs.Common.{Some, None}
 use Rattle.std.proofs.Common.{length, length-append}
 use Rattle.std.specs.Prelude.{nat_le, ◌==◌, Result, Err}
 use Rattle.std.specs.Option.{is_none, is_some}
@@ -29,7 +30,8 @@ use Rattle.tk_member.specs.Members.{MemberState}
 use Rattle.tk_meeting.specs.Shown.{Face, face, Stand, stand, read_shown, Sent, Replied, frame_shown}
 use Rattle.tk_meeting.specs.Lying.{Deed, Says, Ticks, GoesAhead, Claims, Sends, Answers, doer, deed_shown}
 use Rattle.tk_meeting.specs.Lying.{Hidden, answer_to, frame_open, member_does, HoldsBlocks}
-use Rattle.tk_meeting.proofs.shown.Steps.{heard_so, served_so, heard_writing, EndsOrReadies, either-goes, heard-readies, served-readies}
+use Rattle.tk_meeting.proofs.shown.Steps.{heard_so, served_so, heard_writing, EndsOrReadies, either-goes}
+use Rattle.tk_meeting.proofs.shown.Steps.{heard-readies, served-readies}
 
 -- ---- answers of the hidden server
 

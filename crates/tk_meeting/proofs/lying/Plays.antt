@@ -1,5 +1,6 @@
 -- Liars see the same of two groups over matched tapes, step by step.
-use Rattle.std.proofs.Common.{◌≡◌, refl, sym, ap, ap₂, ◌∙◌, subst, arith, ℕ, zero, suc, ◌+◌, List, [], ◌∷◌, ◌++◌, map, length}
+use Rattle.std.proofs.Common.{◌≡◌, refl, sym, ap, ap₂, ◌∙◌, subst, arith, ℕ, zero, suc, ◌+◌, List, [], ◌∷◌, ◌++◌, map}
+use Rattle.std.proofs.Common.{length}
 use Rattle.std.proofs.Common.{append-nil, length-append}
 use Rattle.std.specs.List.{range_with_len}
 use Rattle.std.proofs.lemmas.List.{append_assoc}
@@ -9,7 +10,8 @@ use Rattle.tk_words.specs.Words.{WordBook, drawn}
 use Rattle.tk_privacy.proofs.Offers as privacy
 use Rattle.tk_meeting.specs.Meeting.{Meeting, Saying}
 use Rattle.tk_meeting.specs.Laws.{Tells}
-use Rattle.tk_meeting.specs.Lying.{Deed, Says, Ticks, GoesAhead, Claims, Sends, Answers, deed_shown, Hidden, lied, DoAlike, AreAlike}
+use Rattle.tk_meeting.specs.Lying.{Deed, Says, Ticks, GoesAhead, Claims, Sends, Answers, deed_shown, Hidden, lied}
+use Rattle.tk_meeting.specs.Lying.{DoAlike, AreAlike}
 use Rattle.tk_meeting.specs.Matched.{AreGroups, AreMatched}
 use Rattle.tk_meeting.specs.Adaptive.{Sight, sight, Liars, with_text_of, Play, play, retold, PlayAlike, LiarsPlayAlike}
 use Rattle.tk_meeting.proofs.hidden.SameStreams.{map-agree}
@@ -17,7 +19,7 @@ use Rattle.tk_meeting.proofs.lying.Tapes.{liars-see-alike}
 
 -- ---- the same is seen
 
-same-sight : (shape : Shape) (h : Hidden) (m n : Meeting) → AreAlike shape h m n →
+pub same-sight : (shape : Shape) (h : Hidden) (m n : Meeting) → AreAlike shape h m n →
     sight shape h m ≡ sight shape h n
 same-sight shape h m n alike =
     let sent =

@@ -1,5 +1,6 @@
 -- A member keeps the read that it has open, closes it, or opens that of the next turn.
-use Rattle.std.proofs.Common.{◌≡◌, refl, sym, ◌∙◌, subst, arith, inl, inr, ℕ, zero, suc, ◌+◌, ◌-◌, ◌≤◌, ◌<◌, Bool, true, false, cond}
+use Rattle.std.proofs.Common.{◌≡◌, refl, sym, ◌∙◌, subst, arith, inl, inr, ℕ, zero, suc, ◌+◌, ◌-◌, ◌≤◌, ◌<◌, Bool}
+use Rattle.std.proofs.Common.{true, false, cond}
 use Rattle.std.proofs.Common.{List, [], Option, Some, None}
 use Rattle.std.specs.Prelude.{◌⊎◌, nat_lt, nat_le, ◌&&◌, ◌==◌, slice_index, Result, Ok, Err}
 use Rattle.std.specs.Option.{is_none}
@@ -21,7 +22,8 @@ use Rattle.tk_member.specs.Epochs.{Telling, with_epoch}
 use Rattle.tk_member.specs.Members.{MemberState, known_to}
 use Rattle.tk_member.specs.Acting.{Turned, after_turn, wrote, goes_ahead, goes_by_ticks, may_ask, asks, unmoved}
 use Rattle.tk_member.specs.Acting.{asks_if_due, ahead_due, ticks_due, epoch_due, acts}
-use Rattle.tk_member.specs.Steps.{tells_and_acts, counted_up, said, heard, all_of, settled, settled_by, with_reply, replied}
+use Rattle.tk_member.specs.Steps.{tells_and_acts, counted_up, said, heard, all_of, settled, settled_by, with_reply}
+use Rattle.tk_member.specs.Steps.{replied}
 use Rattle.tk_member.specs.Steps.{told_epoch, served, after_settling}
 use Rattle.tk_meeting.specs.Lying.{Deed, Says, Ticks, GoesAhead, Claims, Sends, Answers}
 use Rattle.tk_meeting.specs.Events.{is_server}

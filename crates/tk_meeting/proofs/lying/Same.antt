@@ -16,7 +16,8 @@ use Rattle.tk_member.specs.declared.word.HostWord.{HostWord}
 use Rattle.tk_member.specs.declared.word.HostWord.TheVariants.{Say, Tick, Ahead, Has}
 use Rattle.tk_member.specs.Epochs.{Telling, with_epoch, filter_of, marks_at}
 use Rattle.tk_member.specs.Members.{MemberState}
-use Rattle.tk_member.specs.Acting.{Turned, goes_ahead, goes_by_ticks, may_ask, asks, unmoved, asks_if_due, epoch_due, acts}
+use Rattle.tk_member.specs.Acting.{Turned, goes_ahead, goes_by_ticks, may_ask, asks, unmoved, asks_if_due, epoch_due}
+use Rattle.tk_member.specs.Acting.{acts}
 use Rattle.tk_member.specs.Steps.{tells_and_acts, counted_up, said, heard, all_of, after_settling, settled}
 use Rattle.tk_member.specs.Steps.{settled_by, with_reply, replied, told_epoch, served}
 use Rattle.tk_meeting.specs.Events.{is_server}

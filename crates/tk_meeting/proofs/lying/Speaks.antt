@@ -14,14 +14,14 @@ use Rattle.tk_member.specs.Members.{MemberState}
 use Rattle.tk_member.specs.Acting.{Turned, asks, unmoved, may_ask, asks_if_due, acts}
 use Rattle.tk_meeting.specs.Meeting.{Meeting, Saying, changed}
 use Rattle.tk_meeting.specs.Events.{say_fault}
-use Rattle.tk_meeting.proofs.Canonical.{with_sayings}
 use Rattle.tk_meeting.proofs.Standing.{IsForetold}
 use Rattle.tk_meeting.proofs.telling.Foreseeing.{ForeseesOf}
+use Rattle.tk_meeting.proofs.members.Hearing.{said-one}
 use Rattle.tk_meeting.proofs.courses.Picks.{itself}
 use Rattle.tk_meeting.specs.Shown.{Stand, stand}
 use Rattle.tk_meeting.specs.Lying.{Deed, Says, Ticks, GoesAhead, Claims, Sends, Answers, doer, said_more, said_after}
 use Rattle.tk_meeting.proofs.shown.Steps.{acts-stands}
-use Rattle.tk_meeting.proofs.lying.Writes.{queue}
+use Rattle.tk_meeting.proofs.members.Writing.{queue}
 use Rattle.tk_meeting.proofs.lying.Acts.{ahead_of, ticks_of, acted-written, Written, acts-so}
 use Rattle.tk_meeting.proofs.shown.Steps.{said_writing, heard_writing}
 use Rattle.tk_meeting.proofs.lying.Outcomes.{does_writing}
@@ -35,12 +35,6 @@ pub record Speaks (S : Script) (c : ℕ) (said : ℕ → List Saying) (m : Membe
   pub later : (k : ℕ) → m.written < k → said k ≡ []
 
 -- ---- a text more
-
-said-one : (saids : List Saying) (log : ℕ) (text : List ℕ) (w : Writing) →
-    with_text log text (with_sayings saids w) ≡ with_sayings (saids ++ record { log = log; text = text } ∷ []) w
-unfolding with_sayings
-said-one [] log text w = refl
-said-one (y ∷ ys) log text w = said-one ys log text (with_text y.log y.text w)
 
 module _ (S : Script) (m : Meeting) (c : ℕ) (speaks : Speaks S c (m.said c) (m.members c)) where
   abbrev member : MemberState

@@ -1,5 +1,6 @@
 -- Two members that go on alike: what they are then, and what they sent.
-use Rattle.std.proofs.Common.{◌≡◌, ◌≢◌, refl, sym, ap, ap₂, ◌∙◌, subst, arith, ℕ, zero, suc, ◌+◌, ◌≤◌, ◌<◌, List, [], ◌++◌, map}
+use Rattle.std.proofs.Common.{◌≡◌, ◌≢◌, refl, sym, ap, ap₂, ◌∙◌, subst, arith, ℕ, zero, suc, ◌+◌, ◌≤◌, ◌<◌, List, []}
+use Rattle.std.proofs.Common.{◌++◌, map}
 use Rattle.std.specs.Prelude.{replicate}
 use Rattle.tk_shape.specs.declared.shape.Shape.{Shape}
 use Rattle.tk_shape.specs.Lengths.{turn_count}
@@ -19,7 +20,7 @@ use Rattle.tk_meeting.proofs.telling.Foreseeing.{ForeseesOf}
 use Rattle.tk_meeting.proofs.members.Packets.{AreToHost, frames-append, host-alone}
 use Rattle.tk_meeting.proofs.members.Writing.{packets_in, packets_on}
 use Rattle.tk_meeting.proofs.shown.Steps.{gone_ahead, gone_by_ticks, acted, acts-stands}
-use Rattle.tk_meeting.proofs.lying.Writes.{queue}
+use Rattle.tk_meeting.proofs.members.Writing.{queue}
 use Rattle.tk_meeting.proofs.lying.Acts.{ahead_of, ticks_of, Written}
 use Rattle.tk_meeting.proofs.lying.Speaks.{Speaks, written_then, within_then, written-so, speaks-then}
 use Rattle.tk_meeting.proofs.lying.Asks.{asks-alike}

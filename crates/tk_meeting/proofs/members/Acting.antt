@@ -25,7 +25,7 @@ use Rattle.tk_meeting.proofs.members.Asking.{known-is, asks-go, packets_by, fram
 
 -- ---- what is said and foretold, in two steps
 
-said-both : (g n k : ℕ) (saids : List Saying) →
+pub said-both : (g n k : ℕ) (saids : List Saying) →
     said_on (g + n) (g + n + k) (said_on g (g + n) saids) ≡ said_on g (g + n + k) saids
 said-both g zero k saids =
     let e : g ≡ g + 0 = omega arith in
@@ -35,7 +35,7 @@ said-both g (suc n) k saids =
     ∙ nothing-said (g + suc n) (g + suc n + k)
     ∙ sym (said-later g (g + suc n + k) saids (omega arith))
 
-foretold-front : (S : Script) (c g n k : ℕ) (saids : List Saying) → k ≤ n →
+pub foretold-front : (S : Script) (c g n k : ℕ) (saids : List Saying) → k ≤ n →
     IsForetold S c g n saids → IsForetold S c g k saids
 foretold-front S c g n k saids within told =
     record {
@@ -43,7 +43,7 @@ foretold-front S c g n k saids within told =
       behind = λ i above low. told.behind i above (omega (arith, low, within));
     }
 
-foretold-on : (S : Script) (c g n k : ℕ) (saids : List Saying) → IsForetold S c g (g + n + k) saids →
+pub foretold-on : (S : Script) (c g n k : ℕ) (saids : List Saying) → IsForetold S c g (g + n + k) saids →
     IsForetold S c (g + n) (g + n + k) (said_on g (g + n) saids)
 foretold-on S c g zero k saids told =
     let e : g ≡ g + 0 = omega arith in

@@ -22,7 +22,7 @@ abbrev pub say_of : ℕ → List ℕ → Saying
 say_of log text = record { log = log; text = text }
 
 -- one text more
-said-one : (saids : List Saying) (log : ℕ) (text : List ℕ) (w : Writing) →
+pub said-one : (saids : List Saying) (log : ℕ) (text : List ℕ) (w : Writing) →
     with_text log text (with_sayings saids w) ≡ with_sayings (saids ++ say_of log text ∷ []) w
 unfolding with_sayings
 said-one [] log text w = refl

@@ -23,7 +23,7 @@ use Rattle.tk_meeting.specs.Laws.{saying_of, sayings}
 use Rattle.tk_meeting.proofs.Canonical.{write_in, with_sayings}
 use Rattle.tk_meeting.proofs.Pace.{Pace, Kind, Wrote}
 use Rattle.tk_meeting.proofs.Standing.{IsForetold, said_on, frames_of}
-use Rattle.tk_meeting.proofs.members.Members.{member_at, client_at, writing_at, all-same-range}
+use Rattle.tk_meeting.proofs.members.Members.{member_at, all-same-range}
 use Rattle.tk_meeting.proofs.members.Packets.{frames-append, peer-append, none-below, own-frame}
 
 -- ---- what is said in a turn
@@ -50,13 +50,13 @@ unfolding writing_before
 turn-after S c g = refl
 
 -- after the turn's write the client has to write what it has before the next turn
-turn-written : (S : Script) (c g : ℕ) →
+pub turn-written : (S : Script) (c g : ℕ) →
     after_write (with_sayings (sayings S c g) (writing_before S c g)) ≡ writing_before S c (g + 1)
 turn-written S c g =
     ap after_write (said-turn S c g) ∙ turn-after S c g ∙ ap (writing_before S c) (sym (add-one g))
 
 -- and the write is the serial run's
-turn-write : (S : Script) (b : WordBook) (c g : ℕ) → g < turn_count S.shape →
+pub turn-write : (S : Script) (b : WordBook) (c g : ℕ) → g < turn_count S.shape →
     write_of (words_of S.shape b) g c
     (first_waiting (with_sayings (sayings S c g) (writing_before S c g)))
     ≡ write_in S b c g
@@ -75,34 +75,16 @@ abbrev pub packets_on : Script → WordBook → ℕ → ℕ → ℕ → List Pac
 packets_on S b c g zero = []
 packets_on S b c g (suc n) = packets_in S b c g ++ packets_on S b c (g + 1) n
 
-abbrev pub written_more : ℕ → Pace → Pace
-written_more n p = record p { written = p.written + n }
+-- what client c has to write before turn g, where this is said for it
+abbrev pub queue : Script → ℕ → ℕ → List Saying → Writing
+queue S c g saids = with_sayings saids (writing_before S c g)
 
-after-one : (S : Script) (b : WordBook) (c : ℕ) (p : Pace) (saids : List Saying) →
-    saids ≡ sayings S c p.written →
-    after_turn (member_at S b c p saids) ≡ member_at S b c (written_more 1 p) []
-unfolding with_sayings
-after-one S b c p saids here =
-    let q = written_more 1 p in
-    let written : after_write (writing_at S c p saids) ≡ writing_at S c q [] =
-    ap (λ ys. after_write (with_sayings ys (writing_before S c p.written))) here
-    ∙ turn-written S c p.written
-    in
-    ap (λ (w : Writing). record (member_at S b c q []) {
-      client = record (client_at S b c q []) { writing = w };
-    }) written
+-- a member that has that to write, and wrote in so many turns
+abbrev pub with_writing : MemberState → Writing → ℕ → MemberState
+with_writing m writing k = record m { client = record m.client { writing = writing }; written = k }
 
-packets-one : (S : Script) (b : WordBook) (c : ℕ) (p : Pace) (saids : List Saying) →
-    p.written < turn_count S.shape → saids ≡ sayings S c p.written →
-    write_packets (words_of S.shape b) (member_at S b c p saids) ≡ packets_in S b c p.written
-packets-one S b c p saids low here =
-    let w = words_of S.shape b in
-    let g = p.written in
-    let write : write_of w g c (first_waiting (writing_at S c p saids)) ≡ write_in S b c g =
-    ap (λ ys. write_of w g c (first_waiting (with_sayings ys (writing_before S c g)))) here
-    ∙ turn-write S b c g low
-    in
-    ap (λ (x : WriteFrame). packets_from 1 (replicate S.shape.servers (write_frame x))) write
+abbrev pub turned_with : MemberState → Writing → ℕ → List PacketView → Turned
+turned_with m writing k packets = record { member = with_writing m writing k; packets = packets }
 
 -- ---- several turns
 
@@ -128,6 +110,56 @@ foretold-next S c g n saids told =
       behind = λ k above low. told.behind k (omega (arith, above)) low;
     }
 
+module _ (S : Script) (b : WordBook) (c : ℕ) (m : MemberState) (shape : m.client.shape ≡ S.shape)
+    (number : m.client.number ≡ c) where
+  packets-one : (g : ℕ) (saids : List Saying) → g < turn_count S.shape → saids ≡ sayings S c g →
+      write_packets (words_of S.shape b) (with_writing m (queue S c g saids) g) ≡ packets_in S b c g
+  packets-one g saids low here =
+      let w = words_of S.shape b in
+      (λ i. packets_from 1 (replicate (shape i).servers
+      (write_frame (write_of w g (number i) (first_waiting (queue S c g (here i)))))))
+      ∙ ap (λ (x : WriteFrame). packets_from 1 (replicate S.shape.servers (write_frame x)))
+      (turn-write S b c g low)
+
+  after-one : (g : ℕ) (saids : List Saying) → saids ≡ sayings S c g →
+      after_turn (with_writing m (queue S c g saids) g) ≡ with_writing m (queue S c (g + 1) []) (g + 1)
+  unfolding with_sayings
+  after-one g saids here =
+      ap (λ (w : Writing). with_writing m w (g + 1))
+      (ap (λ (ys : List Saying). after_write (queue S c g ys)) here ∙ turn-written S c g)
+
+  -- any member writes so in n turns
+  pub wrote-so : (n g : ℕ) (saids : List Saying) → g + n ≤ turn_count S.shape →
+      IsForetold S c g (g + n) saids →
+      wrote (words_of S.shape b) n (with_writing m (queue S c g saids) g)
+      ≡ turned_with m (queue S c (g + n) (said_on g (g + n) saids)) (g + n) (packets_on S b c g n)
+  unfolding wrote
+  wrote-so zero g saids low told =
+      let same : g ≡ g + 0 = omega arith in
+      let said = said-still g (g + 0) saids same in
+      ap₂ (λ (k : ℕ) (ys : List Saying). turned_with m (queue S c k ys) k []) same (sym said)
+  wrote-so (suc n) g saids low told =
+      let w = words_of S.shape b in
+      let here : saids ≡ sayings S c g = told.here (omega arith) in
+      let end : g + 1 + n ≡ g + suc n = omega arith in
+      let next : IsForetold S c (g + 1) (g + 1 + n) [] =
+      subst (λ (k : ℕ). IsForetold S c (g + 1) k []) (sym end) (foretold-next S c g (g + suc n) saids told)
+      in
+      let said : said_on (g + 1) (g + 1 + n) [] ≡ said_on g (g + suc n) saids =
+      nothing-said (g + 1) (g + 1 + n) ∙ sym (said-later g (g + suc n) saids (omega arith))
+      in
+      let rest = packets_on S b c (g + 1) n in
+      ap₂ (λ (ps : List PacketView) (x : MemberState). behind ps (wrote w n x))
+      (packets-one g saids (omega (arith, low)) here) (after-one g saids here)
+      ∙ ap (behind (packets_in S b c g)) (wrote-so n (g + 1) [] (omega (arith, low)) next)
+      ∙ ap₂ (λ (k : ℕ) (ys : List Saying). turned_with m (queue S c k ys) k (packets_in S b c g ++ rest)) end
+      said
+
+-- ---- a member at a pace
+
+abbrev pub written_more : ℕ → Pace → Pace
+written_more n p = record p { written = p.written + n }
+
 abbrev pub turned_at : Script → WordBook → ℕ → Pace → List Saying → List PacketView → Turned
 turned_at S b c p saids packets = record { member = member_at S b c p saids; packets = packets }
 
@@ -140,30 +172,8 @@ wrote_at S b c n p saids =
 pub wrote-is : (S : Script) (b : WordBook) (c n : ℕ) (p : Pace) (saids : List Saying) →
     p.written + n ≤ turn_count S.shape → IsForetold S c p.written (p.written + n) saids →
     wrote (words_of S.shape b) n (member_at S b c p saids) ≡ wrote_at S b c n p saids
-unfolding wrote
-wrote-is S b c zero p saids low told =
-    let g : p.written ≡ p.written + 0 = omega arith in
-    let said = said-still p.written (p.written + 0) saids g in
-    ap₂ (λ (k : ℕ) (ys : List Saying). turned_at S b c (record p { written = k }) ys []) g (sym said)
-wrote-is S b c (suc n) p saids low told =
-    let w = words_of S.shape b in
-    let g = p.written in
-    let q = written_more 1 p in
-    let here : saids ≡ sayings S c g = told.here (omega arith) in
-    let end : g + 1 + n ≡ g + suc n = omega arith in
-    let next : IsForetold S c (g + 1) (g + 1 + n) [] =
-    subst (λ (k : ℕ). IsForetold S c (g + 1) k []) (sym end)
-    (foretold-next S c g (g + suc n) saids told)
-    in
-    let said : said_on (g + 1) (g + 1 + n) [] ≡ said_on g (g + suc n) saids =
-    nothing-said (g + 1) (g + 1 + n) ∙ sym (said-later g (g + suc n) saids (omega arith))
-    in
-    let rest = packets_on S b c (g + 1) n in
-    ap₂ (λ ps (m : MemberState). behind ps (wrote w n m))
-    (packets-one S b c p saids (omega (arith, low)) here) (after-one S b c p saids here)
-    ∙ ap (behind (packets_in S b c g)) (wrote-is S b c n q [] (omega (arith, low)) next)
-    ∙ ap₂ (λ (k : ℕ) (ys : List Saying). turned_at S b c (record p { written = k }) ys
-    (packets_in S b c g ++ rest)) end said
+wrote-is S b c n p saids low told =
+    wrote-so S b c (member_at S b c p saids) refl refl n p.written saids low told
 
 -- ---- frame by frame
 

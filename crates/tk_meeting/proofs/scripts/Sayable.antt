@@ -83,7 +83,7 @@ may-say S c log text fs all none = by (is_written log fs) refl none
     by true is none = record { of = written-has (IsMine S c) log fs all is; free = none }
     by false is none = absurd (none-some (NotWriter log) (sym none))
 
-free-said : (S : Script) (m : Meeting) (c log : ℕ) (text : List ℕ) → IsSayable S m →
+pub free-said : (S : Script) (m : Meeting) (c log : ℕ) (text : List ℕ) → IsSayable S m →
     say_fault m c log text ≡ None → MaySay S c (record { log = log; text = text })
 free-said S m c log text is none =
     let k = (m.members c).client in
@@ -117,7 +117,7 @@ noted-at S m c g y is may d k = by (d == c) refl
         (sym (eqb-true d c same)) (here (k == g))
     by false other = is.each d k
 
-noted-sayable : (S : Script) (m : Meeting) (c : ℕ) (y : Saying) (o : Option SayError) → IsSayable S m →
+pub noted-sayable : (S : Script) (m : Meeting) (c : ℕ) (y : Saying) (o : Option SayError) → IsSayable S m →
     (o ≡ None → MaySay S c y) → IsSayable S (noted c y o m)
 noted-sayable S m c y (Some error) is may = is
 noted-sayable S m c y None is may =
@@ -125,7 +125,7 @@ noted-sayable S m c y None is may =
 
 -- ---- a member goes on
 
-went-sayable : (S : Script) (m : Meeting) (c : ℕ) (r : Result Turned Fault) → IsSayable S m →
+pub went-sayable : (S : Script) (m : Meeting) (c : ℕ) (r : Result Turned Fault) → IsSayable S m →
     LastsIn (base_of (m.members c)) r → IsSayable S (member_went m c r)
 went-sayable S m c (Err fault) is lasts = record { bases = is.bases; each = is.each }
 went-sayable S m c (Ok t) is lasts = record { bases = λ d. by d (d == c) refl; each = is.each }
@@ -165,7 +165,7 @@ unless-sayable : (S : Script) (o : Option Fault) (m after : Meeting) → IsSayab
 unless-sayable S None m after is later = later
 unless-sayable S (Some fault) m after is later = is
 
-client-sayable : (S : Script) (m : Meeting) (c : ℕ) (after : Meeting) → IsSayable S m → IsSayable S after →
+pub client-sayable : (S : Script) (m : Meeting) (c : ℕ) (after : Meeting) → IsSayable S m → IsSayable S after →
     IsSayable S (client_does S.shape m c after)
 client-sayable S m c after is later =
     cond-has (IsSayable S) (is_client S.shape c) (unless_ended (m.ended c) m after) m

@@ -16,27 +16,27 @@ use Rattle.tk_meeting.proofs.scripts.Finding.{turn-has, client-says}
 
 module _ (S : Script) (m : Meeting) (is : IsSayable S m) where
   -- what was said for a turn, client by client
-  abbrev said_for : ℕ → List Saying
+  abbrev pub said_for : ℕ → List Saying
   said_for g = flat_map (λ c. m.said c g) (range_with_len 0 S.shape.clients)
 
-  abbrev all_says : List Say
+  abbrev pub all_says : List Say
   all_says = says_from S.shape said_for 0 (turn_count S.shape)
 
-  fits : (c : ℕ) (ys : List Saying) → AllByRecursion (MaySay S c) ys → AllByRecursion (IsFit S.shape) ys
+  pub fits : (c : ℕ) (ys : List Saying) → AllByRecursion (MaySay S c) ys → AllByRecursion (IsFit S.shape) ys
   fits c [] may = tt
   fits c (y ∷ ys) may = (record { low = may.0.of.low; free = may.0.free }, fits c ys may.1)
 
-  both-fit : (xs ys : List Saying) → AllByRecursion (IsFit S.shape) xs →
+  pub both-fit : (xs ys : List Saying) → AllByRecursion (IsFit S.shape) xs →
       AllByRecursion (IsFit S.shape) ys → AllByRecursion (IsFit S.shape) (xs ++ ys)
   both-fit [] ys a b = b
   both-fit (x ∷ xs) ys a b = (a.0, both-fit xs ys a.1 b)
 
-  all-fit : (g : ℕ) (cs : List ℕ) → AllByRecursion (IsFit S.shape) (flat_map (λ c. m.said c g) cs)
+  pub all-fit : (g : ℕ) (cs : List ℕ) → AllByRecursion (IsFit S.shape) (flat_map (λ c. m.said c g) cs)
   all-fit g [] = tt
   all-fit g (c ∷ cs) =
       both-fit (m.said c g) (flat_map (λ d. m.said d g) cs) (fits c (m.said c g) (is.each c g)) (all-fit g cs)
 
-  abbrev script_of : Script
+  abbrev pub script_of : Script
   script_of =
       record {
         shape = S.shape;
@@ -55,7 +55,7 @@ module _ (S : Script) (m : Meeting) (is : IsSayable S m) where
             };
       }
 
-  tells : Tells script_of m
+  pub tells : Tells script_of m
   tells c g client in_turns =
       sym
       (ap (λ (ys : List Say). map saying_of (filter (λ y. writer_of S y.log == c) ys))

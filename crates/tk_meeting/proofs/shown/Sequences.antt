@@ -1,5 +1,6 @@
 -- Members to which packets come one after the other.
-use Rattle.std.proofs.Common.{◌≡◌, refl, ap, ap₂, sym, ◌∙◌, subst, ℕ, ◌+◌, ◌-◌, Bool, true, false, cond, List, [], ◌∷◌, map}
+use Rattle.std.proofs.Common.{◌≡◌, refl, ap, ap₂, sym, ◌∙◌, subst, ℕ, ◌+◌, ◌-◌, Bool, true, false, cond, List, []}
+use Rattle.std.proofs.Common.{◌∷◌, map}
 use Rattle.std.proofs.Common.{Option, Some, None}
 use Rattle.std.specs.Prelude.{nat_lt, nat_le, ◌==◌, ◌&&◌, ◌||◌, slice_index, slice_index_or, slice_set, Result, Ok, Err}
 use Rattle.std.specs.Option.{is_none, is_some}
@@ -21,7 +22,8 @@ use Rattle.tk_member.specs.Courses.{behind_if, after_packet, after_packets}
 use Rattle.tk_meeting.specs.Shown.{Face, Stand, stand, Sent, Replied, Told, Came, OfHost, OfServer}
 use Rattle.tk_meeting.specs.Shown.{packet_shown, outcome, stand_after, MembersActAlike}
 use Rattle.tk_meeting.proofs.shown.Faces.{refused_by}
-use Rattle.tk_meeting.proofs.shown.Steps.{gone_ahead, gone_by_ticks, asks_due, has_asked, acted, acting, none-shown, heard_so}
+use Rattle.tk_meeting.proofs.shown.Steps.{gone_ahead, gone_by_ticks, asks_due, has_asked, acted, acting, none-shown}
+use Rattle.tk_meeting.proofs.shown.Steps.{heard_so}
 use Rattle.tk_meeting.proofs.shown.Steps.{settled_so, settled_by_so, replied_so, told_so, served_so, step_so}
 use Rattle.tk_meeting.proofs.shown.Steps.{step-outcome}
 use Rattle.tk_meeting.proofs.telling.Rising.{cond-has}

@@ -1,5 +1,6 @@
 -- How a member stands before it acts follows from how it stood, and from what shows of what came.
-use Rattle.std.proofs.Common.{◌≡◌, inl, inr, refl, ap, sym, subst, ◌∙◌, arith, ℕ, zero, suc, ◌+◌, ◌-◌, ◌*◌, Bool, true, false, cond}
+use Rattle.std.proofs.Common.{◌≡◌, inl, inr, refl, ap, sym, subst, ◌∙◌, arith, ℕ, zero, suc, ◌+◌, ◌-◌, ◌*◌, Bool}
+use Rattle.std.proofs.Common.{true, false, cond}
 use Rattle.std.proofs.Common.{List, [], ◌∷◌, map, Option, Some, None}
 use Rattle.std.specs.Prelude.{min, nat_le, nat_lt, ◌==◌, ◌&&◌, ◌||◌, replicate, slice_index, slice_index_or, slice_set}
 use Rattle.std.specs.Prelude.{◌⊎◌, Result, Ok, Err}
