@@ -28,8 +28,8 @@ sight shape h m =
 
 -- ---- what they do
 
--- They decide what is done next, from what they saw at each time so far; also when a host says something, but not
--- what.
+-- They decide what is done next, from what they saw at each time so far: also when a host says something, but not
+-- what; and over which table the hidden server answers.
 abbrev pub Liars : Type 0
 Liars = List Sight → Deed
 
@@ -40,7 +40,7 @@ with_text_of texts k (Ticks c) = Ticks c
 with_text_of texts k (GoesAhead c turns) = GoesAhead c turns
 with_text_of texts k (Claims c count) = Claims c count
 with_text_of texts k (Sends c j frame) = Sends c j frame
-with_text_of texts k (Answers c) = Answers c
+with_text_of texts k (Answers c table) = Answers c table
 
 -- so many steps of a group whose hosts have these texts: what was done, and what was seen at each time
 pub record Play : Type 0 where

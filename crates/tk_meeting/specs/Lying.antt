@@ -28,14 +28,14 @@ use Rattle.tk_meeting.specs.Shown.{stand}
 
 -- A host says a text to a client, its clock ticks, or so many of its writes go ahead. A client is told that a server
 -- has so many packets of it, or any frame comes to it as one of a server. Or the hidden server answers the read that a
--- client has open.
+-- client has open, over one of the tables that it may have.
 pub data Deed : Type 0 where
   Says : ℕ → ℕ → List ℕ → Deed
   Ticks : ℕ → Deed
   GoesAhead : ℕ → ℕ → Deed
   Claims : ℕ → ℕ → Deed
   Sends : ℕ → ℕ → List ℕ → Deed
-  Answers : ℕ → Deed
+  Answers : ℕ → ℕ → Deed
 
 abbrev pub doer : Deed → ℕ
 doer (Says c log text) = c
@@ -43,11 +43,12 @@ doer (Ticks c) = c
 doer (GoesAhead c turns) = c
 doer (Claims c count) = c
 doer (Sends c j frame) = c
-doer (Answers c) = c
+doer (Answers c table) = c
 
 -- ---- the hidden server
 
--- which server is hidden, and over which writes it answers reads of an epoch
+-- which server is hidden, and the writes of each table over which it may answer, by numbers: of one for each epoch,
+-- say, or of all that there may be
 pub record Hidden : Type 0 where
   pub server : ℕ
   pub held : ℕ → List Record
@@ -59,11 +60,11 @@ pair_open shape b c read = pair_for (words_of shape b) read.turn c read.target
 abbrev pub frame_open : Shape → WordBook → ℕ → ℕ → OpenRead → ReadFrame
 frame_open shape b c j read = frame_for shape b read.turn c read.epoch (pair_open shape b c read) j
 
--- its answer; nothing where no read is open
-abbrev pub answer_to : Hidden → WordBook → Shape → ℕ → Option OpenRead → List ℕ
-answer_to h b shape c None = []
-answer_to h b shape c (Some read) =
-    reply_frame (reply_to shape (h.held read.epoch) (frame_open shape b c h.server read))
+-- its answer over a table; nothing where no read is open
+abbrev pub answer_to : Hidden → WordBook → ℕ → Shape → ℕ → Option OpenRead → List ℕ
+answer_to h b table shape c None = []
+answer_to h b table shape c (Some read) =
+    reply_frame (reply_to shape (h.held table) (frame_open shape b c h.server read))
 
 -- ---- what is done
 
@@ -74,8 +75,8 @@ member_does h b m (Ticks c) = heard b m (Some Tick)
 member_does h b m (GoesAhead c turns) = heard b m (Some (Ahead turns))
 member_does h b m (Claims c count) = heard b m (Some (Has count))
 member_does h b m (Sends c j frame) = cond (is_server m.client.shape j) (served b m j frame) (Err Peer)
-member_does h b m (Answers c) =
-    served b m h.server (answer_to h b m.client.shape m.client.number m.client.read)
+member_does h b m (Answers c table) =
+    served b m h.server (answer_to h b table m.client.shape m.client.number m.client.read)
 
 -- the texts that were said, with one more, where the client may say it
 abbrev pub said_more : Meeting → ℕ → Saying → Option SayError → ℕ → ℕ → List Saying
@@ -90,7 +91,7 @@ said_after m (Ticks c) = m.said
 said_after m (GoesAhead c turns) = m.said
 said_after m (Claims c count) = m.said
 said_after m (Sends c j frame) = m.said
-said_after m (Answers c) = m.said
+said_after m (Answers c table) = m.said
 
 -- a text is noted where the member goes on
 abbrev pub went_on : Meeting → Deed → Result Turned Fault → Meeting
@@ -120,7 +121,7 @@ deed_shown (Ticks c) = Ticks c
 deed_shown (GoesAhead c turns) = GoesAhead c turns
 deed_shown (Claims c count) = Claims c count
 deed_shown (Sends c j frame) = Sends c j frame
-deed_shown (Answers c) = Answers c
+deed_shown (Answers c table) = Answers c table
 
 -- the same is done in both but for what is said
 abbrev pub DoAlike : List Deed → List Deed → Type 0
@@ -133,6 +134,6 @@ pub record AreAlike (shape : Shape) (h : Hidden) (m n : Meeting) : Type 0 where
   pub sent : (c j : ℕ) → c < shape.clients → 1 ≤ j → j ≤ shape.servers → j ≢ h.server →
       m.up c j ≡ n.up c j
 
--- the hidden server holds blocks of the shape's width
+-- each table has blocks of the shape's width
 abbrev pub HoldsBlocks : Shape → Hidden → Type 0
-HoldsBlocks shape h = (e : ℕ) → AllSized (width shape) (blocks_of (layout shape (h.held e)))
+HoldsBlocks shape h = (table : ℕ) → AllSized (width shape) (blocks_of (layout shape (h.held table)))

@@ -41,7 +41,7 @@ pairs_of S h b deeds = pairs_from S.shape h b (opening S) no_pairs deeds
 abbrev pub shown_tape : Script → Hidden → List Deed → List ℕ → List ℕ
 shown_tape S h deeds u = normal_for S h.server (pairs_of S h (drawn u) deeds) u
 
--- two groups of one shape, a hidden server that holds blocks of the shape's width, and what is done in either
+-- two groups of one shape, and a hidden server whose tables have blocks of the shape's width
 pub record AreGroups (A B : Script) (h : Hidden) : Type 0 where
   pub one_shape : A.shape ≡ B.shape
   pub hidden_low : 1 ≤ h.server
@@ -74,7 +74,7 @@ MatchedOneToOne =
     (A B : Script) (h : Hidden) → AreGroups A B h → (deeds others : List Deed) (u : List ℕ) →
     length u ≡ tape_len A.shape → HasMatch A B h deeds others u
 
--- A hidden server that holds the writes of a run, epoch by epoch, holds blocks of the shape's width.
+-- The tables of a run, epoch by epoch, have blocks of the shape's width.
 abbrev pub HonestHold : Type 0
 HonestHold =
     (S : Script) (b : WordBook) (server : ℕ) → IsBook S.shape b →

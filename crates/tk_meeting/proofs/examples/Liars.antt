@@ -41,6 +41,6 @@ pub waits : (after lied_to).ended 0 ≡ None
 unfolding computing does after_deeds
 waits = refl
 
-pub refuses : (after (Ticks 0 ∷ Sends 0 1 (3 ∷ 1 ∷ []) ∷ Answers 0 ∷ [])).ended 0 ≡ Some Refused
+pub refuses : (after (Ticks 0 ∷ Sends 0 1 (3 ∷ 1 ∷ []) ∷ Answers 0 0 ∷ [])).ended 0 ≡ Some Refused
 unfolding computing does after_deeds
 refuses = refl

@@ -74,7 +74,7 @@ said-other m (Ticks e) c x is other = refl
 said-other m (GoesAhead e turns) c x is other = refl
 said-other m (Claims e count) c x is other = refl
 said-other m (Sends e j frame) c x is other = refl
-said-other m (Answers e) c x is other = refl
+said-other m (Answers e table) c x is other = refl
 
 -- a client that goes on by this, to which that was said
 abbrev went_as : Meeting → ℕ → (ℕ → ℕ → List Saying) → Turned → Meeting

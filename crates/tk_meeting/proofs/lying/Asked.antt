@@ -16,6 +16,7 @@ use Rattle.tk_meeting.specs.Meeting.{opening}
 use Rattle.tk_meeting.specs.Events.{is_client}
 use Rattle.tk_meeting.specs.Lying.{Deed, doer, Hidden, pair_open}
 use Rattle.tk_meeting.specs.Matched.{pair_noted, no_pairs, pairs_of}
+use Rattle.tk_meeting.proofs.lying.Outcomes.{table_of}
 use Rattle.tk_meeting.proofs.lying.Books.{IsOf, AreAsked}
 use Rattle.tk_meeting.proofs.courses.Picks.{pick}
 use Rattle.tk_meeting.proofs.telling.Rising.{cond-has}
@@ -50,15 +51,15 @@ went-moves k c (Ok t) run moves x =
     (λ e. stays k run x)
 went-moves k c (Err fault) run moves x = stays k run x
 
-module _ (shape : Shape) (j : ℕ) (answers : MemberState → List ℕ) (b : WordBook) where
+module _ (shape : Shape) (j : ℕ) (answers : ℕ → MemberState → List ℕ) (b : WordBook) where
   pub step-moves : (k : Core) (d : Deed) → AllInRun k → AllMove k (core_step shape j answers b k d)
   step-moves k d run =
       let c = doer d in
       let m = k.members c in
-      let r = does_with j (answers m) b m d in
+      let r = does_with j (answers (table_of d) m) b m d in
       cond-has (AllMove k) (is_client shape c) (unless_core (k.ended c) k (went_core c (left r) k)) k
       (unless (k.ended c) (went_core c (left r) k)
-      (went-moves k c r run (does-moves b j (answers m) m d (run c))))
+      (went-moves k c r run (does-moves b j (answers (table_of d) m) m d (run c))))
       (stays k run)
     where
       unless : (o : Option Fault) (after : Core) → AllMove k after → AllMove k (unless_core o k after)

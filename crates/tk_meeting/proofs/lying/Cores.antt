@@ -12,9 +12,11 @@ use Rattle.tk_member.specs.Acting.{Turned}
 use Rattle.tk_member.specs.Steps.{heard, served}
 use Rattle.tk_meeting.specs.Meeting.{Meeting, changed}
 use Rattle.tk_meeting.specs.Events.{unless_ended, is_client, is_server}
-use Rattle.tk_meeting.specs.Lying.{Deed, Says, Ticks, GoesAhead, Claims, Sends, Answers, doer, Hidden, answer_to}
+use Rattle.tk_meeting.specs.Lying.{Deed, Says, Ticks, GoesAhead, Claims, Sends, Answers, doer, Hidden}
+use Rattle.tk_meeting.specs.Lying.{answer_to}
 use Rattle.tk_meeting.specs.Lying.{member_does, went_on, does, after_deeds}
 use Rattle.tk_meeting.specs.Matched.{pair_noted, pairs_noted, pairs_from}
+use Rattle.tk_meeting.proofs.lying.Outcomes.{table_of}
 
 -- the member that is left, or why it ended
 abbrev pub left : Result Turned Fault → Result MemberState Fault
@@ -28,20 +30,20 @@ does_with j answer b m (Ticks c) = heard b m (Some Tick)
 does_with j answer b m (GoesAhead c turns) = heard b m (Some (Ahead turns))
 does_with j answer b m (Claims c count) = heard b m (Some (Has count))
 does_with j answer b m (Sends c i frame) = cond (is_server m.client.shape i) (served b m i frame) (Err Peer)
-does_with j answer b m (Answers c) = served b m j answer
+does_with j answer b m (Answers c table) = served b m j answer
 
 -- the hidden server's answer to what a member has open
-abbrev pub own_answer : Hidden → WordBook → MemberState → List ℕ
-own_answer h b m = answer_to h b m.client.shape m.client.number m.client.read
+abbrev pub own_answer : Hidden → WordBook → ℕ → MemberState → List ℕ
+own_answer h b table m = answer_to h b table m.client.shape m.client.number m.client.read
 
 does-with : (h : Hidden) (b : WordBook) (m : MemberState) (d : Deed) →
-    member_does h b m d ≡ does_with h.server (own_answer h b m) b m d
+    member_does h b m d ≡ does_with h.server (own_answer h b (table_of d) m) b m d
 does-with h b m (Says c log text) = refl
 does-with h b m (Ticks c) = refl
 does-with h b m (GoesAhead c turns) = refl
 does-with h b m (Claims c count) = refl
 does-with h b m (Sends c j frame) = refl
-does-with h b m (Answers c) = refl
+does-with h b m (Answers c table) = refl
 
 -- ---- members
 
@@ -64,19 +66,19 @@ abbrev pub next_core : Shape → ℕ → Result MemberState Fault → Core → C
 next_core shape c result k = cond (is_client shape c) (unless_core (k.ended c) k (went_core c result k)) k
 
 -- where the hidden server answers so
-abbrev pub core_step : Shape → ℕ → (MemberState → List ℕ) → WordBook → Core → Deed → Core
+abbrev pub core_step : Shape → ℕ → (ℕ → MemberState → List ℕ) → WordBook → Core → Deed → Core
 core_step shape j answers b k d =
     let m = k.members (doer d) in
-    next_core shape (doer d) (left (does_with j (answers m) b m d)) k
+    next_core shape (doer d) (left (does_with j (answers (table_of d) m) b m d)) k
 
-unfoldable pub core_run : Shape → ℕ → (MemberState → List ℕ) → WordBook → Core → List Deed → Core
+unfoldable pub core_run : Shape → ℕ → (ℕ → MemberState → List ℕ) → WordBook → Core → List Deed → Core
 core_run shape j answers b k [] = k
 core_run shape j answers b k (d ∷ ds) = core_run shape j answers b (core_step shape j answers b k d) ds
 
 abbrev pub core_noted : Shape → WordBook → Core → Pairs → Pairs
 core_noted shape b k pairs g c = pair_noted shape b g c (pairs g c) (k.members c).client.read
 
-unfoldable pub core_pairs : Shape → ℕ → (MemberState → List ℕ) → WordBook → Core → Pairs → List Deed → Pairs
+unfoldable pub core_pairs : Shape → ℕ → (ℕ → MemberState → List ℕ) → WordBook → Core → Pairs → List Deed → Pairs
 core_pairs shape j answers b k pairs [] = pairs
 core_pairs shape j answers b k pairs (d ∷ ds) =
     let next = core_step shape j answers b k d in

@@ -34,7 +34,7 @@ grows-said m (Ticks c) = grows-none m
 grows-said m (GoesAhead c turns) = grows-none m
 grows-said m (Claims c count) = grows-none m
 grows-said m (Sends c j frame) = grows-none m
-grows-said m (Answers c) = grows-none m
+grows-said m (Answers c table) = grows-none m
 
 does-rises : (h : Hidden) (b : WordBook) (m : MemberState) (d : Deed) → RisesIn m.written (member_does h b m d)
 does-rises h b m (Says c log text) = heard-rises b m (Some (Say log text))
@@ -43,8 +43,8 @@ does-rises h b m (GoesAhead c turns) = heard-rises b m (Some (Ahead turns))
 does-rises h b m (Claims c count) = heard-rises b m (Some (Has count))
 does-rises h b m (Sends c j frame) =
     cond-has (RisesIn m.written) (is_server m.client.shape j) (served b m j frame) (Err Peer) (served-rises b m j frame) tt
-does-rises h b m (Answers c) =
-    served-rises b m h.server (answer_to h b m.client.shape m.client.number m.client.read)
+does-rises h b m (Answers c table) =
+    served-rises b m h.server (answer_to h b table m.client.shape m.client.number m.client.read)
 
 grows-went_on : (m : Meeting) (d : Deed) (r : Result Turned Fault) → RisesIn (m.members (doer d)).written r →
     Grows m (went_on m d r)

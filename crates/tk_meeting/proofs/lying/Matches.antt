@@ -22,6 +22,7 @@ use Rattle.tk_meeting.specs.Meeting.{opening}
 use Rattle.tk_meeting.specs.Events.{is_client}
 use Rattle.tk_meeting.specs.Lying.{Deed, doer, Hidden, pair_open, frame_open, answer_to}
 use Rattle.tk_meeting.specs.Matched.{pair_noted, no_pairs, pairs_of, shown_tape, MatchedOneToOne}
+use Rattle.tk_meeting.proofs.lying.Outcomes.{table_of}
 use Rattle.tk_meeting.proofs.lying.Books.{IsOf}
 use Rattle.tk_meeting.proofs.lying.Cores.{Core, core, left, does_with, own_answer, unless_core, went_core, next_core}
 use Rattle.tk_meeting.proofs.lying.Cores.{core_step, core_noted, core_pairs, pairs-core}
@@ -50,12 +51,12 @@ module _ (S : Script) (h : Hidden) (z : List ℕ) where
       frame_from S.shape (shown_read_cell S.shape h.server pair (read_cell S.shape (regained S z) read.turn c))
       read.turn c read.epoch pair h.server
 
-  abbrev pub found_reply : ℕ → Option OpenRead → List ℕ
-  found_reply c None = []
-  found_reply c (Some read) = reply_frame (reply_to S.shape (h.held read.epoch) (found_frame c read))
+  abbrev pub found_reply : ℕ → ℕ → Option OpenRead → List ℕ
+  found_reply table c None = []
+  found_reply table c (Some read) = reply_frame (reply_to S.shape (h.held table) (found_frame c read))
 
-  abbrev pub found_answer : MemberState → List ℕ
-  found_answer m = found_reply m.client.number m.client.read
+  abbrev pub found_answer : ℕ → MemberState → List ℕ
+  found_answer table m = found_reply table m.client.number m.client.read
 
   abbrev pub found_pairs : List Deed → Pairs
   found_pairs ds = core_pairs S.shape h.server found_answer found_book (core (opening S)) no_pairs ds
@@ -92,12 +93,12 @@ module _ (S : Script) (h : Hidden) (z : List ℕ) where
           pair h.server) (sym is)
 
       -- so it answers the same
-      reply-same : (c : ℕ) (o : Option OpenRead) → c < S.shape.clients → IsBelow (turn_count S.shape) o →
+      reply-same : (table c : ℕ) (o : Option OpenRead) → c < S.shape.clients → IsBelow (turn_count S.shape) o →
           IsOf S.shape found_book pairs c o →
-          answer_to h undone S.shape c o ≡ found_reply c o
-      reply-same c None client turn is = refl
-      reply-same c (Some read) client turn is =
-          ap (λ (r : ReadFrame). reply_frame (reply_to S.shape (h.held read.epoch) r)) (frame-same c read turn client is)
+          answer_to h undone table S.shape c o ≡ found_reply table c o
+      reply-same table c None client turn is = refl
+      reply-same table c (Some read) client turn is =
+          ap (λ (r : ReadFrame). reply_frame (reply_to S.shape (h.held table) r)) (frame-same c read turn client is)
 
       -- ---- the same members
 
@@ -127,17 +128,17 @@ module _ (S : Script) (h : Hidden) (z : List ℕ) where
               below m.client.read
               (subst (λ (x : Shape). m.written ≤ turn_count x) (shapes c) (run c).within) (run c).behind (run c).below
               in
-              let own : own_answer h undone m ≡ found_answer m =
-              (λ i. answer_to h undone (shapes c i) (numbers c i) m.client.read)
-              ∙ reply-same c m.client.read there turns (are c)
-              ∙ ap (λ (x : ℕ). found_reply x m.client.read) (sym (numbers c))
+              let own : own_answer h undone (table_of d) m ≡ found_answer (table_of d) m =
+              (λ i. answer_to h undone (table_of d) (shapes c i) (numbers c i) m.client.read)
+              ∙ reply-same (table_of d) c m.client.read there turns (are c)
+              ∙ ap (λ (x : ℕ). found_reply (table_of d) x m.client.read) (sym (numbers c))
               in
               let words : words_of m.client.shape undone ≡ words_of m.client.shape found_book =
               subst (λ (x : Shape). words_of x undone ≡ words_of x found_book) (sym (shapes c)) words-same
               in
               ap (λ (answer : List ℕ). next_core S.shape c (left (does_with h.server answer undone m d)) k) own
               ∙ ap (λ (r : Result MemberState Fault). next_core S.shape c r k)
-              (does-same undone found_book h.server (found_answer m) m d words)
+              (does-same undone found_book h.server (found_answer (table_of d) m) m d words)
             where
               below : (o : Option OpenRead) → (k.members (doer d)).written ≤ turn_count S.shape →
                   (k.members (doer d)).asked ≤ (k.members (doer d)).written → IsBelow (k.members (doer d)).asked o →
@@ -148,10 +149,10 @@ module _ (S : Script) (h : Hidden) (z : List ℕ) where
               let c = doer d in
               let m = k.members c in
               ap (λ (t : Bool).
-              cond t (unless_core (k.ended c) k (went_core c (left (does_with h.server (own_answer h undone m) undone m d)) k)) k)
+              cond t (unless_core (k.ended c) k (went_core c (left (does_with h.server (own_answer h undone (table_of d) m) undone m d)) k)) k)
               client
               ∙ sym (ap (λ (t : Bool).
-              cond t (unless_core (k.ended c) k (went_core c (left (does_with h.server (found_answer m) found_book m d)) k)) k)
+              cond t (unless_core (k.ended c) k (went_core c (left (does_with h.server (found_answer (table_of d) m) found_book m d)) k)) k)
               client)
 
       noted-same : (k : Core) (p : Pairs) → AreClients k →

@@ -39,7 +39,7 @@ retold-shown texts k (Ticks c) = refl
 retold-shown texts k (GoesAhead c turns) = refl
 retold-shown texts k (Claims c count) = refl
 retold-shown texts k (Sends c j frame) = refl
-retold-shown texts k (Answers c) = refl
+retold-shown texts k (Answers c table) = refl
 
 retold-twice : (texts others : ℕ → Saying) (k : ℕ) (d : Deed) →
     with_text_of others k (with_text_of texts k d) ≡ with_text_of others k d
@@ -48,7 +48,7 @@ retold-twice texts others k (Ticks c) = refl
 retold-twice texts others k (GoesAhead c turns) = refl
 retold-twice texts others k (Claims c count) = refl
 retold-twice texts others k (Sends c j frame) = refl
-retold-twice texts others k (Answers c) = refl
+retold-twice texts others k (Answers c table) = refl
 
 retold-alike : (texts : ℕ → Saying) (k : ℕ) (ds : List Deed) → DoAlike ds (retold texts k ds)
 unfolding retold

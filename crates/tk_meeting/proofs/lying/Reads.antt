@@ -250,4 +250,4 @@ module _ (b : WordBook) where
   does-moves j answer m (Claims c count) run = heard-moves m (Some (Has count)) run
   does-moves j answer m (Sends c i frame) run =
       cond-has (MovesOn m) (is_server m.client.shape i) (served b m i frame) (Err Peer) (served-moves m i frame run) tt
-  does-moves j answer m (Answers c) run = served-moves m j answer run
+  does-moves j answer m (Answers c table) run = served-moves m j answer run

@@ -46,7 +46,7 @@ said-sayable S m (Ticks c) is = is
 said-sayable S m (GoesAhead c turns) is = is
 said-sayable S m (Claims c count) is = is
 said-sayable S m (Sends c j frame) is = is
-said-sayable S m (Answers c) is = is
+said-sayable S m (Answers c table) is = is
 
 does-lasts : (h : Hidden) (b : WordBook) (m : MemberState) (d : Deed) → LastsIn (base_of m) (member_does h b m d)
 does-lasts h b m (Says c log text) = heard-lasts b m (Some (Say log text))
@@ -56,8 +56,8 @@ does-lasts h b m (Claims c count) = heard-lasts b m (Some (Has count))
 does-lasts h b m (Sends c j frame) =
     cond-has (LastsIn (base_of m)) (is_server m.client.shape j) (served b m j frame) (Err Peer)
     (served-lasts b m j frame) tt
-does-lasts h b m (Answers c) =
-    served-lasts b m h.server (answer_to h b m.client.shape m.client.number m.client.read)
+does-lasts h b m (Answers c table) =
+    served-lasts b m h.server (answer_to h b table m.client.shape m.client.number m.client.read)
 
 went-may : (S : Script) (m : Meeting) (d : Deed) (r : Result Turned Fault) → IsSayable S m →
     LastsIn (base_of (m.members (doer d))) r → IsSayable S (went_on m d r)
@@ -121,7 +121,7 @@ module _ (S : Script) (h : Hidden) (holds : HoldsBlocks S.shape h) (a b : WordBo
   said-same m n alike (GoesAhead c turns) = alike.said
   said-same m n alike (Claims c count) = alike.said
   said-same m n alike (Sends c j frame) = alike.said
-  said-same m n alike (Answers c) = alike.said
+  said-same m n alike (Answers c table) = alike.said
 
   went-same : (m n : Meeting) → SaidAlike S m n → (d : Deed) (r s : Result Turned Fault) → outcome r ≡ outcome s →
       IsSayable S (went_on m d r) → IsSayable S (went_on n d s) → SaidAlike S (went_on m d r) (went_on n d s)

@@ -126,4 +126,4 @@ does-same a b j answer m (Sends c i frame) words =
         left (cond t (served a m i frame) (Err Peer)) ≡ left (cond t (served b m i frame) (Err Peer))
     either true = served-same a b m i frame words
     either false = refl
-does-same a b j answer m (Answers c) words = served-same a b m j answer words
+does-same a b j answer m (Answers c table) words = served-same a b m j answer words

@@ -80,7 +80,7 @@ module _ (S : Script) (m : Meeting) (c : ℕ) (speaks : Speaks S c (m.said c) (m
   queued (GoesAhead e turns) is = queued_as
   queued (Claims e count) is = queued_as
   queued (Sends e j frame) is = queued_as
-  queued (Answers e) is = queued_as
+  queued (Answers e table) is = queued_as
 
 -- ---- acting
 
