@@ -4,12 +4,15 @@
 use std::io::Write;
 use std::process::ExitCode;
 use tk_io::{StdSink, StdSource};
+use tk_packets::Streams;
 use tk_serve::serve;
 
 fn main(rt: HostRuntime) -> ExitCode {
-    let mut source = StdSource::new(rt.stdin());
-    let mut sink = StdSink::new(rt.stdout());
-    match serve(rt.alloc(), &mut source, &mut sink) {
+    let mut line = Streams {
+        source: StdSource::new(rt.stdin()),
+        sink: StdSink::new(rt.stdout()),
+    };
+    match serve(rt.alloc(), &mut line) {
         Ok(()) => ExitCode::from(0),
         Err(fault) => {
             // where this can't be told the code tells it

@@ -3,7 +3,7 @@ use std::alloc::Global;
 use std::test::Fail;
 use tk_io::{MemSink, MemSource};
 use tk_member::{Fault, take_part};
-use tk_packets::next_packet;
+use tk_packets::{Streams, next_packet};
 use tk_shape::Memory;
 
 /// Two servers, eight buckets of four slots, blocks of 24 bytes; two clients, three phases of two ticks.
@@ -47,10 +47,12 @@ fn setup(alloc: Global, number: u8, behind: &[u8]) -> Result<Vec<u8>, Memory> {
 
 /// How a member ends that takes this input, and the bytes that it sends.
 fn ended(alloc: Global, input: Vec<u8>) -> Result<(Option<Fault>, Vec<u8>), Memory> {
-    let mut source = MemSource::new(input, 1000, Vec::new(alloc));
-    let mut sink = MemSink::new(alloc, 1000, Vec::new(alloc));
-    let fault = take_part(alloc, &mut source, &mut sink).err();
-    Ok((fault, Vec::from_slice(alloc, sink.bytes())?))
+    let mut line = Streams {
+        source: MemSource::new(input, 1000, Vec::new(alloc)),
+        sink: MemSink::new(alloc, 1000, Vec::new(alloc)),
+    };
+    let fault = take_part(alloc, &mut line).err();
+    Ok((fault, Vec::from_slice(alloc, line.sink.bytes())?))
 }
 
 /// The same behind client 0's setup, for these packets.

@@ -2,15 +2,17 @@ use crate::packing::{push_packet, push_setup, read_bytes, write_bytes};
 use std::alloc::Global;
 use std::test::Fail;
 use tk_io::{MemSink, MemSource};
-use tk_packets::next_packet;
+use tk_packets::{Streams, next_packet};
 use tk_serve::{Fault, serve};
 
 /// Serves what a source gives in pieces of seven bytes; the calls of the source with these numbers fail.
 fn served(alloc: Global, input: Vec<u8>, fails: Vec<u32>) -> (Result<(), Fault>, MemSink) {
-    let mut source = MemSource::new(input, 7, fails);
-    let mut sink = MemSink::new(alloc, 9, Vec::new(alloc));
-    let end = serve(alloc, &mut source, &mut sink);
-    (end, sink)
+    let mut line = Streams {
+        source: MemSource::new(input, 7, fails),
+        sink: MemSink::new(alloc, 9, Vec::new(alloc)),
+    };
+    let end = serve(alloc, &mut line);
+    (end, line.sink)
 }
 
 /// The peers and the first bytes of packets.
@@ -132,9 +134,11 @@ fn a_sink_that_fails_ends_the_run(rt: HostRuntime) -> Result<(), Fail> {
     let mut input = Vec::new(alloc);
     push_setup(&mut input, alloc)?;
     push_packet(&mut input, 1, b"")?;
-    let mut source = MemSource::new(input, 64, Vec::new(alloc));
-    let mut sink = MemSink::new(alloc, 9, vec![in alloc; 2]?);
-    assert!(rt; serve(alloc, &mut source, &mut sink).err() == Some(Fault::Write));
-    assert!(rt; sink.bytes().len() == 9);
+    let mut line = Streams {
+        source: MemSource::new(input, 64, Vec::new(alloc)),
+        sink: MemSink::new(alloc, 9, vec![in alloc; 2]?),
+    };
+    assert!(rt; serve(alloc, &mut line).err() == Some(Fault::Write));
+    assert!(rt; line.sink.bytes().len() == 9);
     Ok(())
 }

@@ -1,5 +1,6 @@
 pub mod Pieces
 pub mod Bits
 pub mod Heads
+pub mod Passings
 pub mod MarkLaws
 pub mod Offers

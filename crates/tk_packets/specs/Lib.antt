@@ -1,4 +1,5 @@
 pub mod Packets
+pub mod Lines
 pub mod Marks
 pub mod Frames
 pub mod Laws

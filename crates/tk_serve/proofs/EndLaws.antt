@@ -1,15 +1,15 @@
 -- How a run ends, from how its next packet does.
-use Rattle.std.proofs.Common.{◌≡◌, ℕ, ◌+◌, ◌⊎◌, refl, sym, ◌∙◌, subst, inl, inr}
-use Rattle.std.proofs.Common.{List, [], ◌∷◌, ◌++◌, OnOk, OnErr, IfOk, Bool, false, IsTrue, ◌↔◌}
+use Rattle.std.proofs.Common.{◌≡◌, ℕ, ◌+◌, ◌⊎◌, refl, sym, ◌∙◌, inl, inr}
+use Rattle.std.proofs.Common.{[], ◌∷◌, ◌++◌, OnOk, OnErr, IfOk, Bool, false, IsTrue, ◌↔◌}
 use Rattle.std.specs.Prelude.{Result, Ok, Err}
 use Rattle.tk_shape.specs.declared.shape.Shape.{Shape}
-use Rattle.tk_packets.specs.Packets.{PacketView}
+use Rattle.tk_packets.specs.Lines.{Gone}
 use Rattle.tk_serve.specs.declared.server.Server.{Server}
 use Rattle.tk_serve.specs.Seats.{empty_seats}
 use Rattle.tk_serve.specs.Steps.{seats_after}
 use Rattle.tk_serve.specs.Setup.{longest_frame}
-use Rattle.tk_serve.specs.Courses.{Told, IsGoing, IsCourse, StopsWithin, RanFront}
-use Rattle.tk_serve.specs.Nexts.{TakesNextFront}
+use Rattle.tk_serve.specs.Courses.{Told, IsGoing, StopsBehind, RanPeer, RanFront}
+use Rattle.tk_serve.specs.Nexts.{TakesNextFront, StrangerNext}
 use Rattle.tk_serve.specs.Stands.{Serves}
 use Rattle.tk_serve.proofs.CourseLaws.{IsRunning, takes-nothing, course-whole, course-front}
 
@@ -26,25 +26,17 @@ pub on_err-holds : {X Y : Type 0} {P : Type 0} (r : Result X Y) → P → OnErr 
 on_err-holds (Ok x) h = tt
 on_err-holds (Err e) h = h
 
--- nothing was put by what came last
-still : (shape : Shape) (frames : List PacketView) (left middle held now new : Told) → new ≡ now →
-    IsCourse shape frames left middle held now → IsCourse shape frames left middle held new
-still shape frames left middle held now new same course =
-    subst (IsCourse shape frames left middle held) (sym same) course
-
-module _ (shape : Shape) (count : ℕ) (s : Server) (left middle held now : Told)
-    (runs : IsRunning shape count s left middle held now) where
-  pub ran-front : (rest new : Told) → IsGoing shape runs.frames →
-      StopsWithin (8 + longest_frame shape) middle rest now new
+module _ (shape : Shape) (count : ℕ) (s : Server) (left middle : Told) (gone now : Gone)
+    (runs : IsRunning shape count s left middle gone now) where
+  pub ran-front : (rest : Told) (new : Gone) → IsGoing shape runs.frames →
+      StopsBehind (8 + longest_frame shape) middle rest now new
       ⊎ TakesNextFront shape (seats_after shape (empty_seats shape) runs.frames) middle rest now new →
-      RanFront shape left rest held new
+      RanFront shape left rest gone new
   ran-front rest new going (inl stops) =
       record {
         frames = runs.frames;
         middle = middle;
-        course =
-            course-whole shape runs.frames left middle held new
-            (still shape runs.frames left middle held now new stops.unchanged runs.course);
+        course = course-whole shape runs.frames left middle gone now new stops.last runs.course stops.took;
         takes = stops.takes;
         over = λ is. absurd (going is);
       }
@@ -52,9 +44,26 @@ module _ (shape : Shape) (count : ℕ) (s : Server) (left middle held now : Told
       record {
         frames = runs.frames ++ next.came ∷ [];
         middle = rest;
-        course = course-front shape runs.frames left middle rest held now new runs.course going next;
+        course = course-front shape runs.frames left middle rest gone now new runs.course going next;
         takes = takes-nothing (8 + longest_frame shape) rest;
         over = λ _. refl;
+      }
+
+  -- a packet of a peer that there is not
+  pub ran-peer : (rest : Told) (new : Gone) → IsGoing shape runs.frames → StrangerNext shape middle rest now new →
+      RanPeer shape left rest gone new
+  ran-peer rest new going next =
+      record {
+        frames = runs.frames;
+        middle = middle;
+        before = now;
+        course = runs.course;
+        going = going;
+        stranger = next.stranger;
+        comes = next.comes;
+        short = next.short;
+        took = next.took;
+        nobody = next.nobody;
       }
 
 -- what holds of a call's value holds of more
@@ -64,9 +73,9 @@ if_ok-map (Err e) f h = tt
 
 -- ---- a server in the course of a run, by what its calls answer
 
-pub serves-now : (shape : Shape) (count : ℕ) (s : Server) (left middle held now : Told) →
-    IsRunning shape count s left middle held now → Serves s
-serves-now shape count s left middle held now runs =
+pub serves-now : (shape : Shape) (count : ℕ) (s : Server) (left middle : Told) (gone now : Gone) →
+    IsRunning shape count s left middle gone now → Serves s
+serves-now shape count s left middle gone now runs =
     record {
       shape_of = shape;
       seats_of = seats_after shape (empty_seats shape) runs.frames;

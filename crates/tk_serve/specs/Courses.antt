@@ -1,14 +1,15 @@
 -- What a server took and put, until it ended.
-use Rattle.std.specs.Prelude.{◌≡◌, ℕ, ◌+◌, ◌^◌, ◌≤◌, ◌<◌, ◌⊎◌, List, length, take, Option}
+use Rattle.std.specs.Prelude.{◌≡◌, ℕ, ◌+◌, ◌^◌, ◌≤◌, ◌<◌, ◌⊎◌, List, ◌++◌, length, take, Option, Some}
 use Rattle.std.specs.List.{AllByRecursion}
 use Rattle.tk_io.specs.Content.{before_taking, emptied, gained}
 use Rattle.tk_shape.specs.declared.shape.Shape.{Shape}
 use Rattle.tk_packets.specs.Packets.{PacketView, packet_bytes, packets_bytes, EndsWithin, ComesLong, TakesAtMost}
-use Rattle.tk_serve.specs.Seats.{empty_seats}
-use Rattle.tk_serve.specs.Steps.{IsOfClient, answers, seats_after, IsOver}
+use Rattle.tk_packets.specs.Lines.{Passing, Gone, passed, taken, after_taking, exchanges}
+use Rattle.tk_serve.specs.Seats.{Seat, empty_seats}
+use Rattle.tk_serve.specs.Steps.{IsOfClient, step_on, answers, seats_after, IsOver}
 use Rattle.tk_serve.specs.Setup.{setup, setup_len, longest_frame}
 
--- what a source has left, and a sink holds, where they tell it
+-- what a line has left, where it tells it
 abbrev pub Told : Type 0
 Told = Option (List ℕ)
 
@@ -26,6 +27,17 @@ pub record Takes (shape : Shape) (frames : List PacketView) (left middle : Told)
 unfoldable pub answered : Shape → List PacketView → List ℕ
 answered shape frames = packets_bytes (answers shape (empty_seats shape) frames)
 
+-- The seats after a packet of a client, and what goes out for it.
+abbrev pub seats_next : Shape → List Seat → PacketView → List Seat
+seats_next shape seats p = (step_on shape seats p).seats
+
+abbrev pub answers_next : Shape → List Seat → PacketView → List PacketView
+answers_next shape seats p = (step_on shape seats p).packets
+
+-- each packet, and behind it what goes out for it, before the next
+unfoldable pub exchanged : Shape → List PacketView → List Passing
+exchanged shape frames = exchanges (seats_next shape) (answers_next shape) (empty_seats shape) frames
+
 -- the run isn't over after these packets
 abbrev pub IsGoing : Shape → List PacketView → Type 0
 IsGoing shape frames = IsOver shape (seats_after shape (empty_seats shape) frames) → ⊥
@@ -34,18 +46,23 @@ IsGoing shape frames = IsOver shape (seats_after shape (empty_seats shape) frame
 abbrev pub Goes : Shape → List PacketView → Type 0
 Goes shape frames = (k : ℕ) → k < length frames → IsGoing shape (take k frames)
 
--- packets of clients were taken while the run wasn't over, and all that goes out for them was put
-pub record IsCourse (shape : Shape) (frames : List PacketView) (left middle held new : Told) : Type 0 where
+-- packets of clients were taken while the run wasn't over, and all that goes out for each was put before the next was
+-- taken
+pub record IsCourse (shape : Shape) (frames : List PacketView) (left middle : Told) (gone new : Gone) : Type 0 where
   pub takes : Takes shape frames left middle
   pub goes : Goes shape frames
-  pub puts : new ≡ gained held (answered shape frames)
+  pub puts : new.bytes ≡ gained gone.bytes (answered shape frames)
+  pub order : new.past ≡ passed gone.past (exchanged shape frames)
 
--- some of it was put
-pub record IsCourseFront (shape : Shape) (frames : List PacketView) (left middle held new : Told) : Type 0 where
+-- some of it was put, and at most one packet was taken behind all of it
+pub record IsCourseFront (shape : Shape) (frames : List PacketView) (left middle : Told) (gone new : Gone) : Type 0 where
   pub takes : Takes shape frames left middle
   pub goes : Goes shape frames
   pub count : ℕ
-  pub puts : new ≡ gained held (take count (answered shape frames))
+  pub puts : new.bytes ≡ gained gone.bytes (take count (answered shape frames))
+  pub last : Option PacketView
+  pub so_far : ℕ
+  pub order : new.past ≡ passed gone.past (take so_far (exchanged shape frames ++ taken last))
 
 -- ---- how it ends, once it is set up
 
@@ -55,49 +72,51 @@ IsDone shape frames left =
     IsOver shape (seats_after shape (empty_seats shape) frames) ⊎ ((left ≡ emptied left)
     ⊎ (2 ^ 64 ≤ length frames + 1))
 
-pub record RanDone (shape : Shape) (left middle held new : Told) : Type 0 where
+pub record RanDone (shape : Shape) (left middle : Told) (gone new : Gone) : Type 0 where
   pub frames : List PacketView
-  pub course : IsCourse shape frames left middle held new
+  pub course : IsCourse shape frames left middle gone new
   pub done : IsDone shape frames middle
 
-pub record RanCut (shape : Shape) (left rest held new : Told) : Type 0 where
+pub record RanCut (shape : Shape) (left rest : Told) (gone new : Gone) : Type 0 where
   pub frames : List PacketView
   pub middle : Told
-  pub course : IsCourse shape frames left middle held new
+  pub course : IsCourse shape frames left middle gone new
   pub going : IsGoing shape frames
   pub cut : EndsWithin (longest_frame shape) middle rest
 
-pub record RanLong (shape : Shape) (left rest held new : Told) : Type 0 where
+pub record RanLong (shape : Shape) (left rest : Told) (gone new : Gone) : Type 0 where
   pub frames : List PacketView
   pub middle : Told
-  pub course : IsCourse shape frames left middle held new
+  pub course : IsCourse shape frames left middle gone new
   pub going : IsGoing shape frames
   pub long : ComesLong (longest_frame shape) middle rest
 
 -- a packet of a peer that there is not
-pub record RanPeer (shape : Shape) (left rest held new : Told) : Type 0 where
+pub record RanPeer (shape : Shape) (left rest : Told) (gone new : Gone) : Type 0 where
   pub frames : List PacketView
   pub middle : Told
-  pub course : IsCourse shape frames left middle held new
+  pub before : Gone
+  pub course : IsCourse shape frames left middle gone before
   pub going : IsGoing shape frames
   pub stranger : PacketView
   pub comes : middle ≡ before_taking (packet_bytes stranger) rest
   pub short : IsShort shape stranger
+  pub took : new ≡ after_taking (Some stranger) before
   pub nobody : (stranger.peer ≡ 0) ⊎ (shape.clients < stranger.peer)
 
 -- all that went out was put while the source could be read; of what was left then no more than a packet was taken
-pub record RanRead (shape : Shape) (left rest held new : Told) : Type 0 where
+pub record RanRead (shape : Shape) (left rest : Told) (gone new : Gone) : Type 0 where
   pub frames : List PacketView
   pub middle : Told
-  pub course : IsCourse shape frames left middle held new
+  pub course : IsCourse shape frames left middle gone new
   pub going : IsGoing shape frames
   pub takes : TakesAtMost (8 + longest_frame shape) middle rest
 
 -- a front of what goes out was put, and no more than a packet was taken besides; nothing, where the run is over
-pub record RanFront (shape : Shape) (left rest held new : Told) : Type 0 where
+pub record RanFront (shape : Shape) (left rest : Told) (gone new : Gone) : Type 0 where
   pub frames : List PacketView
   pub middle : Told
-  pub course : IsCourseFront shape frames left middle held new
+  pub course : IsCourseFront shape frames left middle gone new
   pub takes : TakesAtMost (8 + longest_frame shape) middle rest
   pub over : IsOver shape (seats_after shape (empty_seats shape) frames) → rest ≡ middle
 
@@ -107,6 +126,10 @@ pub record RanFront (shape : Shape) (left rest held new : Told) : Type 0 where
 pub record IsSetUp (shape : Shape) (left middle : Told) : Type 0 where
   pub taken : left ≡ before_taking (packet_bytes (setup shape)) middle
 
+-- what is gone with the packet that sets a server up
+abbrev pub after_setup : Shape → Gone → Gone
+after_setup shape gone = after_taking (Some (setup shape)) gone
+
 -- a run in which what is left after the setup has this
 pub record SetUpThen (Ran : Shape → Told → Type 0) (left : Told) : Type 0 where
   pub shape : Shape
@@ -115,33 +138,39 @@ pub record SetUpThen (Ran : Shape → Told → Type 0) (left : Told) : Type 0 wh
   pub ran : Ran shape middle
 
 -- nothing came at all
-pub record NothingCame (left middle held new : Told) : Type 0 where
+pub record NothingCame (left middle : Told) (gone new : Gone) : Type 0 where
   pub empty : left ≡ emptied left
   pub kept : middle ≡ left
-  pub unchanged : new ≡ held
+  pub unchanged : new ≡ gone
 
 -- the first packet isn't one of the host that sets a server up
-pub record IsNoSetup (left rest held new : Told) : Type 0 where
+pub record IsNoSetup (left rest : Told) (gone new : Gone) : Type 0 where
   pub first : PacketView
   pub comes : left ≡ before_taking (packet_bytes first) rest
   pub short : length first.bytes ≤ setup_len
   pub other : (shape : Shape) → first ≡ setup shape → ⊥
-  pub unchanged : new ≡ held
+  pub took : new ≡ after_taking (Some first) gone
 
--- nothing was put
-abbrev pub IsStill : Told → Told → Type 0
-IsStill held new = new ≡ held
+-- nothing passed
+abbrev pub IsStill : Gone → Gone → Type 0
+IsStill gone new = new ≡ gone
 
 -- and no more than so many bytes were taken
-pub record StopsWithin (most : ℕ) (left rest held new : Told) : Type 0 where
+pub record StopsWithin (most : ℕ) (left rest : Told) (gone new : Gone) : Type 0 where
   pub takes : TakesAtMost most left rest
-  pub unchanged : IsStill held new
+  pub unchanged : IsStill gone new
+
+-- the same where a packet may have been taken, for which nothing was put
+pub record StopsBehind (most : ℕ) (left rest : Told) (gone new : Gone) : Type 0 where
+  pub takes : TakesAtMost most left rest
+  pub last : Option PacketView
+  pub took : new ≡ after_taking last gone
 
 -- the first packet was cut, or longer than one that sets a server up
-pub record CutFirst (left rest held new : Told) : Type 0 where
+pub record CutFirst (left rest : Told) (gone new : Gone) : Type 0 where
   pub cut : EndsWithin setup_len left rest
-  pub unchanged : IsStill held new
+  pub unchanged : IsStill gone new
 
-pub record LongFirst (left rest held new : Told) : Type 0 where
+pub record LongFirst (left rest : Told) (gone new : Gone) : Type 0 where
   pub long : ComesLong setup_len left rest
-  pub unchanged : IsStill held new
+  pub unchanged : IsStill gone new

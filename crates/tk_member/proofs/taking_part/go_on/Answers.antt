@@ -10,11 +10,11 @@ packets-init g c =
     let b = keyed c.args.draws.now.handles.items c.args.draws.now.seeds.items in
     record {
       same = refl;
-      source_counts = omega arith;
-      sink_counts = omega arith;
+      reads_count = omega arith;
+      writes_count = omega arith;
       so_far =
-          taken-none b c.args.member.now (g.S.Source.left c.args.source.now)
-          (g.K.Sink.held c.args.sink.now);
+          taken-none b c.args.member.now (g.L.Line.left c.args.line.now)
+          (g.L.Line.gone c.args.line.now);
     }
 
 pub packets-preserved : goal.packets-preserved
@@ -22,21 +22,21 @@ packets-preserved g c =
     let b = keyed c.args.draws.now.handles.items c.args.draws.now.seeds.items in
     let k = c.packets.member in
     let n = c.take_next.new.member in
-    let middle = g.S.Source.left c.packets.source in
-    let rest = g.S.Source.left c.take_next.new.source in
-    let h = g.K.Sink.held c.packets.sink in
-    let new = g.K.Sink.held c.take_next.new.sink in
+    let middle = g.L.Line.left c.packets.line in
+    let rest = g.L.Line.left c.take_next.new.line in
+    let h = g.L.Line.gone c.packets.line in
+    let new = g.L.Line.gone c.take_next.new.line in
     let one : TookOne b k n middle rest h new =
     subst (λ (more : Bool). TakesNext (Ok more) b k n middle rest h new) c.if-not-more.false
     c.in_ok-more.ensures.next
     in
     record {
       same = c.take_next.ensures.same ∙ c.packets.invariant.same;
-      source_counts = omega (arith, c.packets.invariant.source_counts, c.take_next.ensures.source_counts);
-      sink_counts = omega (arith, c.packets.invariant.sink_counts, c.take_next.ensures.sink_counts);
+      reads_count = omega (arith, c.packets.invariant.reads_count, c.take_next.ensures.reads_count);
+      writes_count = omega (arith, c.packets.invariant.writes_count, c.take_next.ensures.writes_count);
       so_far =
-          taken-next c.packets.taken b c.args.member.now k n (g.S.Source.left c.args.source.now)
-          middle rest (g.K.Sink.held c.args.sink.now) h new c.packets.invariant.so_far
+          taken-next c.packets.taken b c.args.member.now k n (g.L.Line.left c.args.line.now)
+          middle rest (g.L.Line.gone c.args.line.now) h new c.packets.invariant.so_far
           (sym c.is_over.ensures ∙ c.if-is_over.false) one;
     }
 
@@ -44,8 +44,8 @@ pub returns-then-is_over-clause-ends : goal.returns-then-is_over-clause-ends
 returns-then-is_over-clause-ends g c =
     let b = keyed c.args.draws.now.handles.items c.args.draws.now.seeds.items in
     ends-over c.packets.taken b c.args.member.now c.packets.member
-    (g.S.Source.left c.args.source.now) (g.S.Source.left c.packets.source)
-    (g.K.Sink.held c.args.sink.now) (g.K.Sink.held c.packets.sink) c.packets.invariant.so_far
+    (g.L.Line.left c.args.line.now) (g.L.Line.left c.packets.line)
+    (g.L.Line.gone c.args.line.now) (g.L.Line.gone c.packets.line) c.packets.invariant.so_far
     (sym c.is_over.ensures ∙ c.if-is_over.true)
 
 pub returns-in_err-more-clause-ends : goal.returns-in_err-more-clause-ends
@@ -55,9 +55,9 @@ returns-in_err-more-clause-ends g c =
     let out : c.from_residual.result ≡ Err e = search rules in
     rw out
     (ends-later e c.packets.taken b c.args.member.now c.packets.member
-    (g.S.Source.left c.args.source.now) (g.S.Source.left c.packets.source)
-    (g.S.Source.left c.take_next.new.source) (g.K.Sink.held c.args.sink.now)
-    (g.K.Sink.held c.packets.sink) (g.K.Sink.held c.take_next.new.sink)
+    (g.L.Line.left c.args.line.now) (g.L.Line.left c.packets.line)
+    (g.L.Line.left c.take_next.new.line) (g.L.Line.gone c.args.line.now)
+    (g.L.Line.gone c.packets.line) (g.L.Line.gone c.take_next.new.line)
     c.packets.invariant.so_far c.in_err-more.ensures.next)
 
 pub returns-then-not-more-clause-ends : goal.returns-then-not-more-clause-ends
@@ -65,21 +65,21 @@ returns-then-not-more-clause-ends g c =
     let b = keyed c.args.draws.now.handles.items c.args.draws.now.seeds.items in
     let k = c.packets.member in
     let n = c.take_next.new.member in
-    let middle = g.S.Source.left c.packets.source in
-    let rest = g.S.Source.left c.take_next.new.source in
-    let h = g.K.Sink.held c.packets.sink in
-    let new = g.K.Sink.held c.take_next.new.sink in
+    let middle = g.L.Line.left c.packets.line in
+    let rest = g.L.Line.left c.take_next.new.line in
+    let h = g.L.Line.gone c.packets.line in
+    let new = g.L.Line.gone c.take_next.new.line in
     let none : TookNone k n middle rest h new =
     subst (λ (more : Bool). TakesNext (Ok more) b k n middle rest h new) c.if-not-more.true
     c.in_ok-more.ensures.next
     in
-    ends-empty c.packets.taken b c.args.member.now k n (g.S.Source.left c.args.source.now) middle rest
-    (g.K.Sink.held c.args.sink.now) h new c.packets.invariant.so_far none
+    ends-empty c.packets.taken b c.args.member.now k n (g.L.Line.left c.args.line.now) middle rest
+    (g.L.Line.gone c.args.line.now) h new c.packets.invariant.so_far none
 
 pub returns-clause-ends : goal.returns-clause-ends
 returns-clause-ends g c =
     let b = keyed c.args.draws.now.handles.items c.args.draws.now.seeds.items in
     ends-full c.packets.taken b c.args.member.now c.packets.member
-    (g.S.Source.left c.args.source.now) (g.S.Source.left c.packets.source)
-    (g.K.Sink.held c.args.sink.now) (g.K.Sink.held c.packets.sink) c.packets.invariant.so_far
+    (g.L.Line.left c.args.line.now) (g.L.Line.left c.packets.line)
+    (g.L.Line.gone c.args.line.now) (g.L.Line.gone c.packets.line) c.packets.invariant.so_far
     (omega (arith, c.packets-test.false))

@@ -1,4 +1,4 @@
--- Some packets were taken, and all that was sent for them was put.
+-- Some packets were taken, and all that was sent for each was put before the next.
 use Rattle.std.proofs.Common.{◌≡◌, ◌≤◌}
 use Rattle.tk_words.specs.Words.{keyed}
 use Rattle.tk_member.specs.Courses.{HasTaken}
@@ -6,12 +6,12 @@ use Rattle.tk_member.proofs.taking_part.go_on.Given as goal
 
 abbrev pub invariant-packets : goal.invariant-packets
 invariant-packets g l =
-    let left = g.S.Source.left in
-    let held = g.K.Sink.held in
+    let left = g.L.Line.left in
+    let gone = g.L.Line.gone in
     record {
       same : l.member.client.shape ≡ l.fn.member.client.shape;
-      source_counts : g.S.Source.faults l.fn.source ≤ g.S.Source.faults l.source;
-      sink_counts : g.K.Sink.faults l.fn.sink ≤ g.K.Sink.faults l.sink;
+      reads_count : g.L.Line.read_faults l.fn.line ≤ g.L.Line.read_faults l.line;
+      writes_count : g.L.Line.write_faults l.fn.line ≤ g.L.Line.write_faults l.line;
       so_far : HasTaken l.taken (keyed l.draws.handles.items l.draws.seeds.items) l.fn.member l.member
-          (left l.fn.source) (left l.source) (held l.fn.sink) (held l.sink);
+          (left l.fn.line) (left l.line) (gone l.fn.line) (gone l.line);
     }

@@ -1,9 +1,10 @@
 -- The first packet set the server up, and the run went on from there.
-use Rattle.std.proofs.Common.{◌≡◌, ◌≤◌, ◌∙◌, length, ap, rules, inl, inr}
-use Rattle.tk_io.specs.Content.{before_taking}
+use Rattle.std.proofs.Common.{◌≡◌, ℕ, ◌≤◌, ◌∙◌, length, ap, subst, rules, inl, inr, Some}
+use Rattle.tk_io.specs.Content.{Rose, before_taking}
 use Rattle.tk_shape.specs.declared.shape.Shape.{Shape}
 use Rattle.tk_packets.specs.Packets.{packet_bytes, spelling}
-use Rattle.tk_serve.specs.Courses.{Told, SetUpThen, RanDone, RanCut, RanLong, RanPeer, RanRead, RanFront}
+use Rattle.tk_packets.specs.Lines.{Gone, after_taking}
+use Rattle.tk_serve.specs.Courses.{Told, after_setup, SetUpThen, RanDone, RanCut, RanLong, RanPeer, RanRead, RanFront}
 use Rattle.tk_serve.proofs.EndLaws.{on_ok-map, on_err-map, on_err-holds}
 use Rattle.tk_serve.proofs.FirstLaws.{set-up-then, rose-after}
 use Rattle.tk_serve.proofs.NextLaws.{stops-behind}
@@ -13,48 +14,60 @@ pub returns : goal.returns
 returns g c =
     let first = c.in-Ok-Some.first in
     let s = c.in_ok-server.server in
-    let left = g.S.Source.left c.args.source.now in
-    let middle = g.S.Source.left c.next_packet.new.source in
-    let rest = g.S.Source.left c.serve_clients.new.source in
-    let held = g.K.Sink.held c.args.sink.now in
-    let new = g.K.Sink.held c.serve_clients.new.sink in
+    let left = g.L.Line.left c.args.line.now in
+    let middle = g.L.Line.left c.take_packet.new.self in
+    let rest = g.L.Line.left c.serve_clients.new.line in
+    let gone = g.L.Line.gone c.args.line.now in
+    let now = g.L.Line.gone c.take_packet.new.self in
+    let new = g.L.Line.gone c.serve_clients.new.line in
     let comes : left ≡ before_taking (packet_bytes first) middle =
     c.in-Ok-Some.ensures.found ∙ ap (λ o. before_taking (spelling o) middle) c.in-Ok-Some.field-0-is
     in
-    let then : (Ran : Shape → Told → Type 0) → Ran s.shape middle → SetUpThen Ran left =
-    set-up-then c.in-Some.shape first s left middle c.in-Some.ensures.found comes c.in_ok-server.ensures
+    let took : now ≡ after_taking (Some first) gone =
+    c.in-Ok-Some.ensures.took ∙ ap (λ o. after_taking o gone) c.in-Ok-Some.field-0-is
+    in
+    let then : (Ran : Shape → Told → Gone → Type 0) → Ran s.shape middle now →
+    SetUpThen (λ shape m. Ran shape m (after_setup shape gone)) left =
+    set-up-then c.in-Some.shape first s left middle gone now c.in-Some.ensures.found comes took c.in_ok-server.ensures
     in
     record {
       done =
-          on_ok-map c.serve_clients.result (λ ran. inr (then (λ shape m. RanDone shape m rest held new) ran))
+          on_ok-map c.serve_clients.result (λ ran. inr (then (λ shape m gn. RanDone shape m rest gn new) ran))
           c.serve_clients.ensures.done;
       setup = λ is. absurd (c.serve_clients.ensures.setup is);
-      cut = λ is. inr (then (λ shape m. RanCut shape m rest held new) (c.serve_clients.ensures.cut is));
-      long = λ is. inr (then (λ shape m. RanLong shape m rest held new) (c.serve_clients.ensures.long is));
-      peer = λ is. then (λ shape m. RanPeer shape m rest held new) (c.serve_clients.ensures.peer is);
+      cut = λ is. inr (then (λ shape m gn. RanCut shape m rest gn new) (c.serve_clients.ensures.cut is));
+      long = λ is. inr (then (λ shape m gn. RanLong shape m rest gn new) (c.serve_clients.ensures.long is));
+      peer = λ is. then (λ shape m gn. RanPeer shape m rest gn new) (c.serve_clients.ensures.peer is);
       front =
-          on_err-map c.serve_clients.result (λ ran. inr (then (λ shape m. RanFront shape m rest held new) ran))
+          on_err-map c.serve_clients.result (λ ran. inr (then (λ shape m gn. RanFront shape m rest gn new) ran))
           c.serve_clients.ensures.front;
-      whole = λ is. inr (then (λ shape m. RanRead shape m rest held new) (c.serve_clients.ensures.whole is));
-      read = λ is. rose-after _ _ _ c.next_packet.ensures.counts (c.serve_clients.ensures.read is);
-      write = c.serve_clients.ensures.write;
+      whole = λ is. inr (then (λ shape m gn. RanRead shape m rest gn new) (c.serve_clients.ensures.whole is));
+      read = λ is. rose-after _ _ _ c.take_packet.ensures.counts (c.serve_clients.ensures.read is);
+      write = λ is.
+          subst (λ (n : ℕ). Rose n (g.L.Line.write_faults c.serve_clients.new.line)) c.take_packet.ensures.writes
+          (c.serve_clients.ensures.write is);
     }
 
 pub returns-in_default-clause-front : goal.returns-in_default-clause-front
 returns-in_default-clause-front g c =
     let first = c.in-Ok-Some.first in
-    let left = g.S.Source.left c.args.source.now in
-    let rest = g.S.Source.left c.next_packet.new.source in
+    let left = g.L.Line.left c.args.line.now in
+    let rest = g.L.Line.left c.take_packet.new.self in
     let comes : left ≡ before_taking (packet_bytes first) rest = search rules in
     let short : length first.bytes ≤ 52 = search rules in
-    inl (stops-behind 52 first left rest (g.K.Sink.held c.args.sink.now) comes short)
+    let gone = g.L.Line.gone c.args.line.now in
+    let now = g.L.Line.gone c.take_packet.new.self in
+    let took : now ≡ after_taking (Some first) gone = search rules in
+    inl (stops-behind 52 first left rest gone now comes short took)
 
 pub returns-in_err-server-clause-front : goal.returns-in_err-server-clause-front
 returns-in_err-server-clause-front g c =
     let first = c.in-Ok-Some.first in
-    let left = g.S.Source.left c.args.source.now in
-    let rest = g.S.Source.left c.next_packet.new.source in
+    let left = g.L.Line.left c.args.line.now in
+    let rest = g.L.Line.left c.take_packet.new.self in
     let comes : left ≡ before_taking (packet_bytes first) rest = search rules in
     let short : length first.bytes ≤ 52 = search rules in
-    on_err-holds c.from_residual.result
-    (inl (stops-behind 52 first left rest (g.K.Sink.held c.args.sink.now) comes short))
+    let gone = g.L.Line.gone c.args.line.now in
+    let now = g.L.Line.gone c.take_packet.new.self in
+    let took : now ≡ after_taking (Some first) gone = search rules in
+    on_err-holds c.from_residual.result (inl (stops-behind 52 first left rest gone now comes short took))

@@ -4,7 +4,7 @@ use Rattle.tk_serve.specs.Seats.{empty_seats}
 use Rattle.tk_serve.specs.Steps.{seats_after}
 use Rattle.tk_serve.specs.Stands.{Stands}
 use Rattle.tk_serve.specs.Setup.{longest_frame}
-use Rattle.tk_serve.specs.Courses.{IsGoing, StopsWithin}
+use Rattle.tk_serve.specs.Courses.{IsGoing, StopsBehind}
 use Rattle.tk_serve.specs.Nexts.{TakesNext, TakesNextFront}
 use Rattle.tk_serve.proofs.CourseLaws.{running-first, running-next}
 use Rattle.tk_serve.proofs.EndLaws.{tested-not, ran-front}
@@ -14,8 +14,8 @@ pub packets-init : goal.packets-init
 packets-init g c = record {
   same = refl;
   runs =
-      running-first c.args.server.now.shape c.args.server.now (g.S.Source.left c.args.source.now)
-      (g.K.Sink.held c.args.sink.now) c.requires;
+      running-first c.args.server.now.shape c.args.server.now (g.L.Line.left c.args.line.now)
+      (g.L.Line.gone c.args.line.now) c.requires;
   reads = omega arith;
   puts = omega arith;
 }
@@ -30,14 +30,14 @@ returns-in-Err-clause-front g c =
     tested-not c.is_over.result (c.is_over.ensures shape seats inv.runs.stands) c.if-is_over.false
     in
     let own = subst (λ sh. Stands sh seats s) (sym inv.same) inv.runs.stands in
-    let middle = g.S.Source.left c.packets.source in
-    let rest = g.S.Source.left c.serve_next.new.source in
-    let now = g.K.Sink.held c.packets.sink in
-    let new = g.K.Sink.held c.serve_next.new.sink in
-    let front = subst (λ sh. StopsWithin (8 + longest_frame sh) middle rest now new
+    let middle = g.L.Line.left c.packets.line in
+    let rest = g.L.Line.left c.serve_next.new.line in
+    let now = g.L.Line.gone c.packets.line in
+    let new = g.L.Line.gone c.serve_next.new.line in
+    let front = subst (λ sh. StopsBehind (8 + longest_frame sh) middle rest now new
     ⊎ TakesNextFront sh seats middle rest now new) inv.same (c.in-Err.ensures.front seats own)
     in
-    ran-front shape c.packets.counter s (g.S.Source.left c.args.source.now) middle (g.K.Sink.held c.args.sink.now) now
+    ran-front shape c.packets.counter s (g.L.Line.left c.args.line.now) middle (g.L.Line.gone c.args.line.now) now
     inv.runs rest new going front
 
 pub packets-preserved : goal.packets-preserved
@@ -50,18 +50,18 @@ packets-preserved g c =
     tested-not c.is_over.result (c.is_over.ensures shape seats inv.runs.stands) c.if-is_over.false
     in
     let own = subst (λ sh. Stands sh seats s) (sym inv.same) inv.runs.stands in
-    let middle = g.S.Source.left c.packets.source in
-    let rest = g.S.Source.left c.serve_next.new.source in
-    let now = g.K.Sink.held c.packets.sink in
-    let new = g.K.Sink.held c.serve_next.new.sink in
+    let middle = g.L.Line.left c.packets.line in
+    let rest = g.L.Line.left c.serve_next.new.line in
+    let now = g.L.Line.gone c.packets.line in
+    let new = g.L.Line.gone c.serve_next.new.line in
     let next = subst (λ sh. TakesNext sh seats c.serve_next.new.server middle rest now new) inv.same
     (c.serve_next.ensures.next seats own (cc))
     in
     record {
       same = c.serve_next.ensures.shape ∙ inv.same;
       runs =
-          running-next shape c.packets.counter s c.serve_next.new.server (g.S.Source.left c.args.source.now) middle rest
-          (g.K.Sink.held c.args.sink.now) now new inv.runs going next;
-      reads = omega (arith, inv.reads, c.serve_next.ensures.source_counts);
-      puts = omega (arith, inv.puts, c.serve_next.ensures.sink_counts);
+          running-next shape c.packets.counter s c.serve_next.new.server (g.L.Line.left c.args.line.now) middle rest
+          (g.L.Line.gone c.args.line.now) now new inv.runs going next;
+      reads = omega (arith, inv.reads, c.serve_next.ensures.reads_count);
+      puts = omega (arith, inv.puts, c.serve_next.ensures.writes_count);
     }
