@@ -13,3 +13,4 @@ pub mod gotten
 pub mod scripts
 pub mod shown
 pub mod lying
+pub mod programs

@@ -11,3 +11,4 @@ pub mod Lying
 pub mod Scripts
 pub mod Matched
 pub mod Adaptive
+pub mod Programs

@@ -7,6 +7,7 @@ ghost use Rattle.tk_meeting.specs.Laws.{MeetingsAreSerial};
 ghost use Rattle.tk_meeting.specs.Matched.{HonestHold, LiarsSeeAlike, MatchedOneToOne};
 ghost use Rattle.tk_meeting.specs.OwnBooks.{OwnKeysServe};
 ghost use Rattle.tk_meeting.specs.Pacing.{MeetingsKeepPace};
+ghost use Rattle.tk_meeting.specs.Programs.{MembersAct, ProgramsMeet, ServersAct};
 ghost use Rattle.tk_meeting.specs.Scripts.{LiedHaveScripts, MeetingsHaveScripts};
 ghost use Rattle.tk_meeting.specs.Shown.{MembersActAlike};
 
@@ -93,4 +94,16 @@ pub fn honest_hold()
 /// have.
 pub fn lied_have_scripts()
     ensures { LiedHaveScripts }
+{}
+
+/// Programs that do what `serve` and `take_part` ensure, and whose streams agree link by link at any time, are some
+/// meeting: each member and each server stands as the program does.
+pub fn programs_meet()
+    ensures { ProgramsMeet }
+{}
+
+/// What passes over the line of `take_part` and of `serve`, where the line tells it, is what those programs do.
+pub fn clauses_say_programs()
+    ensures members { MembersAct }
+    ensures servers { ServersAct }
 {}

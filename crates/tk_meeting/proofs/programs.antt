@@ -1,0 +1,12 @@
+pub mod Moments
+pub mod Shapes
+pub mod Doings
+pub mod Standing
+pub mod Serving
+pub mod Taking
+pub mod Hearing
+pub mod Acting
+pub mod Answering
+pub mod Meeting
+pub mod Clauses
+pub mod Served

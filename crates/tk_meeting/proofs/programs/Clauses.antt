@@ -1,0 +1,120 @@
+-- What the clauses of a member say of what passed over its line.
+use Rattle.std.proofs.Common.{◌≡◌, ◌∙◌, refl, ℕ, ap, sym, subst, List, [], ◌∷◌, ◌++◌, length, take, append-nil}
+use Rattle.std.specs.Prelude.{Option, Some, None, Result, Ok, Err}
+use Rattle.std.proofs.Math.Seq.{take-append_seam}
+use Rattle.tk_script.specs.declared.script.Script.{Script}
+use Rattle.tk_words.specs.Words.{WordBook}
+use Rattle.tk_packets.specs.Packets.{PacketView}
+use Rattle.tk_packets.specs.Lines.{Passing, Took, Gone, passed, taken, after_taking}
+use Rattle.tk_packets.proofs.Offers.{passed-twice}
+use Rattle.tk_member.specs.declared.fault.Fault.{Fault}
+use Rattle.tk_member.specs.declared.fault.Fault.TheVariants.{Memory, Read, Write, Cut, Long, Setup}
+use Rattle.tk_member.specs.declared.fault.Fault.TheVariants.{Peer, Differ, Refused, Older}
+use Rattle.tk_member.specs.Members.{MemberState}
+use Rattle.tk_member.specs.Acting.{Turned}
+use Rattle.tk_member.specs.Courses.{Told, exchanged, IsCourse, EndsBetween, EndsAt, EndsWriting, EndsFor, Ends}
+use Rattle.tk_meeting.specs.Programs.{first_member, HasActed, MembersAct}
+
+-- all of a list is a front of it, and of it with nothing behind it
+pub front-all : (xs : List Passing) → xs ≡ take (length xs) xs
+front-all xs = sym (take-append_seam xs []) ∙ ap (take (length xs)) (append-nil xs)
+
+-- what passed behind the first packet
+pub begun : (gone : Gone) (first : PacketView) (xs : List Passing) (past : Option (List Passing)) →
+    gone.past ≡ Some [] → past ≡ passed (after_taking (Some first) gone).past xs → past ≡ Some (Took first ∷ xs)
+begun gone first xs past none is = is ∙ ap (λ o. passed (passed o (Took first ∷ [])) xs) none
+
+module _ (S : Script) (b : WordBook) (c : ℕ) (first : PacketView) (gone : Gone) (none : gone.past ≡ Some []) where
+  abbrev m : MemberState
+  m = first_member S c
+
+  abbrev begins : Gone
+  begins = after_taking (Some first) gone
+
+  writing : (left rest : Told) (new : Gone) → EndsWriting b m left rest begins new → HasActed S b c first new.past
+  writing left rest new ends =
+      record {
+        passed = take ends.so_far (exchanged b m ends.takes.packets ++ taken ends.besides);
+        all = begun gone first _ new.past none ends.order;
+        acts =
+            record {
+              packets = ends.takes.packets;
+              turned = ends.last;
+              stands = ends.takes.stands;
+              last = ends.besides;
+              count = ends.so_far;
+              order = refl;
+            };
+      }
+
+  course : (t : Turned) (left middle : Told) (new : Gone) → IsCourse b m t left middle begins new →
+      HasActed S b c first new.past
+  course t left middle new is =
+      let xs = exchanged b m is.takes.packets in
+      record {
+        passed = xs;
+        all = begun gone first xs new.past none is.order;
+        acts =
+            record {
+              packets = is.takes.packets;
+              turned = t;
+              stands = is.takes.stands;
+              last = None;
+              count = length xs;
+              order = sym (take-append_seam xs []);
+            };
+      }
+
+  at : (fault : Fault) (left rest : Told) (new : Gone) → EndsAt fault b m left rest begins new →
+      HasActed S b c first new.past
+  at fault left rest new ends =
+      let xs = exchanged b m ends.course.takes.packets in
+      let all = xs ++ taken (Some ends.packet) in
+      let is : new.past ≡ passed begins.past all =
+      ap (λ (g : Gone). g.past) ends.took
+      ∙ ap (λ o. passed o (taken (Some ends.packet))) ends.course.order
+      ∙ passed-twice begins.past xs (taken (Some ends.packet))
+      in
+      record {
+        passed = all;
+        all = begun gone first all new.past none is;
+        acts =
+            record {
+              packets = ends.course.takes.packets;
+              turned = ends.last;
+              stands = ends.course.takes.stands;
+              last = Some ends.packet;
+              count = length all;
+              order = front-all all;
+            };
+      }
+
+  between : (Fails : Told → Told → Type 0) (left rest : Told) (new : Gone) →
+      EndsBetween Fails b m left rest begins new → HasActed S b c first new.past
+  between Fails left rest new ends = course ends.last left ends.middle new ends.course
+
+  for-fault : (fault : Fault) (left rest : Told) (new : Gone) → EndsFor fault b m left rest begins new →
+      HasActed S b c first new.past
+  for-fault Memory left rest new ends = writing left rest new ends
+  for-fault Read left rest new ends = between _ left rest new ends
+  for-fault Write left rest new ends = writing left rest new ends
+  for-fault Cut left rest new ends = between _ left rest new ends
+  for-fault Long left rest new ends = between _ left rest new ends
+  for-fault Setup left rest new ends = absurd ends
+  for-fault Peer left rest new ends = at Peer left rest new ends
+  for-fault Differ left rest new ends = at Differ left rest new ends
+  for-fault Refused left rest new ends = at Refused left rest new ends
+  for-fault Older left rest new ends = at Older left rest new ends
+
+  pub ended : (result : Result (Unit {0}) Fault) (left rest : Told) (new : Gone) →
+      Ends result b m left rest begins new → HasActed S b c first new.past
+  ended (Ok t) left rest new ends = course ends.last left rest new ends.course
+  ended (Err fault) left rest new ends = for-fault fault left rest new ends
+
+pub members-act : MembersAct
+members-act result left rest gone new part none =
+    let S = part.sets.input.first in
+    let c = part.sets.number in
+    ended S part.words c part.first gone none result part.middle rest new
+    (subst (λ (m : MemberState). Ends result part.words m part.middle rest (after_taking (Some part.first) gone) new)
+    part.sets.member part.ends)

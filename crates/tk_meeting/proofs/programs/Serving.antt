@@ -1,0 +1,163 @@
+-- A server takes a client's next frame.
+use Rattle.std.proofs.Common.{◌≡◌, ◌∙◌, ap, ap₂, sym, subst, arith, ℕ, ◌+◌, ◌-◌, ◌≤◌, ◌<◌, Bool, true, false, cond}
+use Rattle.std.proofs.Common.{List, [], ◌∷◌, ◌++◌, map, append_assoc, append-nil}
+use Rattle.std.specs.Prelude.{◌==◌, ◌&&◌}
+use Rattle.std.proofs.lemmas.Bool.{eqb-true, eq-eqb, ne_eqb, lt-ltb, le-leb}
+use Rattle.tk_script.specs.declared.script.Script.{Script}
+use Rattle.tk_words.specs.Words.{WordBook}
+use Rattle.tk_packets.specs.Packets.{PacketView}
+use Rattle.tk_serve.specs.Seats.{empty_seats}
+use Rattle.tk_serve.specs.Steps.{Step, step, step_on}
+use Rattle.tk_serve.specs.Courses.{seats_next, answers_next}
+use Rattle.tk_meeting.specs.Meeting.{Meeting, changed, server_went, frames_for}
+use Rattle.tk_meeting.specs.Events.{Up, is_client, is_server, happens, comes_up}
+use Rattle.tk_meeting.specs.Programs.{seats_from}
+use Rattle.tk_meeting.proofs.courses.Picks.{pick}
+use Rattle.tk_meeting.proofs.members.Packets.{frames-append}
+use Rattle.tk_meeting.proofs.programs.Moments.{state-one, sent-one}
+use Rattle.tk_meeting.proofs.programs.Doings.{one_more}
+use Rattle.tk_meeting.proofs.programs.Standing.{IsAt, sent_of, served_of}
+
+abbrev bytes_of : PacketView → List ℕ
+bytes_of p = p.bytes
+
+-- the frame of a packet is its peer's alone
+pub frame-own : (j : ℕ) (p : PacketView) → p.peer ≡ j → frames_for j (p ∷ []) ≡ p.bytes ∷ []
+frame-own j p same = ap (λ (b : Bool). map bytes_of (cond b (p ∷ []) [])) (eq-eqb p.peer j same)
+
+pub frame-other : (j : ℕ) (p : PacketView) → (p.peer ≡ j → ⊥) → frames_for j (p ∷ []) ≡ []
+frame-other j p other = ap (λ (b : Bool). map bytes_of (cond b (p ∷ []) [])) (ne_eqb p.peer j other)
+
+pub there-own : (j : ℕ) (ps : List PacketView) (p : PacketView) (rest : List (List ℕ)) → p.peer ≡ j →
+    frames_for j (ps ++ p ∷ []) ++ rest ≡ frames_for j ps ++ p.bytes ∷ rest
+there-own j ps p rest same =
+    ap (λ fs. fs ++ rest)
+    (frames-append j ps (p ∷ []) ∙ ap (λ fs. frames_for j ps ++ fs) (frame-own j p same))
+    ∙ append_assoc (frames_for j ps) (p.bytes ∷ []) rest
+
+pub there-other : (j : ℕ) (ps : List PacketView) (p : PacketView) → (p.peer ≡ j → ⊥) →
+    frames_for j (ps ++ p ∷ []) ≡ frames_for j ps
+there-other j ps p other =
+    frames-append j ps (p ∷ []) ∙ ap (λ fs. frames_for j ps ++ fs) (frame-other j p other)
+    ∙ append-nil (frames_for j ps)
+
+pub is-client : (S : Script) (c : ℕ) → c < S.shape.clients → is_client S.shape c ≡ true
+is-client S c low = lt-ltb c S.shape.clients low
+
+pub is-server : (S : Script) (j : ℕ) → 1 ≤ j → j ≤ S.shape.servers → is_server S.shape j ≡ true
+is-server S j one most =
+    ap₂ (λ (a b : Bool). a && b) (lt-ltb 0 j (omega (arith, one))) (le-leb j S.shape.servers most)
+
+module _ (S : Script) (books : ℕ → WordBook) (clients servers : ℕ → List PacketView) (m : Meeting)
+    (at : IsAt S books clients servers m) (c j : ℕ) (low : c < S.shape.clients) (one : 1 ≤ j)
+    (most : j ≤ S.shape.servers) (p : PacketView) (peer : p.peer ≡ c + 1) (rest : List (List ℕ)) where
+  abbrev now : ℕ → List PacketView
+  now = one_more j p servers
+
+  abbrev seats_then : Step
+  seats_then = step S.shape (m.seats j) c p.bytes
+
+  abbrev then : Meeting
+  then =
+      server_went (record m { up = changed c (changed j rest (m.up c)) m.up }) j seats_then
+
+  steps-on : seats_then ≡ step_on S.shape (seats_from S.shape (servers j)) p
+  steps-on =
+      let client : c ≡ p.peer - 1 = omega (arith, peer) in
+      ap₂ (λ seats n. step S.shape seats n p.bytes) (at.seats j one most) client
+
+  seats-are : (i : ℕ) → 1 ≤ i → i ≤ S.shape.servers → then.seats i ≡ seats_from S.shape (now i)
+  seats-are i first last =
+      pick (λ b. cond b seats_then.seats (m.seats i) ≡ seats_from S.shape (cond b (servers j ++ p ∷ []) (servers i)))
+      (i == j)
+      (λ _. ap (λ (s : Step). s.seats) steps-on
+      ∙ sym (state-one (seats_next S.shape) (answers_next S.shape) (empty_seats S.shape) (servers j) p))
+      (λ _. at.seats i first last)
+
+  down-is : (i d : ℕ) → 1 ≤ i → i ≤ S.shape.servers → d < S.shape.clients →
+      frames_for i (clients d) ++ then.down i d ≡ frames_for (d + 1) (served_of S (now i))
+  down-is i d first last within =
+      pick (λ b.
+      frames_for i (clients d)
+      ++ (cond b (λ k. m.down j k ++ frames_for (k + 1) seats_then.packets) (m.down i)) d
+      ≡ frames_for (d + 1) (served_of S (cond b (servers j ++ p ∷ []) (servers i)))) (i == j)
+      (λ same.
+      subst (λ k.
+      frames_for k (clients d) ++ (m.down j d ++ frames_for (d + 1) seats_then.packets)
+      ≡ frames_for (d + 1) (served_of S (servers j ++ p ∷ []))) (sym (eqb-true i j same)) here)
+      (λ _. at.down i d first last within)
+    where
+      here : frames_for j (clients d) ++ (m.down j d ++ frames_for (d + 1) seats_then.packets)
+          ≡ frames_for (d + 1) (served_of S (servers j ++ p ∷ []))
+      here =
+          sym (append_assoc (frames_for j (clients d)) (m.down j d) (frames_for (d + 1) seats_then.packets))
+          ∙ ap₂ (λ (xs ys : List (List ℕ)). xs ++ ys) (at.down j d one most within)
+          (ap (λ (s : Step). frames_for (d + 1) s.packets) steps-on)
+          ∙ sym (frames-append (d + 1) (served_of S (servers j))
+          (answers_next S.shape (seats_from S.shape (servers j)) p))
+          ∙ ap (frames_for (d + 1))
+          (sym (sent-one (seats_next S.shape) (answers_next S.shape) (empty_seats S.shape) (servers j) p))
+
+  up-is : m.up c j ≡ p.bytes ∷ rest → (d i : ℕ) → d < S.shape.clients → 1 ≤ i → i ≤ S.shape.servers →
+      frames_for (d + 1) (now i) ++ then.up d i ≡ frames_for i (sent_of S books d (clients d))
+  up-is comes d i within first last =
+      pick (λ b.
+      frames_for (d + 1) (now i) ++ (cond b (changed j rest (m.up c)) (m.up d)) i
+      ≡ frames_for i (sent_of S books d (clients d))) (d == c)
+      (λ same.
+      subst (λ k.
+      frames_for (k + 1) (now i) ++ changed j rest (m.up c) i ≡ frames_for i (sent_of S books k (clients k)))
+      (sym (eqb-true d c same)) mine)
+      (λ apart. others apart)
+    where
+      own : frames_for (c + 1) (servers j ++ p ∷ []) ++ rest ≡ frames_for j (sent_of S books c (clients c))
+      own =
+          there-own (c + 1) (servers j) p rest peer
+          ∙ ap (λ fs. frames_for (c + 1) (servers j) ++ fs) (sym comes) ∙ at.up c j low one most
+
+      mine : frames_for (c + 1) (now i) ++ changed j rest (m.up c) i ≡ frames_for i (sent_of S books c (clients c))
+      mine =
+          pick (λ b.
+          frames_for (c + 1) (cond b (servers j ++ p ∷ []) (servers i)) ++ cond b rest (m.up c i)
+          ≡ frames_for i (sent_of S books c (clients c))) (i == j)
+          (λ same.
+          subst (λ k.
+          frames_for (c + 1) (servers j ++ p ∷ []) ++ rest ≡ frames_for k (sent_of S books c (clients c)))
+          (sym (eqb-true i j same)) own)
+          (λ _. at.up c i low first last)
+
+      others : (d == c) ≡ false →
+          frames_for (d + 1) (now i) ++ m.up d i ≡ frames_for i (sent_of S books d (clients d))
+      others apart =
+          let other : p.peer ≡ d + 1 → ⊥ =
+          λ is.
+          let same : d ≡ c = omega (arith, peer, is) in
+          let clash : true ≡ false = sym (eq-eqb d c same) ∙ apart in
+          absurd (cc (clash))
+          in
+          pick (λ b.
+          frames_for (d + 1) (cond b (servers j ++ p ∷ []) (servers i)) ++ m.up d i
+          ≡ frames_for i (sent_of S books d (clients d))) (i == j)
+          (λ same.
+          ap (λ fs. fs ++ m.up d i) (there-other (d + 1) (servers j) p other)
+          ∙ subst (λ k. frames_for (d + 1) (servers j) ++ m.up d k ≡ frames_for k (sent_of S books d (clients d)))
+          (sym (eqb-true i j same)) (at.up d j within one most))
+          (λ _. at.up d i within first last)
+
+  pub server-steps : m.up c j ≡ p.bytes ∷ rest →
+      IsAt S books clients now (happens S.shape books m (Up c j))
+  unfolding happens
+  server-steps comes =
+      let next : happens S.shape books m (Up c j) ≡ then =
+      ap₂ (λ (a b : Bool). cond (a && b) (comes_up S.shape m c j (m.up c j)) m) (is-client S c low)
+      (is-server S j one most)
+      ∙ ap (comes_up S.shape m c j) comes
+      in
+      subst (λ (n : Meeting). IsAt S books clients now n) (sym next) (record {
+        members = at.members;
+        going = at.going;
+        told = at.told;
+        seats = seats-are;
+        up = up-is comes;
+        down = down-is;
+      })
