@@ -7,29 +7,28 @@ use Rattle.std.specs.Prelude.{slice_index_or, Vec, Ok, IfOk}
 use Rattle.std.specs.Global.{Global}
 use Rattle.tk_shape.specs.declared.shape.Shape.{Shape}
 use Rattle.tk_frames.specs.declared.entry.Placed.{Placed}
-use Rattle.tk_replica.specs.Replies.{reply_bytes}
 use Rattle.tk_cluster.specs.Refusals.{IsAsked}
 use Rattle.tk_run.specs.declared.talking.Reading.{Reading}
 use Rattle.tk_run.specs.Rows.{Frame}
 use Rattle.tk_run.specs.Reading.{EachAt}
-use Rattle.tk_run.specs.Answering.{MayAnswer, IsAnswered, AllStand, MayReply, AreGiven, Replies, AllReply, set_of}
+use Rattle.tk_run.specs.Answering.{MayAnswer, IsAnswered, AllStand, MayReply, AreGiven, Replies, AllReply, Due, set_of}
 use Rattle.tk_run.specs.Answering.{frame_of}
 use Rattle.tk_run.proofs.Cuts.{map-next, take_none}
 use Rattle.tk_run.proofs.TalkAll.{map-at}
 
 -- the first servers replied, over the entries that the sets stand for
-pub record IsReplied (stand : Shape → List Placed → Type 0) (n : ℕ) (old new : Reading) : Type 0
-  where
-    pub client : new.client ≡ old.client
-    pub turn : new.talk.turn ≡ old.talk.turn
-    pub set : new.talk.set ≡ old.talk.set
-    pub asked : new.talk.asked.items ≡ old.talk.asked.items
-    pub replies : (shape : Shape) (E : List Placed) → stand shape E →
-        new.talk.replies.items ≡ map (reply_bytes shape E) (take n old.talk.asked.items)
+pub record IsReplied (due : Due) (stand : Shape → List Placed → Type 0) (n : ℕ) (old new : Reading)
+    : Type 0 where
+  pub client : new.client ≡ old.client
+  pub turn : new.talk.turn ≡ old.talk.turn
+  pub set : new.talk.set ≡ old.talk.set
+  pub asked : new.talk.asked.items ≡ old.talk.asked.items
+  pub replies : (shape : Shape) (E : List Placed) → stand shape E →
+      new.talk.replies.items ≡ map (due shape E) (take n old.talk.asked.items)
 
-pub replied-none : (shape : Shape) (stand : Shape → List Placed → Type 0) (rs : List Reading) →
-    All (MayAnswer shape) rs → EachAt (IsReplied stand 0) rs rs
-replied-none shape stand rs may k d low =
+pub replied-none : (due : Due) (shape : Shape) (stand : Shape → List Placed → Type 0) (rs : List Reading) →
+    All (MayAnswer shape) rs → EachAt (IsReplied due stand 0) rs rs
+replied-none due shape stand rs may k d low =
     record {
       client = refl;
       turn = refl;
@@ -37,7 +36,7 @@ replied-none shape stand rs may k d low =
       asked = refl;
       replies = λ other E stands.
           (may k d low).unreplied
-          ∙ ap (map (reply_bytes other E)) (sym (take_none (slice_index_or rs k d).talk.asked.items));
+          ∙ ap (map (due other E)) (sym (take_none (slice_index_or rs k d).talk.asked.items));
     }
 
 -- the frames of a server
@@ -73,11 +72,11 @@ replies-due shape i rs frames may inside frames_are =
     }
 
 -- as many replies as there are reads
-pub replies-counted : (shape : Shape) (E : List Placed) (i : ℕ) (rs : List Reading)
-    (replies : List Frame) → replies ≡ map (reply_bytes shape E) (map (frame_of i) rs) →
+pub replies-counted : (due : Due) (shape : Shape) (E : List Placed) (i : ℕ) (rs : List Reading)
+    (replies : List Frame) → replies ≡ map (due shape E) (map (frame_of i) rs) →
     length replies ≡ length rs
-replies-counted shape E i rs replies are =
-    ap length are ∙ length-map (map (frame_of i) rs) (reply_bytes shape E)
+replies-counted due shape E i rs replies are =
+    ap length are ∙ length-map (map (frame_of i) rs) (due shape E)
     ∙ length-map rs (frame_of i)
 
 -- what the next server replied, where these before it are given
@@ -87,10 +86,10 @@ module _ (shape : Shape) (rs : List Reading) (answers given rest : List Replies)
   server-inside counted =
       omega (arith, counted, ap length whole, length-append given (x ∷ rest))
 
-  pub server-replied : (replies : Vec Frame Global) → x ≡ Ok replies → AllReply rs answers →
-      (other : Shape) (E : List Placed) → AllStand rs other E →
-      replies.items ≡ map (reply_bytes other E) (map (frame_of (length given)) rs)
-  server-replied replies is all other E stands =
+  pub server-replied : (due : Due) (replies : Vec Frame Global) → x ≡ Ok replies →
+      AllReply due rs answers → (other : Shape) (E : List Placed) → AllStand rs other E →
+      replies.items ≡ map (due other E) (map (frame_of (length given)) rs)
+  server-replied due replies is all other E stands =
       let i = length given in
       let low : i < length answers =
       omega (arith, ap length whole, length-append given (x ∷ rest))
@@ -101,17 +100,18 @@ module _ (shape : Shape) (rs : List Reading) (answers given rest : List Replies)
       ∙ is
       in
       subst (λ (r : Replies). IfOk r
-      (λ v. v.items ≡ map (reply_bytes other E) (map (frame_of i) rs))) at
+      (λ v. v.items ≡ map (due other E) (map (frame_of i) rs))) at
       (all i x low other E stands)
 
 -- one server more has replied
-pub replied-next : (shape : Shape) (i : ℕ) (old now new : List Reading) (replies : List Frame) →
+pub replied-next : (due : Due) (shape : Shape) (i : ℕ) (old now new : List Reading)
+    (replies : List Frame) →
     length now ≡ length old → All (MayAnswer shape) old → i < shape.servers →
-    EachAt (IsReplied (AllStand old) i) old now →
+    EachAt (IsReplied due (AllStand old) i) old now →
     ((other : Shape) (E : List Placed) → AllStand old other E →
-    replies ≡ map (reply_bytes other E) (map (frame_of i) old)) →
-    AreGiven replies now new → EachAt (IsReplied (AllStand old) (i + 1)) old new
-replied-next shape i old now new replies counted may inside so_far replies_are given k d low =
+    replies ≡ map (due other E) (map (frame_of i) old)) →
+    AreGiven replies now new → EachAt (IsReplied due (AllStand old) (i + 1)) old new
+replied-next due shape i old now new replies counted may inside so_far replies_are given k d low =
     let here : k < length now = omega (arith, low, counted) in
     let r = slice_index_or old k d in
     let s = slice_index_or now k d in
@@ -124,27 +124,27 @@ replied-next shape i old now new replies counted may inside so_far replies_are g
       set = gift.set ∙ is.set;
       asked = gift.asked ∙ is.asked;
       replies = λ other E stands.
-          let due = reply_bytes other E in
+          let owed = due other E in
           let frames = map (frame_of i) old in
           let many : k < length frames = omega (arith, low, length-map old (frame_of i)) in
-          let reply : slice_index_or replies k [] ≡ due (frame_of i r) =
+          let reply : slice_index_or replies k [] ≡ owed (frame_of i r) =
           ap (λ (xs : List Frame). slice_index_or xs k []) (replies_are other E stands)
-          ∙ get_or_default (map due frames) k [] (due (frame_of i d))
-          (omega (arith, many, length-map frames due))
-          ∙ map-at due frames k (frame_of i d) many
-          ∙ ap due (map-at (frame_of i) old k d low)
+          ∙ get_or_default (map owed frames) k [] (owed (frame_of i d))
+          (omega (arith, many, length-map frames owed))
+          ∙ map-at owed frames k (frame_of i d) many
+          ∙ ap owed (map-at (frame_of i) old k d low)
           in
-          map-next due r.talk.asked.items i (frame_of i r) s.talk.replies.items
+          map-next owed r.talk.asked.items i (frame_of i r) s.talk.replies.items
           (slice_index_or new k d).talk.replies.items (slice_index_or replies k []) within
           (get_or_default r.talk.asked.items i [] (frame_of i r) within)
           (is.replies other E stands) reply gift.replies;
     }
 
 -- and at the end all have
-pub replied-all : (shape : Shape) (n : ℕ) (old new : List Reading) → All (MayAnswer shape) old →
-    n ≡ shape.servers → EachAt (IsReplied (AllStand old) n) old new →
-    EachAt (IsAnswered (AllStand old)) old new
-replied-all shape n old new may all so_far k d low =
+pub replied-all : (due : Due) (shape : Shape) (n : ℕ) (old new : List Reading) →
+    All (MayAnswer shape) old → n ≡ shape.servers →
+    EachAt (IsReplied due (AllStand old) n) old new → EachAt (IsAnswered due (AllStand old)) old new
+replied-all due shape n old new may all so_far k d low =
     let is = so_far k d low in
     let r = slice_index_or old k d in
     record {
@@ -154,6 +154,6 @@ replied-all shape n old new may all so_far k d low =
       asked = is.asked;
       replies = λ other E stands.
           is.replies other E stands
-          ∙ ap (map (reply_bytes other E))
+          ∙ ap (map (due other E))
           (take_all n r.talk.asked.items (omega (arith, all, (may k d low).counted)));
     }

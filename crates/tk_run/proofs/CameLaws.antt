@@ -10,17 +10,19 @@ use Rattle.tk_schedule.specs.Schedule.{IsLegal, blank_turn, epoch_at}
 use Rattle.tk_script.specs.declared.script.Script.{Script}
 use Rattle.tk_words.specs.Words.{WordBook, words_of}
 use Rattle.tk_order.proofs.Offers.{prefix_self}
-use Rattle.tk_report.specs.Displaced.{displaced_in}
+use Rattle.tk_report.specs.Displaced.{displaced_in, displaced_count}
 use Rattle.tk_report.specs.Entries.{write_at, entries_before, entries}
-use Rattle.tk_report.specs.Outcomes.{HasEnded}
+use Rattle.tk_report.specs.Serving.{Serving}
+use Rattle.tk_schedule.specs.declared.history.History.{History}
 use Rattle.tk_cluster.specs.Passes.{Passing}
 use Rattle.tk_cluster.specs.Tellings.{Telling}
 use Rattle.tk_cluster.specs.Closings.{Ended, AllOnce, Closes}
 use Rattle.tk_report.specs.declared.group.Group.{Group}
-use Rattle.tk_run.specs.Clients.{AreClients, client_before}
+use Rattle.tk_report.specs.Clients.{AreClients}
 use Rattle.tk_run.specs.Ran.{epochs_in}
 use Rattle.tk_run.specs.Courses.{GoesOn, IsCourse}
 use Rattle.tk_run.specs.Threads.{epochs_of}
+use Rattle.tk_run.specs.Under.{client_under}
 use Rattle.tk_run.proofs.RanEnds.{ran_all, ran_ends, ran_legal}
 
 -- a list, place by place
@@ -53,43 +55,38 @@ all_epochs shape K off (suc n) all =
     ap₂ (λ (x : List ℕ) (xs : List (List ℕ)). x ∷ xs) (epochs_told shape K off all)
     (all_epochs shape K (off + 1) n all)
 
-module _ {S : Script} {b : WordBook} {K : List TurnOrder} {group : Group} {xs : List Passing}
-    {p : Telling} (course : IsCourse S b (turn_count S.shape) K group xs p) where
-  -- the turns are a legal history, which goes on from itself
-  pub course_legal : IsLegal S.shape K
-  course_legal = ran_legal course.ran course.counted
+module _ {S : Script} {b : WordBook} {V : History → Serving} {K : List TurnOrder} {group : Group}
+    {xs : List Passing} {p : Telling} (course : IsCourse S b V (turn_count S.shape) K group xs p)
+  where
+    -- the turns are a legal history, which goes on from itself
+    pub course_legal : IsLegal S.shape K
+    course_legal = ran_legal course.ran course.counted
 
-  pub course_goes_on : GoesOn S.shape K K
-  course_goes_on = record { legal = course_legal; begins = prefix_self K }
+    pub course_goes_on : GoesOn S.shape K K
+    course_goes_on = record { legal = course_legal; begins = prefix_self K }
 
-  pub course_once : AllOnce S.shape p.board xs
-  course_once = ran_all course.ran
+    pub course_once : AllOnce S.shape p.board xs
+    course_once = ran_all course.ran
 
-  -- its clients are those of the history
-  pub course_clients : AreClients S.shape.clients
-      (client_before S (words_of S.shape b) K (turn_count S.shape)) group.clients.items
-  course_clients = course.clients K course_goes_on
+    -- its clients are those of the history
+    pub course_clients : AreClients S.shape.clients
+        (client_under S b K (V K) (turn_count S.shape)) group.clients.items
+    course_clients = course.clients K course_goes_on
 
-  -- and its closed cluster had the entries and the epochs of the history
-  pub course_order : {c : Ended} → Closes S.shape xs p c →
-      c.order ≡ entries S (words_of S.shape b) K
-  course_order {c} closes =
-      (ran_ends course.ran closes).0
-      ∙ ap (entries_before (write_at S (words_of S.shape b)) K) course.counted
+    -- and its closed cluster had the entries and the epochs of the history
+    pub course_order : {c : Ended} → Closes S.shape xs p c →
+        c.order ≡ entries S (words_of S.shape b) K
+    course_order {c} closes =
+        (ran_ends course.ran closes).0
+        ∙ ap (entries_before (write_at S (words_of S.shape b)) K) course.counted
 
-  -- of which the displaced writes were counted
-  pub course_ended : {c : Ended} {count : ℕ} → Closes S.shape xs p c →
-      count ≡ displaced_in S.shape c.order →
-      HasEnded S (words_of S.shape b) K group.clients.items count
-  course_ended {c} {count} closes is =
-      record {
-        legal = course_legal;
-        clients = course_clients;
-        displaced = is ∙ ap (displaced_in S.shape) (course_order closes);
-      }
+    -- of which the displaced writes were counted
+    pub course_displaced : {c : Ended} {count : ℕ} → Closes S.shape xs p c →
+        count ≡ displaced_in S.shape c.order → count ≡ displaced_count S (words_of S.shape b) K
+    course_displaced {c} {count} closes is = is ∙ ap (displaced_in S.shape) (course_order closes)
 
-  pub course_epochs : {c : Ended} → Closes S.shape xs p c →
-      c.epochs ≡ map (epochs_of S.shape K) (range_with_len 0 S.shape.clients)
-  course_epochs {c} closes =
-      (ran_ends course.ran closes).1
-      ∙ all_epochs S.shape K 0 S.shape.clients course.counted
+    pub course_epochs : {c : Ended} → Closes S.shape xs p c →
+        c.epochs ≡ map (epochs_of S.shape K) (range_with_len 0 S.shape.clients)
+    course_epochs {c} closes =
+        (ran_ends course.ran closes).1
+        ∙ all_epochs S.shape K 0 S.shape.clients course.counted

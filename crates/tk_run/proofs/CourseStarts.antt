@@ -12,8 +12,9 @@ use Rattle.tk_schedule.specs.Schedule.{phases_over}
 use Rattle.tk_script.specs.declared.script.Script.{Script}
 use Rattle.tk_words.specs.Words.{WordBook, words_of}
 use Rattle.tk_report.specs.Entries.{write_at}
-use Rattle.tk_report.specs.Clients.{AreClients, client_knowing, known_first, known_before}
-use Rattle.tk_report.proofs.Offers.{said-none, clients-first, clients-know}
+use Rattle.tk_report.specs.Clients.{AreClients, client_knowing, known_first}
+use Rattle.tk_report.specs.Serving.{Serving}
+use Rattle.tk_report.proofs.Offers.{said-none}
 use Rattle.tk_cluster.specs.Passes.{Passing}
 use Rattle.tk_cluster.specs.Tellings.{Telling}
 use Rattle.tk_cluster.specs.Clusters.{Opened}
@@ -21,24 +22,26 @@ use Rattle.tk_report.specs.declared.group.Group.{Group}
 use Rattle.tk_run.specs.Ran.{Ran}
 use Rattle.tk_run.specs.Courses.{GoesOn, IsCourse}
 use Rattle.tk_run.proofs.RanEnds.{ran_first}
+use Rattle.tk_run.proofs.UnderLaws.{clients-first}
 use Rattle.tk_run.proofs.GoesOnLaws.{filled}
 use Rattle.tk_run.proofs.SightLaws.{some_goes_on}
 
 -- all is opened as it is before the first turn
-pub course_first : (S : Script) (b : WordBook) (group : Group) {xs : List Passing} {p : Telling} →
+pub course_first : (S : Script) (b : WordBook) (V : History → Serving) (group : Group)
+    {xs : List Passing} {p : Telling} →
     Opened S.shape p xs → group.said ≡ 0 →
     AreClients S.shape.clients (client_knowing S (known_first S) 0) group.clients.items →
-    IsCourse S b 0 [] group xs p
-course_first S b group {xs} {p} opened said clients =
+    IsCourse S b V 0 [] group xs p
+course_first S b V group {xs} {p} opened said clients =
     record {
       counted = refl;
       said = said ∙ sym (said-none S);
       ran = ran_first (write_at S (words_of S.shape b)) opened;
-      clients = λ H goes. clients-first S (words_of S.shape b) H group.clients.items clients;
+      clients = λ H goes. clients-first S b H (V H) group.clients.items clients;
     }
 
-module _ {S : Script} {b : WordBook} {g : ℕ} {K : List TurnOrder} {group : Group}
-    {xs : List Passing} {p : Telling} (course : IsCourse S b g K group xs p)
+module _ {S : Script} {b : WordBook} {V : History → Serving} {g : ℕ} {K : List TurnOrder}
+    {group : Group} {xs : List Passing} {p : Telling} (course : IsCourse S b V g K group xs p)
     (low : g < turn_count S.shape) where
   -- some legal history goes on from the turns so far
   pub course_goes : GoesOn S.shape K (filled S.shape K)
@@ -46,13 +49,6 @@ module _ {S : Script} {b : WordBook} {g : ℕ} {K : List TurnOrder} {group : Gro
 
   pub course_counted : length group.clients.items ≡ S.shape.clients
   course_counted = (course.clients (filled S.shape K) course_goes).counted
-
-  -- however it goes on, the clients know what they knew before it
-  pub course_knows : (H : History) → GoesOn S.shape K H →
-      AreClients S.shape.clients (client_knowing S (known_before S (words_of S.shape b) H g) g)
-      group.clients.items
-  course_knows H goes =
-      clients-know S (words_of S.shape b) H g group.clients.items (course.clients H goes)
 
 -- a phase isn't over before the last of its turns
 pub over_below : (shape : Shape) (g : ℕ) → g < turn_count shape → phases_over shape g < shape.phases

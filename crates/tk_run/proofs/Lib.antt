@@ -11,8 +11,8 @@ pub mod Cuts
 pub mod Placing
 pub mod Entering
 pub mod Fronts
-pub mod ReadingLaws
 pub mod RangingLaws
+pub mod MadeLaws
 pub mod NumbersLaws
 pub mod AnswerLaws
 pub mod AskingLaws
@@ -45,6 +45,7 @@ pub mod AnsweredLaws
 pub mod OrderedPlaces
 pub mod KeepingLaws
 pub mod RangedLaws
+pub mod OwnLaws
 pub mod UnderLaws
 pub mod HoldingLaws
 pub mod EndLaws

@@ -10,16 +10,16 @@ use Rattle.tk_frames.specs.declared.read_frame.ReadFrame.{ReadFrame}
 use Rattle.tk_frames.specs.Ranges.{IsRead}
 use Rattle.tk_frames.specs.Spelling.{read_frame}
 use Rattle.tk_client.specs.Asked.{frame_with}
-use Rattle.tk_report.specs.Exchange.{read_at}
+use Rattle.tk_report.specs.Serving.{Serving, read_under}
 use Rattle.tk_cluster.specs.declared.set.EpochSet.{EpochSet}
 use Rattle.tk_cluster.specs.Refusals.{IsAsked}
 
 -- all reads of a client in a turn name one epoch
-reads-named : (S : Script) (b : WordBook) (H : History) (g c : ℕ) (js : List ℕ) →
-    AllByRecursion (λ (r : ReadFrame). r.epoch ≡ epoch_at H g c) (map (read_at S b H g c) js)
-unfolding frame_with read_at
-reads-named S b H g c [] = tt
-reads-named S b H g c (j ∷ js) = (refl, reads-named S b H g c js)
+reads-named : (S : Script) (b : WordBook) (H : History) (V : Serving) (g c : ℕ) (js : List ℕ) →
+    AllByRecursion (λ (r : ReadFrame). r.epoch ≡ epoch_at H g c) (map (read_under S b H V g c) js)
+unfolding frame_with
+reads-named S b H V g c [] = tt
+reads-named S b H V g c (j ∷ js) = (refl, reads-named S b H V g c js)
 
 -- reads in range that name the epoch of a set are asked of it
 asked-of_set : (set : EpochSet) (reads : List ReadFrame) (e : ℕ) → e ≡ set.number →
@@ -35,12 +35,13 @@ asked-of_set set (r ∷ reads) e number in_range named zero d low =
 asked-of_set set (r ∷ reads) e number in_range named (suc k) d low =
     asked-of_set set reads e number in_range.1 named.1 k d (omega (arith, low))
 
-pub asked-of : (S : Script) (b : WordBook) (H : History) (g c : ℕ) (js : List ℕ) (set : EpochSet) →
+pub asked-of : (S : Script) (b : WordBook) (H : History) (V : Serving) (g c : ℕ) (js : List ℕ)
+    (set : EpochSet) →
     set.shape ≡ S.shape → epoch_at H g c ≡ set.number →
-    AllByRecursion (IsRead S.shape) (map (read_at S b H g c) js) →
-    All (IsAsked set) (map read_frame (map (read_at S b H g c) js))
-asked-of S b H g c js set same number in_range =
-    asked-of_set set (map (read_at S b H g c) js) (epoch_at H g c) number
-    (subst (λ (x : Shape). AllByRecursion (IsRead x) (map (read_at S b H g c) js)) (sym same)
+    AllByRecursion (IsRead S.shape) (map (read_under S b H V g c) js) →
+    All (IsAsked set) (map read_frame (map (read_under S b H V g c) js))
+asked-of S b H V g c js set same number in_range =
+    asked-of_set set (map (read_under S b H V g c) js) (epoch_at H g c) number
+    (subst (λ (x : Shape). AllByRecursion (IsRead x) (map (read_under S b H V g c) js)) (sym same)
     in_range)
-    (reads-named S b H g c js)
+    (reads-named S b H V g c js)

@@ -1,8 +1,7 @@
 -- Replies with sums over even ranges.
-use Rattle.std.proofs.Common.{◌≡◌, refl, ap, ap₂, sym, ◌∙◌, ℕ, ◌<◌, ◌≤◌, Bool, true, false, cond, List, [], ◌∷◌, length, map}
-use Rattle.std.proofs.Common.{le-leb, arith, subst, All}
+use Rattle.std.proofs.Common.{◌≡◌, refl, ap, ap₂, sym, ◌∙◌, ℕ, ◌<◌, ◌≤◌, Bool, cond, List, [], ◌∷◌, length, map}
+use Rattle.std.proofs.Common.{le-leb}
 use Rattle.std.proofs.lemmas.Bool.{lt-leb}
-use Rattle.std.specs.Prelude.{nat_le}
 use Rattle.tk_shape.specs.declared.shape.Shape.{Shape}
 use Rattle.tk_shape.specs.Lengths.{width}
 use Rattle.tk_frames.specs.declared.entry.Placed.{Placed}
@@ -16,12 +15,11 @@ use Rattle.tk_table.specs.Table.{layout, blocks_of}
 use Rattle.tk_replica.specs.declared.asker.Asker.{Asker}
 use Rattle.tk_replica.specs.Replies.{asker_of, asker_reply, both_vectors, frames_with, reply_bytes, reply_due}
 use Rattle.tk_cluster.specs.Many.{Names, AreNamed, AreReads}
+use Rattle.tk_kernel.specs.Chosen.{chosen_sum}
 use Rattle.tk_shards.specs.Shards.{Sharded}
 use Rattle.tk_run.specs.Ranged.{Summing, in_ranges}
-use Rattle.tk_run.specs.declared.talking.Reading.{Reading}
-use Rattle.tk_run.specs.Answering.{MayAnswer, AllStand, frame_of}
 use Rattle.tk_run.specs.Rows.{Frame}
-use Rattle.tk_run.specs.Ranging.{even_ranges, in_even_ranges, IsRightOver, reply_by, made_due, bytes_made}
+use Rattle.tk_run.specs.Ranging.{even_ranges, in_even_ranges, reply_by, made_due, bytes_made}
 use Rattle.tk_report.proofs.Offers.{map_same}
 
 -- a server's blocks, in ranges
@@ -71,52 +69,41 @@ module _ (sum : Summing) (shards : ℕ) (shape : Shape) (E : List Placed) (e : �
       ∙ frames-made fs are.reads are.spelled
 
 module _ (sum : Summing) (shards : ℕ) (shape : Shape) (E : List Placed) where
-  -- over one range, and over several
+  -- over one range those over all blocks are made
+  whole-one : (f : Frame) → shards ≤ 1 → reply_bytes shape E f ≡ bytes_made sum shards shape E f
+  unfolding made_due reply_due
+  whole-one f few =
+      let r = read_in shape f in
+      let R = before E r.epoch in
+      let set = in_ranges shape R (even_ranges shape.buckets shards) in
+      let made = λ (v : List ℕ) (b : Bool). cond b (chosen_sum set.width set.blocks v) (sum set v) in
+      let few_is = sym (le-leb shards 1 few) in
+      ap (λ (b : Bool). reply_frame (record (reply_to shape R r) {
+        first = made r.first b;
+        second = made r.second b;
+      })) few_is
+
   pub all-whole : (fs : List Frame) → shards ≤ 1 →
       map (reply_bytes shape E) fs ≡ map (bytes_made sum shards shape E) fs
   all-whole fs few =
-      map_same (reply_bytes shape E) (bytes_made sum shards shape E)
-      (λ f. sym (ap (λ (b : Bool). cond b (reply_bytes shape E f) (made_due sum shards shape E f))
-      (le-leb shards 1 few))) fs
+      map_same (reply_bytes shape E) (bytes_made sum shards shape E) (λ f. whole-one f few) fs
+
+  -- and over several those that the ranges are asked for
+  divided-one : (f : Frame) → 1 < shards → made_due sum shards shape E f ≡ bytes_made sum shards shape E f
+  unfolding made_due
+  divided-one f many =
+      let r = read_in shape f in
+      let R = before E r.epoch in
+      let set = in_ranges shape R (even_ranges shape.buckets shards) in
+      let made = λ (v : List ℕ) (b : Bool). cond b (chosen_sum set.width set.blocks v) (sum set v) in
+      let many_is = sym (lt-leb shards 1 many) in
+      ap (λ (b : Bool). reply_frame (record (reply_to shape R r) {
+        first = made r.first b;
+        second = made r.second b;
+      })) many_is
 
   pub all-divided : (fs : List Frame) → 1 < shards →
       map (made_due sum shards shape E) fs ≡ map (bytes_made sum shards shape E) fs
   all-divided fs many =
       map_same (made_due sum shards shape E) (bytes_made sum shards shape E)
-      (λ f. sym (ap (λ (b : Bool). cond b (reply_bytes shape E f) (made_due sum shards shape E f))
-      (lt-leb shards 1 many))) fs
-
-  -- right sums make the replies
-  made-right : (f : Frame) → IsRightOver (even_ranges shape.buckets shards) sum →
-      made_due sum shards shape E f ≡ reply_bytes shape E f
-  unfolding made_due reply_due
-  made-right f right =
-      let r = read_in shape f in
-      let R = before E r.epoch in
-      let set = in_ranges shape R (even_ranges shape.buckets shards) in
-      ap₂ (λ (x y : List ℕ). reply_frame (record (reply_to shape R r) { first = x; second = y }))
-      (right.sums set r.first refl) (right.sums set r.second refl)
-
-  right-one : (f : Frame) → IsRightOver (even_ranges shape.buckets shards) sum →
-      bytes_made sum shards shape E f ≡ reply_bytes shape E f
-  right-one f right =
-      elim (nat_le shards 1) as
-      (λ b. cond b (reply_bytes shape E f) (made_due sum shards shape E f) ≡ reply_bytes shape E f)
-      [ true ↦ refl | false ↦ made-right f right ]
-
-  right-all : (fs : List Frame) → IsRightOver (even_ranges shape.buckets shards) sum →
-      map (bytes_made sum shards shape E) fs ≡ map (reply_bytes shape E) fs
-  right-all fs right =
-      map_same (bytes_made sum shards shape E) (reply_bytes shape E) (λ f. right-one f right) fs
-
--- so do they for the frames of all clients
-pub all-right : (sum : Summing) (shards : ℕ) (own shape : Shape) (E : List Placed) (i : ℕ)
-    (rs : List Reading) → All (MayAnswer own) rs → AllStand rs shape E →
-    IsRightOver (even_ranges own.buckets shards) sum →
-    map (bytes_made sum shards shape E) (map (frame_of i) rs)
-    ≡ map (reply_bytes shape E) (map (frame_of i) rs)
-all-right sum shards own shape E i [] may stand right = refl
-all-right sum shards own shape E i (r ∷ rs) may stand right =
-    let same : own ≡ shape = sym (may 0 r (omega arith)).same ∙ (stand 0 r (omega arith)).same in
-    right-all sum shards shape E (map (frame_of i) (r ∷ rs))
-    (subst (λ (s : Shape). IsRightOver (even_ranges s.buckets shards) sum) same right)
+      (λ f. divided-one f many) fs

@@ -15,10 +15,11 @@ use Rattle.tk_cluster.specs.declared.set.EpochSet.{EpochSet}
 use Rattle.tk_run.specs.declared.pinned_write.PinnedWrite.{PinnedWrite}
 use Rattle.tk_run.specs.declared.talking.Talk.{Talk}
 use Rattle.tk_run.specs.declared.talking.Reading.{Reading}
-use Rattle.tk_run.specs.Clients.{client_wrote}
+use Rattle.tk_report.specs.Serving.{Serving}
 use Rattle.tk_run.specs.Ran.{set_on}
 use Rattle.tk_run.specs.Turns.{placed_before}
-use Rattle.tk_run.specs.Courses.{MayAskIn, MayRead, AreBlank, IsBlank}
+use Rattle.tk_run.specs.Courses.{MayAskIn, MayRead, AreBlank, IsBlank, TellsIn}
+use Rattle.tk_run.specs.Under.{wrote_under}
 use Rattle.tk_run.specs.Reading.{MayReadOn, readers, talks_of}
 use Rattle.tk_run.proofs.Cuts.{take_one_more}
 use Rattle.tk_report.proofs.Offers.{epoch-most}
@@ -43,25 +44,26 @@ map-at f (x ∷ xs) zero d low = refl
 map-at f (x ∷ xs) (suc k) d low = map-at f xs k d (omega (arith, low))
 
 -- a client with a blank read of its set, in a turn of this history
-pub record Begins (S : Script) (b : WordBook) (H : History) (g : ℕ) (r : Reading) : Type 0 where
+pub record Begins (S : Script) (b : WordBook) (H : History) (V : Serving) (g : ℕ) (r : Reading)
+    : Type 0 where
   pub reads : MayReadOn S.shape r
   pub turn_is : r.talk.turn ≡ g
-  pub asks : MayAskIn S b H r.client r.talk
+  pub asks : MayAskIn S b H V r.client r.talk
 
-may_ask : (S : Script) (b : WordBook) (H : History) (g c : ℕ) (a : ClientState) (s : PinnedWrite)
-    (d : Talk) → IsLegal S.shape H → g < turn_count S.shape → c < S.shape.clients →
-    a ≡ client_wrote S (words_of S.shape b) H g c →
+may_ask : (S : Script) (b : WordBook) (H : History) (V : Serving) (g c : ℕ) (a : ClientState)
+    (s : PinnedWrite) (d : Talk) → IsLegal S.shape H → g < turn_count S.shape →
+    c < S.shape.clients → a ≡ wrote_under S b H V g c → TellsIn S b H V g c →
     Stands S.shape (placed_before S (words_of S.shape b) H (g + 1)) (epoch_at H g c) (set_on s) →
-    IsBlank g s d → MayAskIn S b H a d
-may_ask S b H g c a s d legal inside low is from blank =
+    IsBlank g s d → MayAskIn S b H V a d
+may_ask S b H V g c a s d legal inside low is told from blank =
     let w = words_of S.shape b in
-    let mine : a.number ≡ c = wrote-number S w H g c a is in
+    let mine : a.number ≡ c = wrote-number S b H V g c a is in
     let turn : d.turn ≡ g = blank.turn_is in
     record {
       legal = legal;
       turn_in = omega (arith, turn, inside);
       client_in = omega (arith, mine, low);
-      wrote = is ∙ (λ i. client_wrote S w H (sym turn i) (sym mine i));
+      wrote = is ∙ (λ i. wrote_under S b H V (sym turn i) (sym mine i));
       stands =
           subst (λ t. Stands S.shape (placed_before S w H (t + 1)) (epoch_at H t a.number)
           (arc_value d.set)) (sym turn)
@@ -69,18 +71,21 @@ may_ask S b H g c a s d legal inside low is from blank =
           (arc_value d.set)) (sym mine)
           (subst (Stands S.shape (placed_before S w H (g + 1)) (epoch_at H g c)) (sym blank.set)
           from));
+      told = subst (λ t. TellsIn S b H V t a.number) (sym turn)
+          (subst (λ n. TellsIn S b H V g n) (sym mine) told);
     }
 
-begin-at : (S : Script) (b : WordBook) (H : History) (g : ℕ) (clients : List ClientState)
-    (slips : List PinnedWrite) (rs : List Reading) → MayRead S b H g clients slips →
+begin-at : (S : Script) (b : WordBook) (H : History) (V : Serving) (g : ℕ)
+    (clients : List ClientState) (slips : List PinnedWrite) (rs : List Reading) →
+    MayRead S b H V g clients slips → ((c : ℕ) → TellsIn S b H V g c) →
     readers rs ≡ clients → AreBlank g slips (talks_of rs) → length rs ≡ S.shape.clients →
     (k : ℕ) (d : Reading) → k < length rs →
-    ((slice_index_or rs k d).client.number ≡ 0 + k) × Begins S b H g (slice_index_or rs k d)
-begin-at S b H g clients slips rs may same blank counted k d low =
+    ((slice_index_or rs k d).client.number ≡ 0 + k) × Begins S b H V g (slice_index_or rs k d)
+begin-at S b H V g clients slips rs may told same blank counted k d low =
     let low_c : k < S.shape.clients = omega (arith, low, counted) in
     let r = slice_index_or rs k d in
     let inside : k < length clients = omega (arith, low_c, may.wrote.counted) in
-    let client : r.client ≡ client_wrote S (words_of S.shape b) H g k =
+    let client : r.client ≡ wrote_under S b H V g k =
     sym (map-at (λ (x : Reading). x.client) rs k d low)
     ∙ ap (λ (xs : List ClientState). slice_index_or xs k d.client) same
     ∙ may.wrote.each k d.client inside
@@ -98,13 +103,13 @@ begin-at S b H g clients slips rs may same blank counted k d low =
     in
     let stands = may.sets.each k slip (omega (arith, low_c, may.sets.counted)) in
     let set : arc_value r.talk.set ≡ set_on (slice_index_or slips k slip) = is_here.set in
-    let number : r.client.number ≡ k = wrote-number S (words_of S.shape b) H g k r.client client in (
+    let number : r.client.number ≡ k = wrote-number S b H V g k r.client client in (
       omega (arith, number),
       record {
         reads = record {
           client = record {
-            same = wrote-shape S (words_of S.shape b) H g k r.client client;
-            closed = wrote-closed S (words_of S.shape b) H g k r.client client;
+            same = wrote-shape S b H V g k r.client client;
+            closed = wrote-closed S b H V g k r.client client;
           };
           talk = record {
             turn_in = subst (λ n. n < turn_count S.shape) (sym is_here.turn_is) may.turn_in;
@@ -121,38 +126,39 @@ begin-at S b H g clients slips rs may same blank counted k d low =
         };
         turn_is = is_here.turn_is;
         asks =
-            may_ask S b H g k r.client (slice_index_or slips k slip) r.talk may.legal may.turn_in low_c
-            client stands is_here;
+            may_ask S b H V g k r.client (slice_index_or slips k slip) r.talk may.legal may.turn_in
+            low_c client (told k) stands is_here;
       },
     )
 
 -- so do all, who have their numbers
-pub all-begin : (S : Script) (b : WordBook) (H : History) (g : ℕ) (clients : List ClientState)
-    (slips : List PinnedWrite) (rs : List Reading) → MayRead S b H g clients slips →
+pub all-begin : (S : Script) (b : WordBook) (H : History) (V : Serving) (g : ℕ)
+    (clients : List ClientState) (slips : List PinnedWrite) (rs : List Reading) →
+    MayRead S b H V g clients slips → ((c : ℕ) → TellsIn S b H V g c) →
     readers rs ≡ clients → AreBlank g slips (talks_of rs) →
     (length rs ≡ S.shape.clients)
     × ((k : ℕ) (d : Reading) → k < length rs →
-    ((slice_index_or rs k d).client.number ≡ 0 + k) × Begins S b H g (slice_index_or rs k d))
-all-begin S b H g clients slips rs may same blank =
+    ((slice_index_or rs k d).client.number ≡ 0 + k) × Begins S b H V g (slice_index_or rs k d))
+all-begin S b H V g clients slips rs may told same blank =
     let long : length (readers rs) ≡ length rs = length-map rs (λ (r : Reading). r.client) in
     let counted : length rs ≡ S.shape.clients =
     sym long ∙ ap length same ∙ may.wrote.counted
     in (
       counted,
-      λ k d low. begin-at S b H g clients slips rs may same blank counted k d low,
+      λ k d low. begin-at S b H V g clients slips rs may told same blank counted k d low,
     )
 
 -- two that may read are of one shape, if their clients are the same
-pub one-shape : (S T : Script) (b : WordBook) (H K : History) (g : ℕ) (clients : List ClientState)
-    (slips others : List PinnedWrite) → MayRead S b H g clients slips → MayRead T b K g clients others →
-    S.shape ≡ T.shape
-one-shape S T b H K g [] slips others may may_too =
+pub one-shape : (S T : Script) (b : WordBook) (H K : History) (V W : Serving) (g : ℕ)
+    (clients : List ClientState) (slips others : List PinnedWrite) →
+    MayRead S b H V g clients slips → MayRead T b K W g clients others → S.shape ≡ T.shape
+one-shape S T b H K V W g [] slips others may may_too =
     let some = S.shape.in_range.clients_low in
     let none = may.wrote.counted in
     absurd (omega (arith, some, none))
-one-shape S T b H K g (x ∷ clients) slips others may may_too =
-    sym (wrote-shape S (words_of S.shape b) H g 0 x (may.wrote.each 0 x (omega arith)))
-    ∙ wrote-shape T (words_of T.shape b) K g 0 x (may_too.wrote.each 0 x (omega arith))
+one-shape S T b H K V W g (x ∷ clients) slips others may may_too =
+    sym (wrote-shape S b H V g 0 x (may.wrote.each 0 x (omega arith)))
+    ∙ wrote-shape T b K W g 0 x (may_too.wrote.each 0 x (omega arith))
 
 -- ---- one by one
 

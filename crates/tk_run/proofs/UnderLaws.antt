@@ -84,7 +84,7 @@ map-below f h (suc n) same =
     ∙ sym (map-range_with_len_more h 0 n n (omega arith))
     ∙ ap (λ k. map h (range_with_len 0 k)) (add-one n)
 
-each-of : {X : Type 0} (P : X → Type 0) (f : ℕ → X) (a n : ℕ) →
+pub each-of : {X : Type 0} (P : X → Type 0) (f : ℕ → X) (a n : ℕ) →
     AllByRecursion P (map f (range_with_len a n)) → (k : ℕ) → a ≤ k → k < a + n → P (f k)
 each-of P f a zero all k low high = absurd (omega (arith, low, high))
 each-of P f a (suc n) all k low high =
@@ -96,7 +96,7 @@ each-of P f a (suc n) all k low high =
           subst (λ (i : ℕ). P (f i)) same all.0
     ]
 
-all-of : {X : Type 0} (P : X → Type 0) (f : ℕ → X) (a n : ℕ) →
+pub all-of : {X : Type 0} (P : X → Type 0) (f : ℕ → X) (a n : ℕ) →
     ((k : ℕ) → a ≤ k → k < a + n → P (f k)) → AllByRecursion P (map f (range_with_len a n))
 all-of P f a zero each = tt
 all-of P f a (suc n) each = (
@@ -167,7 +167,7 @@ module _ (S : Script) (b : WordBook) (H : History) (V : Serving) where
   unfolding frame_with
   read-epoch g c j = refl
 
-  reads-whole : (g c : ℕ) → IsBook S.shape b → IsLegal S.shape H → g < turn_count S.shape →
+  pub reads-whole : (g c : ℕ) → IsBook S.shape b → IsLegal S.shape H → g < turn_count S.shape →
       c < S.shape.clients →
       AllByRecursion (IsRead S.shape) (map (read_under S b H V g c) (range_with_len 1 S.shape.servers))
   reads-whole g c serves legal turn_in client_in =

@@ -30,8 +30,10 @@ use Rattle.tk_report.specs.declared.group.Group.{Group}
 use Rattle.tk_run.specs.declared.pinned_write.PinnedWrite.{PinnedWrite}
 use Rattle.tk_run.specs.declared.acting.Desk.{Desk}
 use Rattle.tk_run.specs.Acting.{Acted, AreFrames, frames_on, slips_on}
-use Rattle.tk_run.specs.Clients.{AreClients, client_wrote}
+use Rattle.tk_report.specs.Clients.{AreClients}
+use Rattle.tk_report.specs.Serving.{Serving}
 use Rattle.tk_run.specs.Turns.{placed_before}
+use Rattle.tk_run.specs.Under.{wrote_under}
 use Rattle.tk_run.specs.Ran.{Turned, turn_of, set_on, Ran}
 use Rattle.tk_run.specs.Courses.{IsCourse, GoesOn, AreSets, HasWritten, IsInTurn, entries_behind}
 use Rattle.tk_run.proofs.ActedLaws.{frames_stay, acted_turned}
@@ -57,12 +59,12 @@ module _ (S : Script) (b : WordBook) where
     pub marks : count_by is_mark now.order ≤ 1
     pub few : length now.order ≤ S.shape.clients + 1
     pub frames_are : AreFrames S.shape (writes g) frames
-    pub written : (after : Group) (bytes : List ℕ) → after.said ≡ said_before S (g + 1) →
+    pub written : (V : History → Serving) (after : Group) (bytes : List ℕ) → after.said ≡ said_before S (g + 1) →
         ((H : History) → GoesOn S.shape K H →
-        AreClients S.shape.clients (client_wrote S (words_of S.shape b) H g) after.clients.items) →
+        AreClients S.shape.clients (wrote_under S b H (V H) g) after.clients.items) →
         bytes ≡ flat_map placed_frame
         (placed_from (writes g) (entries_behind S.shape g + 1) (phase_of S.shape g) now.order) →
-        HasWritten S b g (K ++ now ∷ []) after zs q slips bytes
+        HasWritten S b V g (K ++ now ∷ []) after zs q slips bytes
 
   module _ (K : List TurnOrder) (xs : List Passing) (p : Telling) (slips : List PinnedWrite)
       (zs : List Passing) (q : Telling) (ran : Ran S.shape writes K xs p)
@@ -165,7 +167,7 @@ module _ (S : Script) (b : WordBook) where
           marks = omega (arith, turn.marks, most);
           few = omega (arith, turn.counted, most);
           frames_are = are;
-          written = λ after bytes said clients spelled. record {
+          written = λ V after bytes said clients spelled. record {
             counted = now_length;
             said = said;
             ran = now_ran;
@@ -180,13 +182,13 @@ module _ (S : Script) (b : WordBook) where
         }
 
   -- all have acted, whose desks had the frames of what the clients write
-  pub came : {g : ℕ} {K : List TurnOrder} {group : Group} {xs : List Passing} {p : Telling}
+  pub came : {V : History → Serving} {g : ℕ} {K : List TurnOrder} {group : Group} {xs : List Passing} {p : Telling}
       {ds es : List Desk} {zs : List Passing} {q : Telling} (slips : List PinnedWrite) →
-      IsCourse S b g K group xs p → g < turn_count S.shape →
+      IsCourse S b V g K group xs p → g < turn_count S.shape →
       IsOneSpelling (IsWrite S.shape) write_frame → Acted S.shape g xs p ds es zs q →
       AreFrames S.shape (writes g) (frames_on ds) → slips_on es ≡ map Some slips →
       Came g K zs q slips (frames_on es) (turn_of S.shape g (entries_behind S.shape g) slips)
-  came {g} {K} {group} {xs} {p} {ds} {es} {zs} {q} slips course low one acted frames lie =
+  came {V} {g} {K} {group} {xs} {p} {ds} {es} {zs} {q} slips course low one acted frames lie =
       subst (λ n. n < turn_count S.shape → Acted S.shape n xs p ds es zs q →
       AreFrames S.shape (writes n) (frames_on ds) →
       Came n K zs q slips (frames_on es) (turn_of S.shape n (entries_behind S.shape n) slips)) course.counted

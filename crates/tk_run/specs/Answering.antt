@@ -6,7 +6,6 @@ use Rattle.std.specs.Arc.{arc_value}
 use Rattle.tk_shape.specs.declared.shape.Shape.{Shape}
 use Rattle.tk_shape.specs.declared.memory.Memory.{Memory}
 use Rattle.tk_frames.specs.declared.entry.Placed.{Placed}
-use Rattle.tk_replica.specs.Replies.{reply_bytes}
 use Rattle.tk_cluster.specs.declared.set.EpochSet.{EpochSet}
 use Rattle.tk_cluster.specs.Refusals.{IsAsked}
 use Rattle.tk_cluster.specs.Sets.{Stands}
@@ -33,14 +32,19 @@ pub record MayAnswer (shape : Shape) (r : Reading) : Type 0 where
 abbrev pub AllStand : List Reading → Shape → List Placed → Type 0
 AllStand rs shape E = All (λ r. Stands shape E (epoch_of r) (set_of r)) rs
 
--- each server replied, over the entries that the sets stand for
-pub record IsAnswered (stand : Shape → List Placed → Type 0) (old new : Reading) : Type 0 where
+-- what is due to the frame of a read, over entries
+abbrev pub Due : Type 0
+Due = Shape → List Placed → List ℕ → List ℕ
+
+-- each server replied that, over the entries that the sets stand for
+pub record IsAnswered (due : Due) (stand : Shape → List Placed → Type 0) (old new : Reading)
+    : Type 0 where
   pub client : new.client ≡ old.client
   pub turn : new.talk.turn ≡ old.talk.turn
   pub set : new.talk.set ≡ old.talk.set
   pub asked : new.talk.asked.items ≡ old.talk.asked.items
   pub replies : (shape : Shape) (E : List Placed) → stand shape E →
-      new.talk.replies.items ≡ map (reply_bytes shape E) old.talk.asked.items
+      new.talk.replies.items ≡ map (due shape E) old.talk.asked.items
 
 -- frames of reads that a server is asked for, one for each client, each of the epoch of its set
 pub record MayReply (shape : Shape) (server : ℕ) (rs : List Reading) (frames : List (List ℕ))
@@ -57,15 +61,15 @@ abbrev pub Replies : Type 0
 Replies = Result (Vec (List ℕ) Global) Memory
 
 -- The server at a place replies to these reads, over the entries that their sets stand for.
-abbrev pub AreReplies : ℕ → List Reading → Replies → Type 0
-AreReplies i rs result =
+abbrev pub AreReplies : Due → ℕ → List Reading → Replies → Type 0
+AreReplies due i rs result =
     (shape : Shape) (E : List Placed) → AllStand rs shape E →
-    IfOk result (λ replies. replies.items ≡ map (reply_bytes shape E) (map (frame_of i) rs))
+    IfOk result (λ replies. replies.items ≡ map (due shape E) (map (frame_of i) rs))
 
 -- so each of as many servers as there are answers
-abbrev pub AllReply : List Reading → List Replies → Type 0
-AllReply rs answers =
-    (i : ℕ) (d : Replies) → i < length answers → AreReplies i rs (slice_index_or answers i d)
+abbrev pub AllReply : Due → List Reading → List Replies → Type 0
+AllReply due rs answers =
+    (i : ℕ) (d : Replies) → i < length answers → AreReplies due i rs (slice_index_or answers i d)
 
 -- one reply more lies with it
 pub record IsGiven (reply : List ℕ) (old new : Reading) : Type 0 where

@@ -13,10 +13,11 @@ use Rattle.tk_schedule.specs.Schedule.{IsLegal, epoch_at, phases_over, marks_due
 use Rattle.tk_script.specs.declared.script.Script.{Script}
 use Rattle.tk_words.specs.Words.{WordBook, words_of}
 use Rattle.tk_frames.specs.Spelling.{read_frame, reply_frame, placed_frame}
+use Rattle.tk_table.specs.Shown.{is_shown}
 use Rattle.tk_io.specs.Tapped.{TapsGain, TapsGainFronts, TapsKeepBut}
 use Rattle.tk_client.specs.Client.{ClientState}
 use Rattle.tk_report.specs.Entries.{write_at, entries_at}
-use Rattle.tk_report.specs.Exchange.{read_at, exchange, bytes_of}
+use Rattle.tk_report.specs.Exchange.{bytes_of}
 use Rattle.tk_report.specs.Queues.{said_before}
 use Rattle.tk_cluster.specs.Sets.{Stands}
 use Rattle.tk_cluster.specs.Passes.{Passing}
@@ -24,8 +25,11 @@ use Rattle.tk_cluster.specs.Tellings.{Telling}
 use Rattle.tk_report.specs.declared.group.Group.{Group}
 use Rattle.tk_run.specs.declared.pinned_write.PinnedWrite.{PinnedWrite}
 use Rattle.tk_run.specs.declared.talking.Talk.{Talk}
-use Rattle.tk_run.specs.Clients.{AreClients, client_before, client_wrote, client_asked}
-use Rattle.tk_run.specs.Turns.{placed_before, reply_at, turn_seen}
+use Rattle.tk_report.specs.Clients.{AreClients}
+use Rattle.tk_report.specs.Report.{read_over}
+use Rattle.tk_report.specs.Serving.{Serving, read_under, exchange_under}
+use Rattle.tk_run.specs.Turns.{placed_before}
+use Rattle.tk_run.specs.Under.{client_under, wrote_under, asked_under, reply_under, turn_under}
 use Rattle.tk_run.specs.Ran.{Ran, set_on}
 
 -- ---- reads
@@ -48,11 +52,11 @@ pub record AreSets (S : Script) (b : WordBook) (H : History) (g : ℕ) (slips : 
       (set_on (slice_index_or slips c d))
 
 -- clients that have written in turn g of a legal history, and the sets that they read from
-pub record MayRead (S : Script) (b : WordBook) (H : History) (g : ℕ) (clients : List ClientState)
-    (slips : List PinnedWrite) : Type 0 where
+pub record MayRead (S : Script) (b : WordBook) (H : History) (V : Serving) (g : ℕ)
+    (clients : List ClientState) (slips : List PinnedWrite) : Type 0 where
   pub legal : IsLegal S.shape H
   pub turn_in : g < turn_count S.shape
-  pub wrote : AreClients S.shape.clients (client_wrote S (words_of S.shape b) H g) clients
+  pub wrote : AreClients S.shape.clients (wrote_under S b H V g) clients
   pub sets : AreSets S b H g slips
 
 -- a client that waits for no replies may ask
@@ -69,11 +73,12 @@ pub record MayTalk (shape : Shape) (d : Talk) : Type 0 where
   pub none_replied : d.replies.items ≡ []
 
 -- what client c was replied in turn g to what it asked
-pub record IsTalk (S : Script) (b : WordBook) (H : History) (g c : ℕ) (talk : Talk) : Type 0 where
+pub record IsTalk (S : Script) (b : WordBook) (H : History) (V : Serving) (g c : ℕ) (talk : Talk)
+    : Type 0 where
   pub asked : talk.asked.items
-      ≡ map (λ j. read_frame (read_at S b H g c j)) (range_with_len 1 S.shape.servers)
+      ≡ map (λ j. read_frame (read_under S b H V g c j)) (range_with_len 1 S.shape.servers)
   pub replied : talk.replies.items
-      ≡ map (λ j. reply_frame (reply_at S b H g j c)) (range_with_len 1 S.shape.servers)
+      ≡ map (λ j. reply_frame (reply_under S b H V g j c)) (range_with_len 1 S.shape.servers)
 
 -- a read of a turn that is yet to be asked, from the set on a slip
 pub record IsBlank (turn : ℕ) (d : PinnedWrite) (talk : Talk) : Type 0 where
@@ -82,28 +87,36 @@ pub record IsBlank (turn : ℕ) (d : PinnedWrite) (talk : Talk) : Type 0 where
   pub none_asked : talk.asked.items ≡ []
   pub none_replied : talk.replies.items ≡ []
 
--- A client that has written in a turn of this legal history and reads from the set of the epoch
--- that the history says.
-pub record MayAskIn (S : Script) (b : WordBook) (H : History) (a : ClientState) (d : Talk) : Type 0
-  where
-    pub legal : IsLegal S.shape H
-    pub turn_in : d.turn < turn_count S.shape
-    pub client_in : a.number < S.shape.clients
-    pub wrote : a ≡ client_wrote S (words_of S.shape b) H d.turn a.number
-    pub stands : Stands S.shape (placed_before S (words_of S.shape b) H (d.turn + 1))
-        (epoch_at H d.turn a.number) (arc_value d.set)
+-- the serving tells client c in turn g of the writes that its read is over
+abbrev pub TellsIn : Script → WordBook → History → Serving → ℕ → ℕ → Type 0
+TellsIn S b H V g c =
+    let w = words_of S.shape b in
+    V.shows g c ≡ (λ log s. is_shown S.shape (read_over S w H g c) (w.hits log s))
+
+-- A client that has written in a turn of this legal history, is told of the writes that its read is
+-- over, and reads from the set of the epoch that the history says.
+pub record MayAskIn (S : Script) (b : WordBook) (H : History) (V : Serving) (a : ClientState)
+    (d : Talk) : Type 0 where
+  pub legal : IsLegal S.shape H
+  pub turn_in : d.turn < turn_count S.shape
+  pub client_in : a.number < S.shape.clients
+  pub wrote : a ≡ wrote_under S b H V d.turn a.number
+  pub stands : Stands S.shape (placed_before S (words_of S.shape b) H (d.turn + 1))
+      (epoch_at H d.turn a.number) (arc_value d.set)
+  pub told : TellsIn S b H V d.turn a.number
 
 -- Such a client asks as the history says.
-pub record AsksAs (S : Script) (b : WordBook) (H : History) (a : ClientState) (d e : Talk)
-    (new : ClientState) : Type 0 where
-  pub client : new ≡ client_asked S (words_of S.shape b) H d.turn a.number
+pub record AsksAs (S : Script) (b : WordBook) (H : History) (V : Serving) (a : ClientState)
+    (d e : Talk) (new : ClientState) : Type 0 where
+  pub client : new ≡ asked_under S b H V d.turn a.number
   pub asked : e.asked.items
-      ≡ map (λ j. read_frame (read_at S b H d.turn a.number j)) (range_with_len 1 S.shape.servers)
+      ≡ map (λ j. read_frame (read_under S b H V d.turn a.number j))
+      (range_with_len 1 S.shape.servers)
 
-pub record AreTalks (S : Script) (b : WordBook) (H : History) (g : ℕ) (talks : List Talk)
-    : Type 0 where
+pub record AreTalks (S : Script) (b : WordBook) (H : History) (V : Serving) (g : ℕ)
+    (talks : List Talk) : Type 0 where
   pub counted : length talks ≡ S.shape.clients
-  pub each : (c : ℕ) (d : Talk) → c < length talks → IsTalk S b H g c (slice_index_or talks c d)
+  pub each : (c : ℕ) (d : Talk) → c < length talks → IsTalk S b H V g c (slice_index_or talks c d)
 
 -- reads of a turn that are yet to be asked, from the sets on these slips
 abbrev pub AreBlank : ℕ → List PinnedWrite → List Talk → Type 0
@@ -124,11 +137,11 @@ talk_seen i talk =
     slice_index_or talk.asked.items i [] ++ slice_index_or talk.replies.items i []
 
 -- what each server saw of turn g, server 1 first
-pub record AreSights (S : Script) (b : WordBook) (H : History) (g : ℕ) (sights : List (List ℕ))
-    : Type 0 where
+pub record AreSights (S : Script) (b : WordBook) (H : History) (V : Serving) (g : ℕ)
+    (sights : List (List ℕ)) : Type 0 where
   pub counted : length sights ≡ S.shape.servers
   pub each : (i : ℕ) (d : List ℕ) → i < length sights →
-      slice_index_or sights i d ≡ turn_seen S b H g (i + 1)
+      slice_index_or sights i d ≡ turn_under S b H V g (i + 1)
 
 -- ---- a run
 
@@ -138,23 +151,25 @@ pub record GoesOn (shape : Shape) (turns : List TurnOrder) (H : History) : Type 
   pub begins : IsPrefix turns H
 
 -- Before turn g the passes and the publisher are where the turns so far lead, and however the run
--- goes on, the clients are as the history says of them.
-pub record IsCourse (S : Script) (b : WordBook) (g : ℕ) (turns : List TurnOrder) (group : Group)
-    (passes : List Passing) (p : Telling) : Type 0 where
+-- goes on, the clients are as the history says of them, under the serving that it has.
+pub record IsCourse (S : Script) (b : WordBook) (V : History → Serving) (g : ℕ)
+    (turns : List TurnOrder) (group : Group) (passes : List Passing) (p : Telling) : Type 0 where
   pub counted : length turns ≡ g
   pub said : group.said ≡ said_before S g
   pub ran : Ran S.shape (write_at S (words_of S.shape b)) turns passes p
   pub clients : (H : History) → GoesOn S.shape turns H →
-      AreClients S.shape.clients (client_before S (words_of S.shape b) H g) group.clients.items
+      AreClients S.shape.clients (client_under S b H (V H) g) group.clients.items
 
 -- The same in turn g when all have written and pinned. Every server sees these bytes of the
 -- entries.
-pub record HasWritten (S : Script) (b : WordBook) (g : ℕ) (turns : List TurnOrder) (group : Group)
-    (passes : List Passing) (p : Telling) (slips : List PinnedWrite) (bytes : List ℕ) : Type 0 where
+pub record HasWritten (S : Script) (b : WordBook) (V : History → Serving) (g : ℕ)
+    (turns : List TurnOrder) (group : Group) (passes : List Passing) (p : Telling)
+    (slips : List PinnedWrite) (bytes : List ℕ) : Type 0 where
   pub counted : length turns ≡ g + 1
   pub said : group.said ≡ said_before S (g + 1)
   pub ran : Ran S.shape (write_at S (words_of S.shape b)) turns passes p
-  pub reads : (H : History) → GoesOn S.shape turns H → MayRead S b H g group.clients.items slips
+  pub reads : (H : History) → GoesOn S.shape turns H →
+      MayRead S b H (V H) g group.clients.items slips
   pub seen : (H : History) → GoesOn S.shape turns H →
       bytes ≡ flat_map placed_frame (entries_at (write_at S (words_of S.shape b)) H g)
 
@@ -162,19 +177,20 @@ pub record HasWritten (S : Script) (b : WordBook) (g : ℕ) (turns : List TurnOr
 
 -- What taps have after a turn of a run. With an answer each gained what its server saw of the turn,
 -- however the run goes on; with an error a front of what it sees of it in some legal history.
-pub record TapsAfterTurn (S : Script) (b : WordBook) (g : ℕ) {X E : Type 0} (result : Result X E)
-    (before after : List TurnOrder) (old new : ℕ → Option (List ℕ)) : Type 0 where
-  pub ok : OnOk result ((H : History) → GoesOn S.shape after H →
-      TapsGain S.shape.servers (turn_seen S b H g) old new)
-  pub err : OnErr result ((H : History) × GoesOn S.shape before H
-      × TapsGainFronts S.shape.servers (turn_seen S b H g) old new)
-  pub others : TapsKeepBut S.shape.servers old new
+pub record TapsAfterTurn (S : Script) (b : WordBook) (V : History → Serving) (g : ℕ) {X E : Type 0}
+    (result : Result X E) (before after : List TurnOrder) (old new : ℕ → Option (List ℕ)) : Type 0
+  where
+    pub ok : OnOk result ((H : History) → GoesOn S.shape after H →
+        TapsGain S.shape.servers (turn_under S b H (V H) g) old new)
+    pub err : OnErr result ((H : History) × GoesOn S.shape before H
+        × TapsGainFronts S.shape.servers (turn_under S b H (V H) g) old new)
+    pub others : TapsKeepBut S.shape.servers old new
 
 -- and after all turns
-pub record TapsAfterRun (S : Script) (b : WordBook) {X E : Type 0} (result : Result X E)
-    (after : List TurnOrder) (old new : ℕ → Option (List ℕ)) : Type 0 where
+pub record TapsAfterRun (S : Script) (b : WordBook) (V : History → Serving) {X E : Type 0}
+    (result : Result X E) (after : List TurnOrder) (old new : ℕ → Option (List ℕ)) : Type 0 where
   pub ok : OnOk result ((H : History) → GoesOn S.shape after H →
-      TapsGain S.shape.servers (λ j. bytes_of (exchange S b H j)) old new)
+      TapsGain S.shape.servers (λ j. bytes_of (exchange_under S b H (V H) j)) old new)
   pub err : OnErr result ((H : History) × IsLegal S.shape H
-      × TapsGainFronts S.shape.servers (λ j. bytes_of (exchange S b H j)) old new)
+      × TapsGainFronts S.shape.servers (λ j. bytes_of (exchange_under S b H (V H) j)) old new)
   pub others : TapsKeepBut S.shape.servers old new

@@ -1,5 +1,4 @@
 pub mod Rows
-pub mod Clients
 pub mod Servers
 pub mod Turns
 pub mod Ticks
@@ -12,5 +11,6 @@ pub mod Answering
 pub mod Threads
 pub mod Keeping
 pub mod Ranged
+pub mod Sized
 pub mod Under
 pub mod Errors

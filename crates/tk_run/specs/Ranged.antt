@@ -1,6 +1,6 @@
 -- A run whose servers make their sums over blocks in ranges. This says what the run is whatever they
 -- make.
-use Rattle.std.specs.Prelude.{◌≡◌, ℕ, ◌<◌, List}
+use Rattle.std.specs.Prelude.{◌≡◌, ℕ, ◌<◌, List, length}
 use Rattle.tk_shape.specs.declared.shape.Shape.{Shape}
 use Rattle.tk_shape.specs.Lengths.{turn_count, width}
 use Rattle.tk_schedule.specs.declared.history.History.{History}
@@ -11,6 +11,7 @@ use Rattle.tk_frames.specs.Order.{Record}
 use Rattle.tk_table.specs.Replies.{reply_to}
 use Rattle.tk_table.specs.Table.{layout, blocks_of}
 use Rattle.tk_kernel.specs.Chosen.{chosen_sum}
+use Rattle.tk_kernel.specs.Pieces.{AllSized}
 use Rattle.tk_shards.specs.Shards.{Sharded}
 use Rattle.tk_report.specs.Exchange.{exchange}
 use Rattle.tk_report.specs.Report.{read_over, report}
@@ -19,6 +20,12 @@ use Rattle.tk_report.specs.Serving.{Serving, honest, exchange_under, report_unde
 -- what makes a sum for a vector over blocks in ranges
 abbrev pub Summing : Type 0
 Summing = Sharded → List ℕ → List ℕ
+
+-- whatever it makes, it is as long as a block where all blocks are of one length
+abbrev pub IsSized : Summing → Type 0
+IsSized sum =
+    (set : Sharded) (vector : List ℕ) → AllSized set.width set.blocks →
+    length (sum set vector) ≡ set.width
 
 abbrev pub in_ranges : Shape → List Record → List (ℕ × ℕ) → Sharded
 in_ranges shape R ranges =

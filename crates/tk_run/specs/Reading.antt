@@ -5,6 +5,7 @@ use Rattle.tk_schedule.specs.declared.history.History.{History}
 use Rattle.tk_script.specs.declared.script.Script.{Script}
 use Rattle.tk_words.specs.Words.{WordBook, words_of}
 use Rattle.tk_client.specs.Client.{ClientState, after_replies}
+use Rattle.tk_report.specs.Serving.{Serving}
 use Rattle.tk_run.specs.declared.talking.Reading.{Reading}
 use Rattle.tk_run.specs.declared.talking.Talk.{Talk}
 use Rattle.tk_run.specs.Courses.{MayAsk, MayTalk, MayAskIn, AsksAs}
@@ -27,13 +28,15 @@ pub record MayReadOn (shape : Shape) (r : Reading) : Type 0 where
   pub client : MayAsk shape r.client
   pub talk : MayTalk shape r.talk
 
--- It asked, and in every history in which it reads from that set it asked as the history says.
+-- It asked, and in every history in which it reads from that set it asked as the history says,
+-- whatever servers reply in it.
 pub record AsksFor (b : WordBook) (a : ClientState) (d e : Talk) (new : ClientState) : Type 0 where
   pub number : new.number ≡ a.number
   pub turn : e.turn ≡ d.turn
   pub set : e.set ≡ d.set
   pub unreplied : e.replies.items ≡ d.replies.items
-  pub due : (S : Script) (H : History) → MayAskIn S b H a d → AsksAs S b H a d e new
+  pub due : (S : Script) (H : History) (V : Serving) → MayAskIn S b H V a d →
+      AsksAs S b H V a d e new
 
 abbrev pub HasAsked : WordBook → Reading → Reading → Type 0
 HasAsked b old new = AsksFor b old.client old.talk new.talk new.client

@@ -6,8 +6,8 @@ ghost use Rattle.tk_frames.specs.declared.entry.Placed.{Placed};
 ghost use Rattle.tk_run.specs.declared.stations.Station.{Station as StationOf};
 ghost use Rattle.tk_run.specs.Reading.{EachAt};
 ghost use Rattle.tk_run.specs.Answering.{MayAnswer, IsAnswered, AllStand, AreGiven};
-ghost use Rattle.tk_run.specs.Answering.{AreReplies, AllReply};
-ghost use Rattle.tk_run.specs.Ranging.{even_ranges, IsRightOver};
+ghost use Rattle.tk_run.specs.Answering.{AreReplies, AllReply, Due};
+ghost use Rattle.tk_run.specs.Ranging.{bytes_made};
 
 use crate::crew::Crew;
 use crate::kept::Kept;
@@ -31,10 +31,11 @@ pub(crate) fn answer_all<A: Sums, R: Threads + Sync + AllocGlobal>(
     crew: Crew,
 ) -> Result<(), Memory>
     requires asked { (shape : Shape) × (servers ≡ shape.servers)
-        × All (MayAnswer shape) readings.old
-        × IsRightOver (even_ranges shape.buckets crew.shards) (A.sum sums.now) }
+        × All (MayAnswer shape) readings.old }
     requires stand { (shape : Shape) × (E : List Placed) × AllStand readings.old shape E }
-    ensures { OnOk result (EachAt (IsAnswered (AllStand readings.old)) readings.old readings.new) }
+    ensures { OnOk result
+        (EachAt (IsAnswered (bytes_made (A.sum sums.now) crew.shards) (AllStand readings.old))
+        readings.old readings.new) }
 {
     let answers = answers_from(rt, sums, kept, servers, readings, crew)?;
     give_all(readings, answers)
@@ -50,10 +51,10 @@ fn answers_from<A: Sums, R: Threads + Sync + AllocGlobal>(
     crew: Crew,
 ) -> Result<Vec<Replies>, Memory>
     requires asked { (shape : Shape) × (servers ≡ shape.servers)
-        × All (MayAnswer shape) readings.now
-        × IsRightOver (even_ranges shape.buckets crew.shards) (A.sum sums.now) }
+        × All (MayAnswer shape) readings.now }
     ensures counted { IfOk result (λ v. length v.items ≡ servers) }
-    ensures replies { IfOk result (λ v. AllReply readings.now v.items) }
+    ensures replies { IfOk result
+        (λ v. AllReply (bytes_made (A.sum sums.now) crew.shards) readings.now v.items) }
 {
     let alloc = rt.alloc();
     let before = mem::replace(kept, Vec::new(alloc));
@@ -76,19 +77,19 @@ fn reply_at<A: Sums, R: Threads + Sync + AllocGlobal>(
     crew: Crew,
 )
     requires asked { (shape : Shape) × (length stations.old ≡ shape.servers)
-        × All (MayAnswer shape) readings.now
-        × IsRightOver (even_ranges shape.buckets crew.shards) (A.sum sums.now) }
+        × All (MayAnswer shape) readings.now }
     requires sides { (1 ≤ sides) × (sides ≤ crew.workers) }
     ensures counted { length stations.new ≡ length stations.old }
     ensures replies { (i : ℕ) (d : StationOf) → i < length stations.new
-        → AreReplies i readings.now (slice_index_or stations.new i d).replies }
+        → AreReplies (bytes_made (A.sum sums.now) crew.shards) i readings.now
+        (slice_index_or stations.new i d).replies }
 {
     let each = crew.part(sides);
     let work = |server: usize, station: &mut Station|
         requires { IsSync A.row × IsSync R.row × ((shape : Shape) × (server < shape.servers)
-            × All (MayAnswer shape) readings.now
-            × IsRightOver (even_ranges shape.buckets each.shards) (A.sum sums.now)) }
-        ensures { AreReplies server readings.entry.now station.exit.now.replies }
+            × All (MayAnswer shape) readings.now) }
+        ensures { AreReplies (bytes_made (A.sum sums.entry.now) each.shards) server
+            readings.entry.now station.exit.now.replies }
     { station.replies = replies_of(rt, sums, &mut station.kept, server, readings, each) };
     thread::for_each_mut(rt, stations, sides as usize, &work);
 }
@@ -98,8 +99,9 @@ fn give_all(readings: &mut [Reading], answers: Vec<Replies>) -> Result<(), Memor
     requires asked { (shape : Shape) × (length answers.items ≡ shape.servers)
         × All (MayAnswer shape) readings.old }
     requires stand { (shape : Shape) × (E : List Placed) × AllStand readings.old shape E }
-    requires replies { AllReply readings.old answers.items }
-    ensures { OnOk result (EachAt (IsAnswered (AllStand readings.old)) readings.old readings.new) }
+    requires replies { (due : Due) × AllReply due readings.old answers.items }
+    ensures { (due : Due) → AllReply due readings.old answers.items → OnOk result
+        (EachAt (IsAnswered due (AllStand readings.old)) readings.old readings.new) }
 {
     'servers: for replies in answers {
         let replies = replies?;

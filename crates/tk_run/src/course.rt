@@ -7,7 +7,7 @@ ghost use Rattle.tk_run.specs.Courses.{IsCourse, HasWritten, GoesOn, AreSights};
 ghost use Rattle.tk_run.specs.Courses.{TapsAfterTurn, TapsAfterRun};
 ghost use Rattle.tk_run.specs.Acting.{Acted};
 ghost use Rattle.tk_run.specs.Ran.{Ran};
-ghost use Rattle.tk_run.specs.Ranging.{even_ranges, IsRightOver};
+ghost use Rattle.tk_run.specs.Ranging.{over_ranges};
 ghost use Rattle.tk_words.specs.Words.{words_of};
 ghost use Rattle.tk_report.specs.Entries.{write_at};
 
@@ -45,8 +45,6 @@ pub(crate) struct Stage<'a, B: Naming, D: Draws, G: Gate, A: Sums> {
     pub crew: Crew,
     pub ghost same: { B.shape ≡ script.now.shape },
     pub ghost one_shape: { D.shape draws.now ≡ script.now.shape },
-    pub ghost right: { IsRightOver (even_ranges script.now.shape.buckets crew.shards)
-        (A.sum sums.now) },
 }
 
 /// A run of threads between two turns: how the turns so far came about, and the clients, their
@@ -75,16 +73,26 @@ pub(crate) fn run_turns<
     course: &mut Course<B>,
     taps: &mut T,
 ) -> Result<(), RunError>
-    requires { IsCourse stage.now.script.now (D.book stage.now.draws.now) 0
+    requires { let stage = stage.now in
+        let S = stage.script.now in
+        let book = D.book stage.draws.now in
+        let V = over_ranges S book stage.crew.shards (A.sum stage.sums.now) in
+        IsCourse S book V 0
         course.old.turns.items course.old.group course.old.passes.items
         course.old.herald.publisher }
-    ensures course { OnOk result
-        (IsCourse stage.now.script.now (D.book stage.now.draws.now)
-        (turn_count stage.now.script.now.shape)
+    ensures course { let stage = stage.now in
+        let S = stage.script.now in
+        let book = D.book stage.draws.now in
+        let V = over_ranges S book stage.crew.shards (A.sum stage.sums.now) in
+        OnOk result
+        (IsCourse S book V (turn_count S.shape)
         course.new.turns.items course.new.group course.new.passes.items
         course.new.herald.publisher) }
-    ensures taps { TapsAfterRun stage.now.script.now (D.book stage.now.draws.now) result
-        course.new.turns.items (T.tap taps.old) (T.tap taps.new) }
+    ensures taps { let stage = stage.now in
+        let S = stage.script.now in
+        let book = D.book stage.draws.now in
+        let V = over_ranges S book stage.crew.shards (A.sum stage.sums.now) in
+        TapsAfterRun S book V result course.new.turns.items (T.tap taps.old) (T.tap taps.new) }
     ensures rose { IfErr result (λ e. e ≡ RunError.Taps
         → Rose (T.faults taps.old) (T.faults taps.new)) }
     ensures counts { T.faults taps.old ≤ T.faults taps.new }
@@ -112,15 +120,27 @@ fn run_turn<
     taps: &mut T,
 ) -> Result<(), RunError>
     requires turn_in { turn < turn_count stage.now.script.now.shape }
-    requires course { IsCourse stage.now.script.now (D.book stage.now.draws.now) turn
+    requires course { let stage = stage.now in
+        let S = stage.script.now in
+        let book = D.book stage.draws.now in
+        let V = over_ranges S book stage.crew.shards (A.sum stage.sums.now) in
+        IsCourse S book V turn
         course.old.turns.items course.old.group course.old.passes.items
         course.old.herald.publisher }
     ensures behind { OnOk result (IsPrefix course.old.turns.items course.new.turns.items) }
-    ensures course { OnOk result
-        (IsCourse stage.now.script.now (D.book stage.now.draws.now) (turn + 1)
+    ensures course { let stage = stage.now in
+        let S = stage.script.now in
+        let book = D.book stage.draws.now in
+        let V = over_ranges S book stage.crew.shards (A.sum stage.sums.now) in
+        OnOk result
+        (IsCourse S book V (turn + 1)
         course.new.turns.items course.new.group course.new.passes.items
         course.new.herald.publisher) }
-    ensures taps { TapsAfterTurn stage.now.script.now (D.book stage.now.draws.now) turn result
+    ensures taps { let stage = stage.now in
+        let S = stage.script.now in
+        let book = D.book stage.draws.now in
+        let V = over_ranges S book stage.crew.shards (A.sum stage.sums.now) in
+        TapsAfterTurn S book V turn result
         course.old.turns.items course.new.turns.items (T.tap taps.old) (T.tap taps.new) }
     ensures rose { IfErr result (λ e. e ≡ RunError.Taps
         → Rose (T.faults taps.old) (T.faults taps.new)) }
@@ -147,17 +167,28 @@ fn play_turn<
     course: &mut Course<B>,
 ) -> Result<Vec<Bytes>, Memory>
     requires turn_in { turn < turn_count stage.now.script.now.shape }
-    requires course { IsCourse stage.now.script.now (D.book stage.now.draws.now) turn
+    requires course { let stage = stage.now in
+        let S = stage.script.now in
+        let book = D.book stage.draws.now in
+        let V = over_ranges S book stage.crew.shards (A.sum stage.sums.now) in
+        IsCourse S book V turn
         course.old.turns.items course.old.group course.old.passes.items
         course.old.herald.publisher }
     ensures behind { OnOk result (IsPrefix course.old.turns.items course.new.turns.items) }
-    ensures course { OnOk result
-        (IsCourse stage.now.script.now (D.book stage.now.draws.now) (turn + 1)
+    ensures course { let stage = stage.now in
+        let S = stage.script.now in
+        let book = D.book stage.draws.now in
+        let V = over_ranges S book stage.crew.shards (A.sum stage.sums.now) in
+        OnOk result
+        (IsCourse S book V (turn + 1)
         course.new.turns.items course.new.group course.new.passes.items
         course.new.herald.publisher) }
-    ensures sights { let S = stage.now.script.now in
+    ensures sights { let stage = stage.now in
+        let S = stage.script.now in
+        let book = D.book stage.draws.now in
+        let V = over_ranges S book stage.crew.shards (A.sum stage.sums.now) in
         IfOk result (λ v. (H : History) → GoesOn S.shape course.new.turns.items H
-        → AreSights S (D.book stage.now.draws.now) H turn v.items) }
+        → AreSights S book H (V H) turn v.items) }
 {
     let (slips, entries) = write_turn(rt, stage, turn, course)?;
     let servers = stage.script.shape.servers;
@@ -195,12 +226,19 @@ fn write_turn<
     course: &mut Course<B>,
 ) -> Result<(Vec<PinnedWrite>, Vec<u8>), Memory>
     requires turn_in { turn < turn_count stage.now.script.now.shape }
-    requires course { IsCourse stage.now.script.now (D.book stage.now.draws.now) turn
+    requires course { let stage = stage.now in
+        let S = stage.script.now in
+        let book = D.book stage.draws.now in
+        let V = over_ranges S book stage.crew.shards (A.sum stage.sums.now) in
+        IsCourse S book V turn
         course.old.turns.items course.old.group course.old.passes.items
         course.old.herald.publisher }
     ensures behind { OnOk result (IsPrefix course.old.turns.items course.new.turns.items) }
-    ensures written { IfOk result (λ r.
-        HasWritten stage.now.script.now (D.book stage.now.draws.now) turn
+    ensures written { let stage = stage.now in
+        let S = stage.script.now in
+        let book = D.book stage.draws.now in
+        let V = over_ranges S book stage.crew.shards (A.sum stage.sums.now) in
+        IfOk result (λ r. HasWritten S book V turn
         course.new.turns.items course.new.group course.new.passes.items
         course.new.herald.publisher r.0.items r.1.items) }
 {

@@ -7,6 +7,7 @@ mod answering;
 mod arranging;
 mod ask_threads;
 mod asked_frames;
+mod closed_run;
 mod course;
 mod crew;
 mod desks;
@@ -38,6 +39,7 @@ mod ticks;
 mod turn_reads;
 mod turns;
 
+pub use closed_run::ClosedRun;
 pub use ended::Ended;
 pub use keeper::{Keeper, Shelf};
 pub use laws::servers_ranged;

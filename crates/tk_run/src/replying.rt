@@ -10,7 +10,7 @@ ghost use Rattle.tk_cluster.specs.Sets.{Stands};
 ghost use Rattle.tk_run.specs.declared.talking.Reading.{Reading as ReadingOf};
 ghost use Rattle.tk_run.specs.Answering.{MayAnswer, MayReply, AllStand, AreReplies};
 ghost use Rattle.tk_run.specs.Answering.{frame_of, epoch_of};
-ghost use Rattle.tk_run.specs.Ranging.{even_ranges, IsRightOver, bytes_made};
+ghost use Rattle.tk_run.specs.Ranging.{bytes_made};
 
 use crate::crew::Crew;
 use crate::kept::Kept;
@@ -32,9 +32,8 @@ pub(crate) fn replies_of<A: Sums, R: Threads + Sync + AllocGlobal>(
     crew: Crew,
 ) -> Result<Vec<Bytes>, Memory>
     requires asked { (shape : Shape) × (server < shape.servers)
-        × All (MayAnswer shape) readings.now
-        × IsRightOver (even_ranges shape.buckets crew.shards) (A.sum sums.now) }
-    ensures { AreReplies server readings.now result }
+        × All (MayAnswer shape) readings.now }
+    ensures { AreReplies (bytes_made (A.sum sums.now) crew.shards) server readings.now result }
 {
     let frames = frames_for(rt.alloc(), server, readings)?;
     let server = server as u32 + 1;

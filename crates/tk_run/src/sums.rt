@@ -8,6 +8,7 @@ pub trait Sums: Sync {
     ghost use Rattle.std.specs.List.{All};
     ghost use Rattle.std.specs.Thread.{IsSync};
     ghost use Rattle.tk_shards.specs.Shards.{Sharded};
+    ghost use Rattle.tk_run.specs.Ranged.{IsSized};
 
     /// The sum that it makes for a vector.
     ghost sum: { Self → Sharded → List ℕ → List ℕ };
@@ -24,6 +25,9 @@ pub trait Sums: Sync {
         requires vectors { All (λ v. 8 * length v ≡ length set.now.blocks) vectors.now }
         requires workers { 1 ≤ workers }
         ensures { IfOk result (λ sums. sums.items ≡ map (sum self.now set.now) vectors.now) };
+
+    /// Each is as long as a block.
+    ghost sized: { (sums : Self) → IsSized (sum sums) };
 }
 
 /// The sums that the ranges make, each range its own part.
@@ -32,8 +36,11 @@ pub struct OwnSums;
 
 impl Sums for OwnSums {
     ghost use Rattle.tk_kernel.specs.Chosen.{chosen_sum};
+    ghost use Rattle.tk_run.specs.Sized.{sum-sized};
 
     ghost sum = { λ own set vector. chosen_sum set.width set.blocks vector };
+
+    ghost sized = { λ own set vector whole. sum-sized set.width set.blocks vector whole };
 
     fn of<R: Threads + Sync>(
         &self,

@@ -3,12 +3,12 @@ ghost use Rattle.std.specs.Prelude.{IsPermutation};
 ghost use Rattle.std.specs.List.Sorted.{IsNonDecreasingBy};
 ghost use Rattle.tk_schedule.specs.declared.history.History.{History};
 ghost use Rattle.tk_script.specs.declared.script.Script.{Script};
-ghost use Rattle.tk_words.specs.Words.{words_of};
-ghost use Rattle.tk_run.specs.Clients.{AreClients, client_before};
+ghost use Rattle.tk_report.specs.Clients.{AreClients};
 ghost use Rattle.tk_run.specs.Courses.{MayRead, AreTalks, AreBlank};
 ghost use Rattle.tk_run.specs.Reading.{readers, talks_of};
 ghost use Rattle.tk_run.specs.Answering.{epoch_of};
-ghost use Rattle.tk_run.specs.Ranging.{even_ranges, IsRightOver};
+ghost use Rattle.tk_run.specs.Ranging.{over_ranges};
+ghost use Rattle.tk_run.specs.Under.{client_under};
 
 use crate::answering::answer_all;
 use crate::ask_threads::ask_all;
@@ -36,8 +36,6 @@ pub(crate) struct Round<'a, D: Draws, A: Sums> {
     pub servers: u32,
     pub crew: Crew,
     pub ghost servers_are: { servers ≡ (D.shape draws.now).servers },
-    pub ghost right: { IsRightOver (even_ranges (D.shape draws.now).buckets crew.shards)
-        (A.sum sums.now) },
 }
 
 /// A read in a turn: the set that answers it, and for each server what it is asked and what it
@@ -67,15 +65,22 @@ pub(crate) fn talk_all<'a, D: Draws, A: Sums, R: Threads + Sync + AllocGlobal>(
     clients: &mut Vec<Client>,
     slips: Vec<PinnedWrite>,
 ) -> Result<Vec<Talk>, Memory>
-    requires { (S : Script) × (H : History) × (S.shape ≡ D.shape round.now.draws.now)
-        × MayRead S (D.book round.now.draws.now) H round.now.turn clients.old.items slips.items }
-    ensures talks { let b = D.book round.now.draws.now in (S : Script) (H : History)
-        → MayRead S b H round.now.turn clients.old.items slips.items
-        → IfOk result (λ v. AreTalks S b H round.now.turn v.items) }
-    ensures clients { let b = D.book round.now.draws.now in (S : Script) (H : History)
-        → MayRead S b H round.now.turn clients.old.items slips.items
+    requires { let b = D.book round.now.draws.now in
+        let sum = A.sum round.now.sums.now in
+        (S : Script) × (H : History) × (S.shape ≡ D.shape round.now.draws.now)
+        × MayRead S b H (over_ranges S b round.now.crew.shards sum H) round.now.turn
+        clients.old.items slips.items }
+    ensures talks { let b = D.book round.now.draws.now in
+        let sum = A.sum round.now.sums.now in
+        (S : Script) (H : History) → let V = over_ranges S b round.now.crew.shards sum H in
+        MayRead S b H V round.now.turn clients.old.items slips.items
+        → IfOk result (λ v. AreTalks S b H V round.now.turn v.items) }
+    ensures clients { let b = D.book round.now.draws.now in
+        let sum = A.sum round.now.sums.now in
+        (S : Script) (H : History) → let V = over_ranges S b round.now.crew.shards sum H in
+        MayRead S b H V round.now.turn clients.old.items slips.items
         → OnOk result (AreClients S.shape.clients
-        (client_before S (words_of S.shape b) H (round.now.turn + 1)) clients.new.items) }
+        (client_under S b H V (round.now.turn + 1)) clients.new.items) }
 {
     let alloc = rt.alloc();
     let asking = mem::replace(clients, Vec::new(alloc));

@@ -1,9 +1,10 @@
 ghost use Rattle.std.specs.Prelude.{◌≡◌, ◌≤◌, ◌+◌, IfErr};
 ghost use Rattle.tk_io.specs.Content.{Rose};
-ghost use Rattle.tk_run.specs.Ranging.{even_ranges, IsRightOver};
-ghost use Rattle.tk_run.specs.Threads.{CameAbout};
+ghost use Rattle.tk_run.specs.Ranging.{over_ranges};
+ghost use Rattle.tk_run.specs.Threads.{CameAbout, CameAboutUnder};
 
 use crate::acting::Herald;
+use crate::closed_run::ClosedRun;
 use crate::course::{Course, Stage, run_turns};
 use crate::crew::Crew;
 use crate::run_error::RunError;
@@ -43,11 +44,19 @@ pub fn threads<D: Draws, T: Taps, G: Gate, R: Threads + Wait + Sync + AllocGloba
         → Rose (T.faults taps.old) (T.faults taps.new)) }
     ensures counts { T.faults taps.old ≤ T.faults taps.new }
 {
-    threads_by(rt, script, draws, taps, gate, workers, shards, &OwnSums)
+    let closed_run = threads_by(rt, script, draws, taps, gate, workers, shards, &OwnSums)?;
+    let ClosedRun {
+        history,
+        clients,
+        displaced,
+        closed,
+    } = closed_run;
+    let outcome = Outcome::of(script, history, clients, displaced)?;
+    Ok((outcome, closed))
 }
 
-/// The same where this makes the sums over the ranges. It is asked for them over so many even ranges
-/// and over no others.
+/// The same run where this makes the sums over the ranges, over so many even ones and over no others.
+/// Whatever it makes, the servers reply that, and the clients go on from it.
 pub fn threads_by<D: Draws, T: Taps, G: Gate, A: Sums, R: Threads + Wait + Sync + AllocGlobal>(
     rt: &R,
     script: &Script,
@@ -57,12 +66,12 @@ pub fn threads_by<D: Draws, T: Taps, G: Gate, A: Sums, R: Threads + Wait + Sync 
     workers: u32,
     shards: u32,
     sums: &A,
-) -> Result<(Outcome, Closed), RunError>
+) -> Result<ClosedRun, RunError>
     requires one_shape { D.shape draws.now ≡ script.now.shape }
     requires workers { (1 ≤ workers) × (workers ≤ 64) }
     requires shards { (1 ≤ shards) × (shards ≤ 64) }
-    requires right { IsRightOver (even_ranges script.now.shape.buckets shards) (A.sum sums.now) }
-    ensures run { CameAbout script.now (D.book draws.now) result
+    ensures run { CameAboutUnder script.now (D.book draws.now)
+        (over_ranges script.now (D.book draws.now) shards (A.sum sums.now)) result
         (T.tap taps.old) (T.tap taps.new) }
     ensures rose { IfErr result (λ e. e ≡ RunError.Taps
         → Rose (T.faults taps.old) (T.faults taps.new)) }
@@ -88,7 +97,6 @@ struct Scene<'a, D: Draws, G: Gate, A: Sums> {
     sums: &'a A,
     crew: Crew,
     ghost one_shape: { D.shape draws.now ≡ script.now.shape },
-    ghost right: { IsRightOver (even_ranges script.now.shape.buckets crew.shards) (A.sum sums.now) },
 }
 
 /// A run over the cluster of a blank.
@@ -100,17 +108,15 @@ fn run_over<
     G: Gate,
     A: Sums,
     R: Threads + Wait + Sync + AllocGlobal,
->(
-    rt: &R,
-    scene: &Scene<'a, D, G, A>,
-    blank: Blank,
-    taps: &mut T,
-) -> Result<(Outcome, Closed), RunError>
+>(rt: &R, scene: &Scene<'a, D, G, A>, blank: Blank, taps: &mut T) -> Result<ClosedRun, RunError>
     requires table { blank.table ≡ B.table }
     requires shape { blank.shape ≡ B.shape }
     requires same { scene.now.script.now.shape ≡ B.shape }
     requires seats { blank.seats ≡ scene.now.script.now.shape.clients + 1 }
-    ensures run { CameAbout scene.now.script.now (D.book scene.now.draws.now) result
+    ensures run { let scene = scene.now in
+        let S = scene.script.now in
+        let book = D.book scene.draws.now in
+        CameAboutUnder S book (over_ranges S book scene.crew.shards (A.sum scene.sums.now)) result
         (T.tap taps.old) (T.tap taps.new) }
     ensures rose { IfErr result (λ e. e ≡ RunError.Taps
         → Rose (T.faults taps.old) (T.faults taps.new)) }
@@ -157,6 +163,10 @@ fn run_over<
     let displaced = displaced_in_order(rt.alloc(), &scene.script.shape, order)?;
     let history = History::from_turns(turns);
     let Group { said: _, clients } = group;
-    let outcome = Outcome::of(scene.script, history, clients, displaced)?;
-    Ok((outcome, closed))
+    Ok(ClosedRun {
+        history,
+        clients,
+        displaced,
+        closed,
+    })
 }

@@ -4,6 +4,7 @@ use Rattle.std.specs.Prelude.{slice_index_or}
 use Rattle.std.proofs.lemmas.List.{length-map, with_items_is}
 use Rattle.tk_run.specs.declared.stations.Station.{Station}
 use Rattle.tk_run.specs.Answering.{Replies, AllReply, AreReplies}
+use Rattle.tk_run.specs.Ranging.{bytes_made}
 use Rattle.tk_run.proofs.answering.answers_from.Goals as goal
 
 -- what is true of each place is true of it in a mapped list
@@ -21,7 +22,6 @@ reply_at-requires-clause-asked g c κs within = (
   c.requires.asked.0,
   ap length c.as_mut_slice.ensures.value ∙ c.in_ok-stations.ensures ∙ c.requires.asked.1,
   c.requires.asked.2,
-  c.requires.asked.3,
 )
 
 pub returns-clause-counted : goal.returns-clause-counted
@@ -50,6 +50,7 @@ returns-clause-replies g c =
     c.in_ok-after.ensures
     ∙ ap (map (λ (s : Station). s.replies)) (with_items_is c.in_ok-stations.stations new same)
     in
-    subst (AllReply rs) (sym answers)
-    (at-map {Y = Replies} (λ i replies. AreReplies i rs replies) (λ (s : Station). s.replies) new
+    let due = bytes_made (g.A.Sums.sum c.args.sums.now) c.args.crew.shards in
+    subst (AllReply due rs) (sym answers)
+    (at-map {Y = Replies} (λ i replies. AreReplies due i rs replies) (λ (s : Station). s.replies) new
     c.reply_at.ensures.replies)

@@ -15,8 +15,8 @@ servers-init c =
       whole = refl;
       left = omega (arith, begins.1, ap length begins.0);
       counted = refl;
-      replied =
-          replied-none c.requires.asked.0 (AllStand c.args.readings.now) c.args.readings.now
+      replied = λ due all.
+          replied-none due c.requires.asked.0 (AllStand c.args.readings.now) c.args.readings.now
           c.requires.asked.2;
     }
 
@@ -36,9 +36,10 @@ give-requires c =
     ap (λ (xs : List Replies). given ++ xs) (sym steps) ∙ so_far.whole
     ∙ c.into_iter-replies-iterator.ensures.into_iter_gives.0
     in
-    replies-counted shape E (length given) old c.in_ok-replies.replies.items
-    (server-replied shape old c.args.answers.items given rest x whole c.in_ok-replies.replies
-    c.in_ok-replies.was c.requires.replies shape E c.requires.stand.2)
+    let due = c.requires.replies.0 in
+    replies-counted due shape E (length given) old c.in_ok-replies.replies.items
+    (server-replied shape old c.args.answers.items given rest x whole due c.in_ok-replies.replies
+    c.in_ok-replies.was c.requires.replies.1 shape E c.requires.stand.2)
     ∙ sym so_far.counted
 
 pub servers-preserved : goal.servers-preserved
@@ -66,19 +67,19 @@ servers-preserved c =
           let short = ap length steps in
           omega arith;
       counted = c.give.auto.readings ∙ so_far.counted;
-      replied =
-          subst (λ n. EachAt (IsReplied (AllStand old) n) old c.give.new.readings) (sym more)
-          (replied-next shape (length given) old c.servers.readings c.give.new.readings
+      replied = λ due all.
+          subst (λ n. EachAt (IsReplied due (AllStand old) n) old c.give.new.readings) (sym more)
+          (replied-next due shape (length given) old c.servers.readings c.give.new.readings
           c.in_ok-replies.replies.items so_far.counted c.requires.asked.2
           (server-inside shape old c.args.answers.items given rest x whole c.requires.asked.1)
-          so_far.replied
-          (server-replied shape old c.args.answers.items given rest x whole
-          c.in_ok-replies.replies c.in_ok-replies.was c.requires.replies)
+          (so_far.replied due all)
+          (server-replied shape old c.args.answers.items given rest x whole due
+          c.in_ok-replies.replies c.in_ok-replies.was all)
           c.in_ok-give.ensures);
     }
 
 pub returns : goal.returns
-returns c =
+returns c due replied =
     let so_far = c.servers.invariant in
     let given = c.servers.yielded in
     let none = c.in-None.ensures.steps in
@@ -92,5 +93,5 @@ returns c =
       ap length c.into_iter-replies-iterator.ensures.into_iter_gives.0,
     )
     in
-    replied-all c.requires.asked.0 (length given) c.args.readings.now c.servers.readings
-    c.requires.asked.2 (all ∙ c.requires.asked.1) so_far.replied
+    replied-all due c.requires.asked.0 (length given) c.args.readings.now c.servers.readings
+    c.requires.asked.2 (all ∙ c.requires.asked.1) (so_far.replied due replied)

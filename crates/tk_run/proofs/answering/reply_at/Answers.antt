@@ -1,6 +1,5 @@
 -- Each server is one of the shape.
-use Rattle.std.proofs.Common.{sym, subst, arith, rules}
-use Rattle.tk_run.specs.Ranging.{even_ranges, IsRightOver}
+use Rattle.std.proofs.Common.{arith, rules}
 use Rattle.tk_run.proofs.answering.reply_at.Goals as goal
 
 pub for_each_mut-requires-clause-accepts : goal.for_each_mut-requires-clause-accepts
@@ -8,13 +7,7 @@ for_each_mut-requires-clause-accepts g c κs within i p low same = (
   (
     search rules,
     search rules,
-    (
-      c.requires.asked.0,
-      omega (arith, low, c.requires.asked.1),
-      c.requires.asked.2,
-      subst (λ n. IsRightOver (even_ranges c.requires.asked.0.buckets n)
-          (g.A.Sums.sum c.args.sums.now)) (sym c.part-each.ensures.shards) c.requires.asked.3,
-    ),
+    (c.requires.asked.0, omega (arith, low, c.requires.asked.1), c.requires.asked.2),
   ),
   search rules,
 )

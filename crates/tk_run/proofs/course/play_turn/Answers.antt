@@ -5,6 +5,7 @@ use Rattle.tk_schedule.specs.declared.history.History.{History}
 use Rattle.tk_run.specs.declared.talking.Talk.{Talk}
 use Rattle.tk_run.specs.Rows.{AreRows}
 use Rattle.tk_run.specs.Courses.{GoesOn, AreTalks, AreSights, HasTalked, talk_seen}
+use Rattle.tk_run.specs.Ranging.{over_ranges}
 use Rattle.tk_run.proofs.ErrorLaws.{always, ok-then}
 use Rattle.tk_run.proofs.GoesOnLaws.{filled}
 use Rattle.tk_run.proofs.SightLaws.{some_goes_on, have_talked, sights_seen, read_course}
@@ -39,14 +40,15 @@ pub returns-clause-sights : goal.returns-clause-sights
 returns-clause-sights g c =
     let S = c.args.stage.now.script.now in
     let book = g.D.Draws.book c.args.stage.now.draws.now in
+    let V = over_ranges S book c.args.stage.now.crew.shards (g.A.Sums.sum c.args.stage.now.sums.now) in
     let written = c.in_ok-slips.ensures.written in
     let bytes = c.as_slice.result.now in
     let talks = c.as_slice-2.result.now in
     ok-then c.sights_from.result
     (λ v. AreRows S.shape.servers (λ i. bytes ++ flat_map (talk_seen i) talks) v.items)
     (λ v. (H : History) → GoesOn S.shape c.write_turn.new.course.turns.items H →
-    AreSights S book H c.args.turn v.items)
+    AreSights S book H (V H) c.args.turn v.items)
     (λ v rows H goes.
     sights_seen (c.as_slice.ensures.value ∙ written.seen H goes)
-    (subst (AreTalks S book H c.args.turn) (sym c.as_slice-2.ensures.value)
+    (subst (AreTalks S book H (V H) c.args.turn) (sym c.as_slice-2.ensures.value)
     (c.in_ok-talks.ensures.talks S H (written.reads H goes))) rows) c.sights_from.ensures

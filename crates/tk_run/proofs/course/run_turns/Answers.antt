@@ -2,6 +2,7 @@
 use Rattle.std.proofs.Common.{◌≡◌, ◌∙◌, arith, refl, subst, le_trans}
 use Rattle.tk_shape.specs.Lengths.{turn_count}
 use Rattle.tk_run.specs.Courses.{IsCourse}
+use Rattle.tk_run.specs.Ranging.{over_ranges}
 use Rattle.tk_run.proofs.Stopping.{run_stopped}
 use Rattle.tk_run.proofs.TapTurns.{gained_first, gained_next, gained_all, gained_fronts}
 use Rattle.tk_run.proofs.course.run_turns.Goals as goal
@@ -10,9 +11,10 @@ pub turns-init : goal.turns-init
 turns-init g c =
     let S = c.args.stage.now.script.now in
     let book = g.D.Draws.book c.args.stage.now.draws.now in
+    let V = over_ranges S book c.args.stage.now.crew.shards (g.A.Sums.sum c.args.stage.now.sums.now) in
     record {
       course = c.requires;
-      taps = gained_first S book c.args.course.now.turns.items (g.T.Taps.tap c.args.taps.now);
+      taps = gained_first S book V c.args.course.now.turns.items (g.T.Taps.tap c.args.taps.now);
       others = λ j out. refl;
       counts = omega arith;
     }
@@ -32,11 +34,12 @@ pub returns-in_err-run_turn-clause-taps : goal.returns-in_err-run_turn-clause-ta
 returns-in_err-run_turn-clause-taps g c =
     let S = c.args.stage.now.script.now in
     let book = g.D.Draws.book c.args.stage.now.draws.now in
+    let V = over_ranges S book c.args.stage.now.crew.shards (g.A.Sums.sum c.args.stage.now.sums.now) in
     let new = g.T.Taps.tap c.run_turn.new.taps in
     let is = c.turns.invariant in
     let stopped = c.in_err-run_turn.ensures.taps in
     let H = stopped.err.0 in
-    run_stopped S book _ c.from_residual.result c.from_residual.ensures.1
+    run_stopped S book V _ c.from_residual.result c.from_residual.ensures.1
     (g.T.Taps.tap c.args.taps.now) new c.run_turn.new.course.turns.items H stopped.err.1.legal
     (gained_fronts is.taps H new (omega (arith, c.turns-test.true)) stopped.err.1 stopped.err.2)
     (λ j out. stopped.others j out ∙ is.others j out)
@@ -45,8 +48,9 @@ pub returns-clause-course : goal.returns-clause-course
 returns-clause-course g c =
     let S = c.args.stage.now.script.now in
     let book = g.D.Draws.book c.args.stage.now.draws.now in
+    let V = over_ranges S book c.args.stage.now.crew.shards (g.A.Sums.sum c.args.stage.now.sums.now) in
     let all : c.turns.turn ≡ turn_count S.shape = omega arith in
-    subst (λ n. IsCourse S book n c.turns.course.turns.items c.turns.course.group
+    subst (λ n. IsCourse S book V n c.turns.course.turns.items c.turns.course.group
     c.turns.course.passes.items c.turns.course.herald.publisher) all c.turns.invariant.course
 
 pub returns-clause-taps : goal.returns-clause-taps

@@ -1,25 +1,23 @@
 -- The turn that came about when all have written and pinned, and what is seen of its entries.
-use Rattle.std.proofs.Common.{◌≡◌, ◌+◌, ◌≤◌, ◌++◌, ◌∷◌, ◌∙◌, [], List, ℕ, All, length, map, Some, arith, sym, subst, ap}
-use Rattle.std.proofs.Common.{count_by}
-use Rattle.std.specs.Prelude.{IsTrue, flat_map}
-use Rattle.std.specs.List.{list_all}
+use Rattle.std.proofs.Common.{◌≡◌, ◌+◌, ◌++◌, ◌∷◌, ◌∙◌, [], List, ℕ, length, arith, sym, subst, ap}
+use Rattle.std.specs.Prelude.{flat_map}
 use Rattle.std.proofs.lemmas.List.{with_items_is}
 use Rattle.tk_frames.specs.Spelling.{placed_frame}
 use Rattle.tk_schedule.specs.declared.item.Item.{Item}
 use Rattle.tk_schedule.specs.declared.history.History.{History}
 use Rattle.tk_schedule.specs.declared.history.TurnOrder.{TurnOrder}
-use Rattle.tk_schedule.specs.Schedule.{is_within, is_mark, phase_of}
-use Rattle.tk_script.specs.declared.script.Script.{Script}
-use Rattle.tk_words.specs.Words.{WordBook, words_of}
+use Rattle.tk_schedule.specs.Schedule.{phase_of}
 use Rattle.tk_report.specs.Entries.{placed_from}
-use Rattle.tk_report.specs.Clients.{known_before, client_told, client_knowing}
+use Rattle.tk_report.specs.Clients.{client_told, client_knowing}
+use Rattle.tk_report.specs.Serving.{reader_under}
 use Rattle.tk_report.specs.declared.group.Group.{Group}
 use Rattle.tk_run.specs.declared.acting.Desk.{Desk}
-use Rattle.tk_run.specs.Clients.{AreClients}
+use Rattle.tk_report.specs.Clients.{AreClients}
 use Rattle.tk_run.specs.Acting.{Acted, AreFrames, frames_on, slips_on}
 use Rattle.tk_run.specs.Ran.{turn_of}
-use Rattle.tk_run.specs.Courses.{HasWritten, GoesOn, IsInTurn, entries_behind}
-use Rattle.tk_run.proofs.CourseStarts.{course_goes, course_counted, course_knows}
+use Rattle.tk_run.specs.Ranging.{over_ranges}
+use Rattle.tk_run.specs.Courses.{HasWritten, GoesOn, entries_behind}
+use Rattle.tk_run.proofs.CourseStarts.{course_goes, course_counted}
 use Rattle.tk_run.proofs.GoesOnLaws.{filled}
 use Rattle.tk_run.proofs.WrittenTurns.{writes, Came, came}
 use Rattle.tk_run.proofs.course.write_turn.Given as given
@@ -77,16 +75,15 @@ say-requires-clause-counted g c = course_counted c.requires.course c.requires.tu
 pub desks_for-requires-clause-clients : goal.desks_for-requires-clause-clients
 desks_for-requires-clause-clients g c κs within =
     let S = c.args.stage.now.script.now in
+    let book = g.D.Draws.book c.args.stage.now.draws.now in
+    let V = over_ranges S book c.args.stage.now.crew.shards (g.A.Sums.sum c.args.stage.now.sums.now) in
     let H = filled S.shape c.args.course.now.turns.items in
-    let knows =
-    known_before S (words_of S.shape (g.D.Draws.book c.args.stage.now.draws.now)) H c.args.turn
-    in (
+    let knows = λ (k : ℕ). reader_under S book H (V H) k c.args.turn in (
       knows,
       subst (AreClients S.shape.clients (client_told S knows c.args.turn))
           (sym c.as_mut_slice-clients.ensures.value)
           (c.in_ok-say.ensures.clients knows
-          (course_knows c.requires.course c.requires.turn_in H
-          (course_goes c.requires.course c.requires.turn_in))),
+          (c.requires.course.clients H (course_goes c.requires.course c.requires.turn_in))),
     )
 
 pub turn_from-requires-clause-counted : goal.turn_from-requires-clause-counted
@@ -128,6 +125,7 @@ pub returns-clause-written : goal.returns-clause-written
 returns-clause-written g c =
     let S = c.args.stage.now.script.now in
     let book = g.D.Draws.book c.args.stage.now.draws.now in
+    let V = over_ranges S book c.args.stage.now.crew.shards (g.A.Sums.sum c.args.stage.now.sums.now) in
     let turn = c.args.turn in
     let write = writes S book turn in
     let old = c.args.course.now in
@@ -139,23 +137,23 @@ returns-clause-written g c =
     (omega (arith, c.desks_for.auto.clients, c.as_mut_slice-clients.ensures.len))
     in
     let wrote = λ (H : History) (goes : GoesOn S.shape old.turns.items H).
-    let knows = known_before S (words_of S.shape book) H turn in
+    let knows = λ (k : ℕ). reader_under S book H (V H) k turn in
     subst (AreClients S.shape.clients (client_knowing S knows (turn + 1)))
     (sym (ap (λ (x : Group). x.clients.items) group_is ∙ told))
     (c.in_ok-desks.ensures.clients knows
     (subst (AreClients S.shape.clients (client_told S knows turn))
     (sym c.as_mut_slice-clients.ensures.value)
     (c.in_ok-say.ensures.clients knows
-    (course_knows c.requires.course c.requires.turn_in H goes))))
+    (c.requires.course.clients H goes))))
     in
     let frames : AreFrames S.shape write c.as_slice-2.result.now =
     subst (AreFrames S.shape write) (sym c.as_slice-2.ensures.value) noted_now.frames_are
     in
-    subst (λ (turns : List TurnOrder). HasWritten S book turn turns new.group new.passes.items
+    subst (λ (turns : List TurnOrder). HasWritten S book V turn turns new.group new.passes.items
     new.herald.publisher c.in_ok-frames.slips.items c.in_ok-entries.entries.items)
     (sym (c.in_ok-push.ensures.items
     ∙ ap (λ (turns : List TurnOrder). turns ++ c.in_ok-now.now ∷ []) c.in_ok-act_in.ensures.turns))
-    (noted_now.written new.group c.in_ok-entries.entries.items
+    (noted_now.written V new.group c.in_ok-entries.entries.items
     (ap (λ (x : Group). x.said) group_is ∙ c.in_ok-say.ensures.said) wrote
     (c.in_ok-entries.ensures write frames
     ∙ ap (λ (items : List Item). flat_map placed_frame (placed_from write

@@ -2,7 +2,6 @@
 use Rattle.std.proofs.Common.{◌≡◌, ◌∙◌, ap, subst, List, map}
 use Rattle.std.specs.Prelude.{IfOk}
 use Rattle.tk_run.specs.Ranging.{bytes_made}
-use Rattle.tk_run.proofs.RangingLaws.{all-right}
 use Rattle.tk_run.specs.Rows.{Frame}
 use Rattle.tk_run.proofs.AnsweredLaws.{asked-inside, replies-due}
 use Rattle.tk_run.proofs.replying.replies_of.Goals as goal
@@ -26,7 +25,5 @@ returns g c shape E stands =
     let sum = g.A.Sums.sum c.args.sums.now in
     let shards = c.args.crew.shards in
     subst (λ (fs : List Frame). IfOk c.replies_from.result (λ replies. replies.items ≡ fs))
-    (ap (map (bytes_made sum shards shape E)) (c.as_slice.ensures.value ∙ c.in_ok-frames.ensures)
-    ∙ all-right sum shards c.requires.asked.0 shape E c.args.server c.args.readings.now
-    c.requires.asked.2 stands c.requires.asked.3)
+    (ap (map (bytes_made sum shards shape E)) (c.as_slice.ensures.value ∙ c.in_ok-frames.ensures))
     (c.replies_from.ensures shape E stands)

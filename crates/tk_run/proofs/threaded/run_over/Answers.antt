@@ -1,23 +1,23 @@
 -- One legal history comes about: what the run leaves is of it, and so is what the taps have.
-use Rattle.std.proofs.Common.{◌≡◌, ◌∙◌, ℕ, List, ap, sym, subst}
+use Rattle.std.proofs.Common.{◌∙◌, ℕ, List, ap, sym, subst}
 use Rattle.std.specs.Prelude.{Result}
 use Rattle.std.specs.Result.{IsErrAnd}
 use Rattle.tk_shape.specs.declared.shape.Shape.{Shape}
-use Rattle.tk_schedule.specs.declared.history.History.{History}
 use Rattle.tk_schedule.specs.declared.history.TurnOrder.{TurnOrder}
-use Rattle.tk_words.specs.Words.{words_of}
 use Rattle.tk_io.proofs.Offers.{fronts-of_all}
 use Rattle.tk_frames.specs.InOrder.{IsOrder}
 use Rattle.tk_report.specs.Displaced.{displaced_in}
-use Rattle.tk_report.specs.Outcomes.{IsLeftBy, HasEnded}
-use Rattle.tk_report.specs.declared.outcome.Outcome.{Outcome}
-use Rattle.tk_report.specs.Exchange.{exchange, bytes_of}
+use Rattle.tk_report.specs.Exchange.{bytes_of}
+use Rattle.tk_report.specs.Serving.{exchange_under}
 use Rattle.tk_cluster.specs.Clusters.{Opened}
 use Rattle.tk_cluster.specs.Closings.{Ended, AllOnce, Closes}
 use Rattle.tk_run.specs.declared.run_error.RunError.{RunError}
 use Rattle.tk_run.specs.Courses.{IsCourse}
-use Rattle.tk_run.specs.Threads.{CameAbout}
-use Rattle.tk_run.proofs.CameLaws.{course_goes_on, course_once, course_ended, course_order, course_epochs}
+use Rattle.tk_run.specs.Ranging.{over_ranges}
+use Rattle.tk_run.specs.Threads.{CameAboutUnder}
+use Rattle.tk_run.specs.declared.closed_run.ClosedRun.{ClosedRun}
+use Rattle.tk_run.proofs.CameLaws.{course_clients, course_goes_on, course_once, course_displaced}
+use Rattle.tk_run.proofs.CameLaws.{course_order, course_epochs}
 use Rattle.tk_run.proofs.CourseStarts.{course_first}
 use Rattle.tk_run.proofs.Stopping.{came_stopped, came_nowhere}
 use Rattle.tk_run.proofs.threaded.run_over.Given as given
@@ -26,27 +26,35 @@ use Rattle.tk_run.proofs.threaded.run_over.Goals.{After-close}
 
 pub returns-in_err-group-clause-run : goal.returns-in_err-group-clause-run
 returns-in_err-group-clause-run g c =
-    came_nowhere c.args.scene.now.script.now (g.D.Draws.book c.args.scene.now.draws.now) _
-    c.from_residual.result c.from_residual.ensures.1 (g.T.Taps.tap c.args.taps.now)
+    let scene = c.args.scene.now in
+    let book = g.D.Draws.book scene.draws.now in
+    let V = over_ranges scene.script.now book scene.crew.shards (g.A.Sums.sum scene.sums.now) in
+    came_nowhere scene.script.now book V _ c.from_residual.result c.from_residual.ensures.1
+    (g.T.Taps.tap c.args.taps.now)
 
 pub returns-in_err-cluster-clause-run : goal.returns-in_err-cluster-clause-run
 returns-in_err-cluster-clause-run g c =
-    came_nowhere c.args.scene.now.script.now (g.D.Draws.book c.args.scene.now.draws.now) _
-    c.from_residual-in_err-cluster.result c.from_residual-in_err-cluster.ensures.1
-    (g.T.Taps.tap c.args.taps.now)
+    let scene = c.args.scene.now in
+    let book = g.D.Draws.book scene.draws.now in
+    let V = over_ranges scene.script.now book scene.crew.shards (g.A.Sums.sum scene.sums.now) in
+    came_nowhere scene.script.now book V _ c.from_residual-in_err-cluster.result
+    c.from_residual-in_err-cluster.ensures.1 (g.T.Taps.tap c.args.taps.now)
 
 pub run_turns-ran-requires-after_bounds : goal.run_turns-ran-requires-after_bounds
 run_turns-ran-requires-after_bounds g c κs within =
-    let S = c.args.scene.now.script.now in
-    let book = g.D.Draws.book c.args.scene.now.draws.now in
+    let scene = c.args.scene.now in
+    let S = scene.script.now in
+    let book = g.D.Draws.book scene.draws.now in
+    let V = over_ranges S book scene.crew.shards (g.A.Sums.sum scene.sums.now) in
     let group = c.in_ok-group.group in
     let xs = c.in_ok-cluster.passes.items in
     let p = c.in_ok-cluster.publisher in
     let opened : Opened S.shape p xs =
     subst (λ (shape : Shape). Opened shape p xs) (sym c.requires.same) c.in_ok-cluster.ensures
     in
-    subst (λ (turns : List TurnOrder). IsCourse S book 0 turns group xs p) (sym c.new.ensures.items)
-    (course_first S book group opened c.in_ok-group.ensures.said c.in_ok-group.ensures.clients)
+    subst (λ (turns : List TurnOrder). IsCourse S book V 0 turns group xs p)
+    (sym c.new.ensures.items)
+    (course_first S book V group opened c.in_ok-group.ensures.said c.in_ok-group.ensures.clients)
 
 pub close-requires : goal.close-requires
 close-requires g c =
@@ -56,20 +64,24 @@ close-requires g c =
 
 -- after all turns an error leaves what they gave to the taps
 stopped : (g : given.Over) (c : goal.After-close g) (Q : RunError → Type 0)
-    (r : Result (Outcome × Ended) RunError) → IsErrAnd r Q →
-    CameAbout c.args.scene.now.script.now (g.D.Draws.book c.args.scene.now.draws.now) r
-    (g.T.Taps.tap c.args.taps.now) (g.T.Taps.tap c.run_turns-ran.new.taps)
+    (r : Result ClosedRun RunError) → IsErrAnd r Q → let scene = c.args.scene.now in
+    let book = g.D.Draws.book scene.draws.now in
+    let V = over_ranges scene.script.now book scene.crew.shards (g.A.Sums.sum scene.sums.now) in
+    CameAboutUnder scene.script.now book V r (g.T.Taps.tap c.args.taps.now)
+    (g.T.Taps.tap c.run_turns-ran.new.taps)
 stopped g c Q r is =
-    let S = c.args.scene.now.script.now in
-    let book = g.D.Draws.book c.args.scene.now.draws.now in
+    let scene = c.args.scene.now in
+    let S = scene.script.now in
+    let book = g.D.Draws.book scene.draws.now in
+    let V = over_ranges S book scene.crew.shards (g.A.Sums.sum scene.sums.now) in
     let K = c.run_turns-ran.new.course.turns.items in
     let old = g.T.Taps.tap c.args.taps.now in
     let new = g.T.Taps.tap c.run_turns-ran.new.taps in
     let goes = course_goes_on c.in_default.ensures.course in
     let taps = c.in_default.ensures.taps in
-    came_stopped S book Q r is old new K goes.legal
-    (fronts-of_all S.shape.servers (λ (j : ℕ). bytes_of (exchange S book K j)) old new (taps.ok K goes))
-    taps.others
+    came_stopped S book V Q r is old new K goes.legal
+    (fronts-of_all S.shape.servers (λ (j : ℕ). bytes_of (exchange_under S book K (V K) j)) old new
+    (taps.ok K goes)) taps.others
 
 pub returns-in_err-closed-clause-run : goal.returns-in_err-closed-clause-run
 returns-in_err-closed-clause-run g c =
@@ -81,86 +93,48 @@ returns-in_err-displaced-clause-run g c =
     stopped g (goal.at.returns-in_err-displaced-clause-run g c).After-close _
     c.from_residual-in_err-displaced.result c.from_residual-in_err-displaced.ensures.1
 
-pub returns-in_err-outcome-clause-run : goal.returns-in_err-outcome-clause-run
-returns-in_err-outcome-clause-run g c =
-    stopped g (goal.at.returns-in_err-outcome-clause-run g c).After-close _
-    c.from_residual-in_err-outcome.result c.from_residual-in_err-outcome.ensures.1
-
--- the clients at the end are those of the history that came about
+-- the turns are a history
 pub from_turns-history-requires : goal.from_turns-history-requires
 from_turns-history-requires g c =
     (c.args.scene.now.script.now.shape, (course_goes_on c.in_default.ensures.course).legal)
 
 -- its order is that of the closed cluster
-pub displaced_in_order-requires : goal.displaced_in_order-requires
-displaced_in_order-requires g c =
-    let now = c.run_turns-ran.new.course in
-    let closed = c.in_ok-closed.closed in
-    let shape = c.args.scene.now.script.now.shape in
-    let closes : Closes shape now.passes.items now.herald.publisher closed =
-    subst (λ (sh : Shape). Closes sh now.passes.items now.herald.publisher closed)
-    (sym c.requires.same) c.in_ok-closed.ensures
-    in
-    subst (IsOrder shape) (sym (c.as_slice-order.ensures ∙ c.order.ensures)) closes.legal.order
-
--- the clients at the end are those of the history that came about
-module _ (g : given.Over) (c : goal.After-close g) (closed : Ended) where
-  abbrev Closing : Shape → Type 0
-  Closing shape =
+module _ (g : given.Over) (c : goal.After-close g) where
+  abbrev Closing : Ended → Shape → Type 0
+  Closing closed shape =
       let now = c.run_turns-ran.new.course in
       Closes shape now.passes.items now.herald.publisher closed
 
-  closes : Closing g.B.Naming.shape → Closing c.args.scene.now.script.now.shape
-  closes = subst Closing (sym c.requires.same)
+  closes : (closed : Ended) → Closing closed g.B.Naming.shape →
+      Closing closed c.args.scene.now.script.now.shape
+  closes closed = subst (Closing closed) (sym c.requires.same)
 
-  abbrev Ending : ℕ → History → Type 0
-  Ending count H =
-      let S = c.args.scene.now.script.now in
-      HasEnded S (words_of S.shape (g.D.Draws.book c.args.scene.now.draws.now)) H
-      c.run_turns-ran.new.course.group.clients.items count
-
-  ending : (count : ℕ) → Closing g.B.Naming.shape →
-      count ≡ displaced_in c.args.scene.now.script.now.shape closed.order →
-      Ending count c.run_turns-ran.new.course.turns.items
-  ending count closing = course_ended c.in_default.ensures.course (closes closing)
-
-pub of-requires : goal.of-requires
-of-requires g c =
-    let at = (goal.at.of-requires g c).After-close in
-    let S = c.args.scene.now.script.now in
-    let closed = c.in_ok-closed.closed in
-    let count = c.in_ok-displaced.displaced in
-    let ordered = c.as_slice-order.ensures ∙ c.order.ensures in (
-      words_of S.shape (g.D.Draws.book c.args.scene.now.draws.now),
-      subst (Ending g at closed count) (sym c.from_turns-history.ensures)
-          (ending g at closed count c.in_ok-closed.ensures
-          (c.in_ok-displaced.ensures ∙ ap (displaced_in S.shape) ordered)),
-    )
+pub displaced_in_order-requires : goal.displaced_in_order-requires
+displaced_in_order-requires g c =
+    let at = (goal.at.displaced_in_order-requires g c).After-close in
+    let shape = c.args.scene.now.script.now.shape in
+    let closing = closes g at c.in_ok-closed.closed c.in_ok-closed.ensures in
+    subst (IsOrder shape) (sym (c.as_slice-order.ensures ∙ c.order.ensures)) closing.legal.order
 
 pub returns-clause-run : goal.returns-clause-run
 returns-clause-run g c =
     let at = (goal.at.returns-clause-run g c).After-close in
-    let S = c.args.scene.now.script.now in
-    let words = words_of S.shape (g.D.Draws.book c.args.scene.now.draws.now) in
+    let scene = c.args.scene.now in
+    let S = scene.script.now in
     let K = c.run_turns-ran.new.course.turns.items in
     let course = c.in_default.ensures.course in
     let goes = course_goes_on course in
     let taps = c.in_default.ensures.taps in
-    let closed = c.in_ok-closed.closed in
-    let closing = closes g at closed c.in_ok-closed.ensures in
-    let count = c.in_ok-displaced.displaced in
+    let closing = closes g at c.in_ok-closed.closed c.in_ok-closed.ensures in
     let ordered = c.as_slice-order.ensures ∙ c.order.ensures in
-    let kept = c.from_turns-history.ensures in
     record {
       history = K;
       legal = goes.legal;
       run = record {
-        left =
-            subst (λ (H : History). IsLeftBy S words H c.in_ok-outcome.outcome) kept
-            (c.in_ok-outcome.ensures words
-            (subst (Ending g at closed count) (sym kept)
-            (ending g at closed count c.in_ok-closed.ensures
-            (c.in_ok-displaced.ensures ∙ ap (displaced_in S.shape) ordered))));
+        history = c.from_turns-history.ensures;
+        clients = course_clients course;
+        displaced = course_displaced course closing
+            (c.in_ok-displaced.ensures ∙ ap (displaced_in S.shape) ordered);
         order = course_order course closing;
         epochs = course_epochs course closing;
       };
