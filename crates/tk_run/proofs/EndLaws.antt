@@ -21,17 +21,7 @@ use Rattle.tk_report.specs.Turns.{placed_before}
 use Rattle.tk_report.proofs.Offers.{anew-from-own, anew-readers}
 use Rattle.tk_run.specs.Keeping.{AreGiven, IsEndUnder, begun_anew, held_now, saved_before}
 use Rattle.tk_run.specs.declared.ended.Ended.{Ended}
-use Rattle.tk_run.specs.Errors.{run_error}
-use Rattle.tk_run.specs.declared.resume_error.ResumeError.{ResumeError}
-use Rattle.tk_run.specs.declared.resume_error.ResumeError.TheVariants as resume
-use Rattle.tk_run.specs.declared.run_error.RunError.TheVariants as run
 use Rattle.tk_run.proofs.HoldingLaws.{held-own}
-
--- no other error than that of the taps is told as theirs
-pub taps-only : (e : ResumeError) → run_error e ≡ run.Taps → e ≡ resume.Taps
-taps-only resume.Taps is = refl
-taps-only resume.Refused is = absurd (cc is)
-taps-only resume.Memory is = absurd (cc is)
 
 module _ (S : Script) (b : WordBook) (H : History) (due : ℕ) where
   -- each is given the checkpoint of the entries so far

@@ -9,7 +9,11 @@ use Rattle.std.specs.Prelude.{slice_index_or}
 use Rattle.tk_shape.specs.declared.shape.Shape.{Shape}
 use Rattle.tk_shape.specs.Lengths.{turn_count}
 use Rattle.tk_script.specs.declared.script.Script.{Script}
-use Rattle.tk_run.specs.Keeping.{is_due, kept_up_to, turn_due}
+use Rattle.tk_schedule.specs.declared.history.History.{History}
+use Rattle.tk_words.specs.Words.{WordBook, words_of}
+use Rattle.tk_report.specs.Turns.{placed_before}
+use Rattle.tk_run.specs.Keeping.{HasRefused, IsAccepted, OneRefuses, is_due, kept_up_to, saved_before}
+use Rattle.tk_run.specs.Keeping.{turn_due}
 
 -- ---- the turn that is due
 
@@ -88,6 +92,40 @@ kept-still S due at g within isnt =
           kept-since S due at g (omega (arith, within)) (omega (arith, earlier))
           ∙ sym (kept-since S due at (g + 1) within (omega (arith, earlier)))
     ]
+
+-- and something was kept only once it came
+never-kept : (before : List (List ℕ)) (x : List ℕ) → before ++ [] ≡ before ++ x ∷ [] → ⊥
+never-kept before x is =
+    let long : length (before ++ []) ≡ length (before ++ x ∷ []) = ap length is in
+    omega (arith, long, length-append before [], length-append before (x ∷ []))
+
+pub came-if-kept : (S : Script) (due : Option ℕ) (at : ℕ → List ℕ) (g : ℕ)
+    (before now : List (List ℕ)) (x : List ℕ) → now ≡ before ++ kept_up_to due at g →
+    now ≡ before ++ x ∷ [] → turn_due S due ≤ g
+came-if-kept S due at g before now x was is =
+    elim (cases_lt g (turn_due S due)) [
+      | inl later ↦
+          absurd (never-kept before x
+          (ap (λ (xs : List (List ℕ)). before ++ xs) (sym (kept-none S due at g later)) ∙ sym was ∙ is))
+      | inr earlier ↦ omega (arith, earlier)
+    ]
+
+-- what a server refuses it refuses when it is due
+pub refused-when-due : (S : Script) (b : WordBook) (H : History) (due g : ℕ)
+    (old new : List (List ℕ)) (gives : ℕ → List ℕ) → due ≡ g → g ≤ turn_count S.shape →
+    new ≡ old ++ saved_before S b H g ∷ [] →
+    IsAccepted S.shape (placed_before S (words_of S.shape b) H g) (saved_before S b H g) →
+    OneRefuses S.shape (placed_before S (words_of S.shape b) H g) gives →
+    HasRefused S b H due old new gives
+refused-when-due S b H due g old new gives same within kept own one =
+    record {
+      due_in = omega (arith, same, within);
+      kept = kept ∙ ap (λ (n : ℕ). old ++ saved_before S b H n ∷ []) (sym same);
+      own = subst (λ (n : ℕ). IsAccepted S.shape (placed_before S (words_of S.shape b) H n)
+          (saved_before S b H n)) (sym same) own;
+      one = subst (λ (n : ℕ). OneRefuses S.shape (placed_before S (words_of S.shape b) H n) gives)
+          (sym same) one;
+    }
 
 -- the turn in which an epoch begins is one of the run's, or its end
 pub due-in : (shape : Shape) (epoch : ℕ) → epoch ≤ shape.phases →

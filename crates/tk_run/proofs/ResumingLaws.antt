@@ -1,5 +1,5 @@
 -- Servers that go on from a checkpoint.
-use Rattle.std.proofs.Common.{◌≡◌, ℕ, ◌+◌, ◌-◌, ◌<◌, ◌≤◌, ◌∙◌, refl, sym, subst, arith, inl, inr, List, [], ◌∷◌, length, set}
+use Rattle.std.proofs.Common.{◌≡◌, ℕ, ◌+◌, ◌-◌, ◌<◌, ◌≤◌, ◌∙◌, refl, ap, sym, subst, arith, inl, inr, List, [], ◌∷◌, length, set}
 use Rattle.std.proofs.Common.{◌⊎◌, get_or-set_other, get_or-set_same, length-set}
 use Rattle.std.specs.Prelude.{◌==◌, Some, None, slice_index_or}
 use Rattle.std.proofs.lemmas.Bool.{cases_Bool, cases_lt, cond-false, eqb-true}
@@ -10,12 +10,14 @@ use Rattle.tk_frames.specs.InOrder.{IsOrder}
 use Rattle.tk_replica.specs.Replica.{ReplicaView}
 use Rattle.tk_replica.specs.Restoring.{EndsWithMark}
 use Rattle.tk_checkpoint.specs.declared.error.CheckpointError.TheVariants.{NotAtMark}
-use Rattle.tk_checkpoint.specs.Saved.{saved, last_upto}
+use Rattle.tk_checkpoint.specs.Saved.{Saved, saved, saved_of, last_upto}
+use Rattle.tk_checkpoint.specs.Reading.{saved_in, applied_in, last_in}
 use Rattle.tk_checkpoint.specs.Refusals.{checkpoint_refusal}
-use Rattle.tk_checkpoint.specs.Sound.{IsSound}
+use Rattle.tk_checkpoint.specs.Laws.{SavedIsSound, SavedReadsBack}
 use Rattle.tk_report.specs.Displaced.{displaced_in}
 use Rattle.tk_run.specs.declared.server.Server.{Server}
-use Rattle.tk_run.specs.Keeping.{AreGiven, AreSound, HasBegunAnew, HaveBegunAnew, StandIn}
+use Rattle.tk_run.specs.Keeping.{AreAccepted, AreGiven, CheckpointsAccepted, HasBegunAnew, HaveBegunAnew}
+use Rattle.tk_run.specs.Keeping.{IsAccepted, OneRefuses, StandIn}
 use Rattle.tk_run.specs.Servers.{IsServer, AreServers, IsReady, AreReady, alike, nothing_seen}
 
 -- a state that may be written has applied nothing behind its last mark
@@ -31,9 +33,35 @@ at_mark s none =
     none≢some : {X : Type 0} {x : X} → None ≡ Some x → ⊥
     none≢some e = absurd cc
 
+-- a state that was made of bytes has applied as many entries and marks as stand there
+module _ (shape : Shape) (bytes : List ℕ) (s : ReplicaView) (parts : saved_of s ≡ saved_in shape bytes)
+  where
+    pub made-applied : applied_in bytes ≡ s.applied
+    unfolding saved_in
+    made-applied = sym (ap (λ (x : Saved). x.applied) parts)
+
+    pub made-last : last_in bytes ≡ s.last
+    unfolding saved_in
+    made-last = sym (ap (λ (x : Saved). x.last) parts)
+
+-- a checkpoint is accepted where as many entries and marks are
+pub accepted-where : SavedIsSound → SavedReadsBack → CheckpointsAccepted
+unfolding saved_in
+accepted-where is_sound reads_back shape E F order ends =
+    let back = reads_back shape F order in
+    let applied = ap (λ (x : Saved). x.applied) back in
+    let last = ap (λ (x : Saved). x.last) back in (
+      λ is. (sym applied ∙ is.applied, sym last ∙ is.last),
+      λ same. record {
+        sound = is_sound shape F order ends;
+        applied = applied ∙ same.0;
+        last = last ∙ same.1;
+      },
+    )
+
 -- a server has gone on from bytes
 pub record GoesOn (shape : Shape) (bytes : List ℕ) (old new : Server) : Type 0 where
-  pub sound : IsSound shape bytes
+  pub accepted : (E : List Placed) (seen : List ℕ) → IsServer shape E seen old → IsAccepted shape E bytes
   pub anew : HasBegunAnew shape bytes new
   pub ready : (E : List Placed) → IsReady shape E old → IsReady shape E new
   pub stands : (E F : List Placed) (seen : List ℕ) → IsServer shape E seen old → IsOrder shape F →
@@ -83,6 +111,25 @@ gone-next shape gives i old now d new low goes h =
           get_or-set_other now i k new e (omega (arith, above)) ∙ h.left k e (omega (arith, above));
     }
 
+-- one that is next is as it was, and if it refuses, one does
+module _ (shape : Shape) (gives : ℕ → List ℕ) (i : ℕ) (old now : List Server) (low : i < length now)
+    (h : GoneOnUpTo shape gives i old now) (E : List Placed)
+    (are : AreServers shape (alike E) nothing_seen old) where
+  pub next-server : (d : Server) → IsServer shape E [] (slice_index_or now i d)
+  next-server d =
+      subst (IsServer shape E []) (sym (h.left i d (omega arith)))
+      (are.each i d (omega (arith, low, h.counted)))
+
+  pub next-refuses : (bytes : List ℕ) → bytes ≡ gives (i + 1) → ¬ IsAccepted shape E bytes →
+      OneRefuses shape E gives
+  next-refuses bytes given refuses =
+      record {
+        server = i + 1;
+        low = omega arith;
+        high = omega (arith, low, h.counted, are.counted);
+        refuses = λ accepts. refuses (subst (IsAccepted shape E) (sym given) accepts);
+      }
+
 module _ (shape : Shape) (gives : ℕ → List ℕ) (i : ℕ) (old new : List Server) (past : length new ≤ i)
     (h : GoneOnUpTo shape gives i old new) where
   here : (k : ℕ) (d : Server) → k < length old →
@@ -93,11 +140,15 @@ module _ (shape : Shape) (gives : ℕ → List ℕ) (i : ℕ) (old new : List Se
   some-server [] j low high = absurd (omega (arith, low, high))
   some-server (s ∷ servers) j low high = s
 
-  pub all_sound : AreSound shape (length old) gives
-  all_sound j low high =
+  pub all_accepted : (E : List Placed) → AreServers shape (alike E) nothing_seen old →
+      AreAccepted shape E gives
+  all_accepted E are j low high =
       let there : j - 1 + 1 ≡ j = omega (arith, low) in
-      subst (λ n. IsSound shape (gives n)) there
-      (here (j - 1) (some-server old j low high) (omega (arith, low, high))).sound
+      let inside : j ≤ length old = omega (arith, high, are.counted) in
+      let d = some-server old j low inside in
+      let within : j - 1 < length old = omega (arith, low, inside) in
+      subst (λ n. IsAccepted shape E (gives n)) there
+      ((here (j - 1) d within).accepted E [] (are.each (j - 1) d within))
 
   pub all_anew : HaveBegunAnew shape gives new
   all_anew k d within = (here k d (omega (arith, within, h.counted))).anew

@@ -1,5 +1,5 @@
 -- What is kept of a run while its servers begin anew, and what each is given back.
-use Rattle.std.specs.Prelude.{◌≡◌, ℕ, ◌+◌, ◌<◌, ◌≤◌, ◌==◌, nat_le, Bool, false, cond, List, [], ◌∷◌, ◌++◌}
+use Rattle.std.specs.Prelude.{◌≡◌, ◌↔◌, ℕ, ◌+◌, ◌<◌, ◌≤◌, ◌==◌, nat_le, Bool, false, cond, List, [], ◌∷◌, ◌++◌}
 use Rattle.std.specs.Prelude.{length, drop, slice_index_or, ◌⊎◌, Option, Some, None}
 use Rattle.tk_shape.specs.declared.shape.Shape.{Shape}
 use Rattle.tk_shape.specs.Lengths.{turn_count}
@@ -7,10 +7,10 @@ use Rattle.tk_schedule.specs.declared.history.History.{History}
 use Rattle.tk_script.specs.declared.script.Script.{Script}
 use Rattle.tk_words.specs.Words.{WordBook, BookWords, words_of}
 use Rattle.tk_frames.specs.declared.entry.Placed.{Placed}
-use Rattle.tk_frames.specs.InOrder.{IsOrder}
+use Rattle.tk_frames.specs.InOrder.{IsOrder, mark_count}
 use Rattle.tk_replica.specs.Restoring.{EndsWithMark}
 use Rattle.tk_checkpoint.specs.Saved.{saved, saved_of}
-use Rattle.tk_checkpoint.specs.Reading.{saved_in}
+use Rattle.tk_checkpoint.specs.Reading.{saved_in, applied_in, last_in}
 use Rattle.tk_checkpoint.specs.Sound.{IsSound}
 use Rattle.tk_report.specs.Anew.{anew}
 use Rattle.tk_report.specs.Clients.{AreClients}
@@ -68,9 +68,44 @@ BeginFrom S b H due old new gives given =
     due ≤ turn_count S.shape → new ≡ old ++ saved_before S b H due ∷ [] →
     AreGiven S.shape (placed_before S (words_of S.shape b) H due) gives given
 
--- each of what so many servers are given passes all checks
-abbrev pub AreSound : Shape → ℕ → (ℕ → List ℕ) → Type 0
-AreSound shape count gives = (j : ℕ) → 1 ≤ j → j ≤ count → IsSound shape (gives j)
+-- A server that had E accepts bytes that pass all checks, with as many entries and as many marks.
+pub record IsAccepted (shape : Shape) (E : List Placed) (bytes : List ℕ) : Type 0 where
+  pub sound : IsSound shape bytes
+  pub applied : applied_in bytes ≡ length E
+  pub last : last_in bytes ≡ mark_count E
+
+-- It accepts the checkpoint of entries in order, none or with a mark at the end, exactly where these are as many as E,
+-- with as many marks.
+abbrev pub CheckpointsAccepted : Type 0
+CheckpointsAccepted =
+    (shape : Shape) (E F : List Placed) → IsOrder shape F → EndsWithMark F →
+    IsAccepted shape E (saved shape F) ↔ ((length F ≡ length E) × (mark_count F ≡ mark_count E))
+
+-- each accepts what it is given
+abbrev pub AreAccepted : Shape → List Placed → (ℕ → List ℕ) → Type 0
+AreAccepted shape E gives = (j : ℕ) → 1 ≤ j → j ≤ shape.servers → IsAccepted shape E (gives j)
+
+-- one of them doesn't
+pub record OneRefuses (shape : Shape) (E : List Placed) (gives : ℕ → List ℕ) : Type 0 where
+  pub server : ℕ
+  pub low : 1 ≤ server
+  pub high : server ≤ shape.servers
+  pub refuses : ¬ IsAccepted shape E (gives server)
+
+-- The checkpoint before the turn that is due was kept, which each accepts, and then one of them doesn't.
+pub record HasRefused (S : Script) (b : WordBook) (H : History) (due : ℕ) (old new : List (List ℕ))
+    (gives : ℕ → List ℕ) : Type 0 where
+  pub due_in : due ≤ turn_count S.shape
+  pub kept : new ≡ old ++ saved_before S b H due ∷ []
+  pub own : IsAccepted S.shape (placed_before S (words_of S.shape b) H due) (saved_before S b H due)
+  pub one : OneRefuses S.shape (placed_before S (words_of S.shape b) H due) gives
+
+-- If it was kept, each did.
+abbrev pub HaveAccepted : Script → WordBook → History → ℕ → List (List ℕ) → List (List ℕ)
+    → (ℕ → List ℕ) → Type 0
+HaveAccepted S b H due old new gives =
+    due ≤ turn_count S.shape → new ≡ old ++ saved_before S b H due ∷ [] →
+    AreAccepted S.shape (placed_before S (words_of S.shape b) H due) gives
 
 -- A server has what these bytes have, and no epoch from before them.
 pub record HasBegunAnew (shape : Shape) (bytes : List ℕ) (s : Server) : Type 0 where

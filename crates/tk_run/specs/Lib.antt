@@ -13,4 +13,3 @@ pub mod Keeping
 pub mod Ranged
 pub mod Sized
 pub mod Under
-pub mod Errors

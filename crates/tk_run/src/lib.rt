@@ -42,7 +42,7 @@ mod turns;
 pub use closed_run::ClosedRun;
 pub use ended::Ended;
 pub use keeper::{Keeper, Shelf};
-pub use laws::servers_ranged;
+pub use laws::{checkpoints_accepted, servers_ranged};
 pub use resume_error::ResumeError;
 pub use run_error::RunError;
 pub use serially::{resumed, resumed_by, serial};

@@ -1,4 +1,4 @@
-ghost use Rattle.std.specs.Prelude.{◌≡◌};
+ghost use Rattle.std.specs.Prelude.{◌≡◌, ◌≢◌};
 
 use crate::run_error::RunError;
 use std::alloc::AllocError;
@@ -10,7 +10,7 @@ use tk_shape::Memory;
 pub enum ResumeError {
     /// A tap fails, and its count of faults rose.
     Taps,
-    /// What a server is given is no checkpoint of so many entries with so many marks.
+    /// A server was given what isn't sound, or not of as many entries and marks as it has.
     Refused,
     /// Want of memory.
     Memory,
@@ -46,16 +46,14 @@ impl From<AllocError> for ResumeError {
     }
 }
 
-impl From<ResumeError> for RunError {
-    ghost use Rattle.tk_run.specs.Errors.{run_error};
-
-    ghost from_gives = { λ e r. r ≡ run_error e };
-
-    // (what was kept is given back by a shelf, and sound)
-    fn from(e: ResumeError) -> RunError {
-        match e {
-            ResumeError::Taps => RunError::Taps,
-            ResumeError::Refused | ResumeError::Memory => RunError::Memory,
-        }
+/// Why a run ends early whose servers refuse nothing.
+pub(crate) fn run_error(e: ResumeError) -> RunError
+    requires { e ≢ ResumeError.Refused }
+    ensures { result ≡ RunError.Taps → e ≡ ResumeError.Taps }
+{
+    match e {
+        ResumeError::Taps => RunError::Taps,
+        ResumeError::Memory => RunError::Memory,
+        ResumeError::Refused => unreachable!(),
     }
 }

@@ -1,9 +1,10 @@
 //! Servers that go on from a checkpoint.
-ghost use Rattle.std.specs.Prelude.{◌≡◌, ◌≢◌, ◌++◌, ◌∷◌, [], ◌<◌, ◌≤◌, ℕ, true, false, List, length, IfErr, OnOk};
+ghost use Rattle.std.specs.Prelude.{◌≡◌, ◌≢◌, ◌++◌, ◌∷◌, [], ◌<◌, ◌≤◌, ℕ, true, false, List, length, IsOk, IfErr, OnOk};
 ghost use Rattle.tk_frames.specs.declared.entry.Placed.{Placed};
 ghost use Rattle.tk_replica.specs.Restoring.{EndsWithMark};
 ghost use Rattle.tk_checkpoint.specs.Saved.{saved};
-ghost use Rattle.tk_run.specs.Keeping.{AreGiven, AreSound, HaveBegunAnew, is_due};
+ghost use Rattle.tk_run.specs.Keeping.{AreAccepted, AreGiven, HaveBegunAnew, IsAccepted, OneRefuses};
+ghost use Rattle.tk_run.specs.Keeping.{is_due};
 ghost use Rattle.tk_run.specs.Servers.{AreReady, AreServers, alike, nothing_seen};
 
 use crate::keeper::Keeper;
@@ -24,14 +25,22 @@ pub(crate) fn go_on_before<K: Keeper>(
     keeper: &mut K,
 ) -> Result<(), ResumeError>
     requires { (0 < length servers.old.list.items) × (length servers.old.list.items ≤ 8) }
+    ensures nothing { is_due due turn ≡ false → IsOk result }
     ensures same { is_due due turn ≡ false → keeper.new ≡ keeper.old }
     ensures left { is_due due turn ≡ false → servers.new ≡ servers.old }
     ensures taken { servers.new.taken ≡ servers.old.taken }
     ensures kept { is_due due turn ≡ true → (E : List Placed) (seen : ℕ → List ℕ)
         → AreServers shape.now (alike E) seen servers.old.list.items
         → OnOk result (K.kept keeper.new ≡ K.kept keeper.old ++ saved shape.now E ∷ []) }
-    ensures sound { is_due due turn ≡ true
-        → OnOk result (AreSound shape.now (length servers.old.list.items) (K.gives keeper.new)) }
+    ensures accepted { is_due due turn ≡ true → (E : List Placed)
+        → AreServers shape.now (alike E) nothing_seen servers.old.list.items
+        → OnOk result (AreAccepted shape.now E (K.gives keeper.new)) }
+    ensures refused { is_due due turn ≡ true → (E : List Placed)
+        → AreServers shape.now (alike E) nothing_seen servers.old.list.items
+        → IfErr result (λ e. e ≡ ResumeError.Refused
+        → (K.kept keeper.new ≡ K.kept keeper.old ++ saved shape.now E ∷ [])
+        × IsAccepted shape.now E (saved shape.now E)
+        × OneRefuses shape.now E (K.gives keeper.new)) }
     ensures anew { is_due due turn ≡ true
         → OnOk result (HaveBegunAnew shape.now (K.gives keeper.new) servers.new.list.items) }
     ensures ready { (E : List Placed) → AreReady shape.now E servers.old.list.items
@@ -58,7 +67,13 @@ fn go_on_all<K: Keeper>(
     servers: &mut [Server],
 ) -> Result<(), ResumeError>
     requires { length servers.old ≤ 8 }
-    ensures sound { OnOk result (AreSound shape.now (length servers.old) (K.gives keeper.now)) }
+    ensures accepted { (E : List Placed)
+        → AreServers shape.now (alike E) nothing_seen servers.old
+        → OnOk result (AreAccepted shape.now E (K.gives keeper.now)) }
+    ensures refused { (E : List Placed)
+        → AreServers shape.now (alike E) nothing_seen servers.old
+        → IfErr result (λ e. e ≡ ResumeError.Refused
+        → OneRefuses shape.now E (K.gives keeper.now)) }
     ensures anew { OnOk result (HaveBegunAnew shape.now (K.gives keeper.now) servers.new) }
     ensures ready { (E : List Placed) → AreReady shape.now E servers.old
         → OnOk result (AreReady shape.now E servers.new) }

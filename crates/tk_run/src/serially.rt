@@ -1,7 +1,7 @@
 ghost use Rattle.std.specs.Prelude.{◌≡◌, ◌≤◌, ◌*◌, ◌++◌, ◌∷◌, [], ℕ, List, IfOk, IfErr, OnOk, OnErr};
 ghost use Rattle.tk_io.specs.Content.{Rose};
-ghost use Rattle.tk_run.specs.Keeping.{AreSound, BeginFrom, IsEndUnder, begun_anew, held_now};
-ghost use Rattle.tk_run.specs.Keeping.{kept_up_to, saved_before, turn_due};
+ghost use Rattle.tk_run.specs.Keeping.{AreAccepted, BeginFrom, HasRefused, HaveAccepted, IsEndUnder};
+ghost use Rattle.tk_run.specs.Keeping.{begun_anew, held_now, kept_up_to, saved_before, turn_due};
 ghost use Rattle.tk_shape.specs.Lengths.{turn_count};
 ghost use Rattle.tk_schedule.specs.Schedule.{IsLegal, serial_history};
 ghost use Rattle.tk_words.specs.Words.{words_of};
@@ -9,11 +9,12 @@ ghost use Rattle.tk_frames.specs.declared.entry.Placed.{Placed};
 ghost use Rattle.tk_report.specs.Exchange.{exchange, bytes_of};
 ghost use Rattle.tk_report.specs.Outcomes.{IsLeftBy};
 ghost use Rattle.tk_report.specs.Serving.{exchange_under};
+ghost use Rattle.tk_report.specs.Turns.{placed_before};
 ghost use Rattle.tk_io.specs.Tapped.{TapsGain, TapsGainFronts, TapsKeepBut};
 
 use crate::ended::Ended;
 use crate::keeper::{Keeper, Shelf};
-use crate::resume_error::ResumeError;
+use crate::resume_error::{ResumeError, run_error};
 use crate::run_error::RunError;
 use crate::turns::take_turns;
 use std::alloc::Global;
@@ -47,7 +48,7 @@ pub fn serial<D: Draws, T: Taps>(
     ensures counts { T.faults taps.old ≤ T.faults taps.new }
 {
     let history = History::serial(alloc, &script.shape)?;
-    let end = run_turns(
+    match run_turns(
         alloc,
         script,
         draws,
@@ -55,8 +56,10 @@ pub fn serial<D: Draws, T: Taps>(
         taps,
         None,
         &mut Shelf::new(alloc),
-    )?;
-    Ok(Outcome::of(script, history, end.clients, end.displaced)?)
+    ) {
+        Ok(end) => Ok(Outcome::of(script, history, end.clients, end.displaced)?),
+        Err(e) => Err(run_error(e)),
+    }
 }
 
 /// The same run, in which each replica is made anew from server 1's checkpoint: once the turn in
@@ -86,14 +89,16 @@ pub fn resumed<D: Draws, T: Taps>(
     ensures counts { T.faults taps.old ≤ T.faults taps.new }
 {
     let history = History::serial(alloc, &script.shape)?;
-    let end = resumed_by(alloc, script, draws, taps, epoch, &mut Shelf::new(alloc))?;
-    Ok(Outcome::of(script, history, end.clients, end.displaced)?)
+    match resumed_by(alloc, script, draws, taps, epoch, &mut Shelf::new(alloc)) {
+        Ok(end) => Ok(Outcome::of(script, history, end.clients, end.displaced)?),
+        Err(e) => Err(run_error(e)),
+    }
 }
 
 /// The same, where this keeper keeps the checkpoint in between: server 1's at the epoch, and nothing
-/// else. Each server begins anew from what the keeper gives it, whatever that is: from the checkpoint
-/// of other entries it goes on as if those had come. Where it is no checkpoint of as many entries and
-/// marks as the server has, the run ends.
+/// else. Each server begins anew from what the keeper gives it: from the checkpoint of other entries
+/// it goes on as if those had come. Exactly where that isn't sound, or not of as many entries and
+/// marks as the server has, the run ends with Refused, unless memory runs out.
 pub fn resumed_by<D: Draws, T: Taps, K: Keeper>(
     alloc: Global,
     script: &Script,
@@ -108,8 +113,19 @@ pub fn resumed_by<D: Draws, T: Taps, K: Keeper>(
         let at = saved_before S (D.book draws.now) (serial_history S.shape) in
         OnOk result (K.kept keeper.new
         ≡ K.kept keeper.old ++ at (epoch * S.shape.ticks) ∷ []) }
-    ensures sound { let shape = script.now.shape in
-        OnOk result (AreSound shape shape.servers (K.gives keeper.new)) }
+    ensures accepted { let S = script.now in
+        let words = words_of S.shape (D.book draws.now) in
+        OnOk result (AreAccepted S.shape
+        (placed_before S words (serial_history S.shape) (epoch * S.shape.ticks))
+        (K.gives keeper.new)) }
+    ensures refused { let S = script.now in
+        IfErr result (λ e. e ≡ ResumeError.Refused
+        → HasRefused S (D.book draws.now) (serial_history S.shape) (epoch * S.shape.ticks)
+        (K.kept keeper.old) (K.kept keeper.new) (K.gives keeper.new)) }
+    ensures failed { let S = script.now in
+        IfErr result (λ e. e ≡ ResumeError.Taps
+        → HaveAccepted S (D.book draws.now) (serial_history S.shape) (epoch * S.shape.ticks)
+        (K.kept keeper.old) (K.kept keeper.new) (K.gives keeper.new)) }
     ensures left { let S = script.now in
         let book = D.book draws.now in
         let history = serial_history S.shape in
@@ -162,8 +178,20 @@ fn run_turns<D: Draws, T: Taps, K: Keeper>(
         let at = saved_before S (D.book draws.now) history.now in
         OnOk result (K.kept keeper.new
         ≡ K.kept keeper.old ++ kept_up_to due at (turn_count S.shape)) }
-    ensures sound { let S = script.now in turn_due S due ≤ turn_count S.shape
-        → OnOk result (AreSound S.shape S.shape.servers (K.gives keeper.new)) }
+    ensures accepted { let S = script.now in
+        let words = words_of S.shape (D.book draws.now) in
+        let begin = turn_due S due in
+        begin ≤ turn_count S.shape
+        → OnOk result (AreAccepted S.shape (placed_before S words history.now begin)
+        (K.gives keeper.new)) }
+    ensures refused { let S = script.now in
+        IfErr result (λ e. e ≡ ResumeError.Refused
+        → HasRefused S (D.book draws.now) history.now (turn_due S due)
+        (K.kept keeper.old) (K.kept keeper.new) (K.gives keeper.new)) }
+    ensures failed { let S = script.now in
+        IfErr result (λ e. e ≡ ResumeError.Taps
+        → HaveAccepted S (D.book draws.now) history.now (turn_due S due)
+        (K.kept keeper.old) (K.kept keeper.new) (K.gives keeper.new)) }
     ensures left { let S = script.now in
         let book = D.book draws.now in
         let begin = turn_due S due in

@@ -12,6 +12,7 @@ ghost use Rattle.tk_checkpoint.specs.Reading.{saved_in};
 ghost use Rattle.tk_checkpoint.specs.Sound.{IsSound};
 ghost use Rattle.tk_report.specs.Displaced.{displaced_in};
 
+use crate::laws::checkpoints_accepted;
 use crate::resume_error::ResumeError;
 use std::alloc::Global;
 use tk_checkpoint::{RestoreError, checkpoint, restore, written_at_marks};
@@ -42,11 +43,10 @@ impl Server {
     ghost use Rattle.tk_replica.specs.Replies.{reply_for};
     ghost use Rattle.tk_replica.specs.Restoring.{EndsWithMark};
     ghost use Rattle.tk_checkpoint.specs.Saved.{saved};
-    ghost use Rattle.tk_checkpoint.specs.Sound.{IsSound};
     ghost use Rattle.tk_report.specs.Displaced.{displaced_in};
     ghost use Rattle.tk_run.specs.Servers.{IsServer, IsReady, MayTake, AreReads, answered};
     ghost use Rattle.tk_run.specs.Rows.{in_pairs};
-    ghost use Rattle.tk_run.specs.Keeping.{HasBegunAnew};
+    ghost use Rattle.tk_run.specs.Keeping.{HasBegunAnew, IsAccepted};
 
     /// A server before any entry.
     pub(crate) fn open(alloc: Global, shape: &Shape) -> Result<Server, Memory>
@@ -117,6 +117,9 @@ impl Server {
         ensures saved { (shape : Shape) (E : List Placed) (bytes : List ℕ)
             → IsServer shape E bytes self.now
             → IfOk result (λ out. out.items ≡ saved shape E) }
+        ensures accepted { (shape : Shape) (E : List Placed) (bytes : List ℕ)
+            → IsServer shape E bytes self.now
+            → OnOk result (IsAccepted shape E (saved shape E)) }
     {
         let mut out = Vec::new(alloc);
         // the mark came last in its turn, so that only memory may be wanting
@@ -124,6 +127,7 @@ impl Server {
             return Err(Memory);
         };
         written_at_marks();
+        checkpoints_accepted();
         Ok(out)
     }
 
@@ -136,7 +140,10 @@ impl Server {
         shape: &Shape,
         bytes: &[u8],
     ) -> Result<(), ResumeError>
-        ensures sound { OnOk result (IsSound shape.now bytes.now) }
+        ensures accepted { (E : List Placed) (seen : List ℕ) → IsServer shape.now E seen self.old
+            → OnOk result (IsAccepted shape.now E bytes.now) }
+        ensures refused { (E : List Placed) (seen : List ℕ) → IsServer shape.now E seen self.old
+            → IfErr result (λ e. e ≡ ResumeError.Refused → ¬ IsAccepted shape.now E bytes.now) }
         ensures anew { OnOk result (HasBegunAnew shape.now bytes.now self.new) }
         ensures ready { (E : List Placed) → IsReady shape.now E self.old
             → OnOk result (IsReady shape.now E self.new) }
@@ -172,6 +179,7 @@ impl Server {
 /// The state that the bytes of a checkpoint have.
 fn restored(alloc: Global, shape: &Shape, bytes: &[u8]) -> Result<ReplicaState, ResumeError>
     ensures sound { OnOk result (IsSound shape.now bytes.now) }
+    ensures refused { IfErr result (λ e. e ≡ ResumeError.Refused → ¬ IsSound shape.now bytes.now) }
     ensures shape { IfOk result (λ s. s.shape ≡ shape.now) }
     ensures floor { IfOk result (λ s. s.floor ≡ s.last) }
     ensures parts { IfOk result (λ s. saved_of s ≡ saved_in shape.now bytes.now) }

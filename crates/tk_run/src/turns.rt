@@ -9,8 +9,8 @@ ghost use Rattle.tk_report.specs.Entries.{write_at, entries_at};
 ghost use Rattle.tk_report.specs.Exchange.{bytes_of};
 ghost use Rattle.tk_report.specs.Serving.{Serving, exchange_under};
 ghost use Rattle.tk_report.specs.Turns.{placed_before};
-ghost use Rattle.tk_run.specs.Keeping.{AreGiven, AreSound, BeginFrom, begun_anew, held_now};
-ghost use Rattle.tk_run.specs.Keeping.{kept_up_to, saved_before, turn_due};
+ghost use Rattle.tk_run.specs.Keeping.{AreAccepted, AreGiven, BeginFrom, HasRefused, HaveAccepted};
+ghost use Rattle.tk_run.specs.Keeping.{begun_anew, held_now, kept_up_to, saved_before, turn_due};
 ghost use Rattle.tk_run.specs.Servers.{nothing_seen, with_more};
 ghost use Rattle.tk_run.specs.Under.{IsRunning, IsRunUnder, Serves, turn_under};
 
@@ -41,8 +41,20 @@ pub(crate) fn take_turns<D: Draws, T: Taps, K: Keeper>(
         let at = saved_before S (D.book plan.now.draws.now) plan.now.history.now in
         OnOk result (K.kept keeper.new
         ≡ K.kept keeper.old ++ kept_up_to due at (turn_count S.shape)) }
-    ensures sound { let S = plan.now.script.now in turn_due S due ≤ turn_count S.shape
-        → OnOk result (AreSound S.shape S.shape.servers (K.gives keeper.new)) }
+    ensures accepted { let S = plan.now.script.now in
+        let words = words_of S.shape (D.book plan.now.draws.now) in
+        let begin = turn_due S due in
+        begin ≤ turn_count S.shape
+        → OnOk result (AreAccepted S.shape (placed_before S words plan.now.history.now begin)
+        (K.gives keeper.new)) }
+    ensures refused { let S = plan.now.script.now in
+        IfErr result (λ e. e ≡ ResumeError.Refused
+        → HasRefused S (D.book plan.now.draws.now) plan.now.history.now (turn_due S due)
+        (K.kept keeper.old) (K.kept keeper.new) (K.gives keeper.new)) }
+    ensures failed { let S = plan.now.script.now in
+        IfErr result (λ e. e ≡ ResumeError.Taps
+        → HaveAccepted S (D.book plan.now.draws.now) plan.now.history.now (turn_due S due)
+        (K.kept keeper.old) (K.kept keeper.new) (K.gives keeper.new)) }
     ensures running { let S = plan.now.script.now in
         IfOk result (IsRunning S (D.book plan.now.draws.now) plan.now.history.now
         (turn_count S.shape)) }
@@ -94,8 +106,15 @@ fn open_run<K: Keeper>(
     ensures running { (b : WordBook) (H : History) → IfOk result (IsRunning script.now b H 0) }
     ensures kept { (b : WordBook) (H : History) → OnOk result (K.kept keeper.new
         ≡ K.kept keeper.old ++ kept_up_to due (saved_before script.now b H) 0) }
-    ensures sound { let S = script.now in turn_due S due ≤ 0
-        → OnOk result (AreSound S.shape S.shape.servers (K.gives keeper.new)) }
+    ensures accepted { let S = script.now in
+        let begin = turn_due S due in
+        (b : WordBook) (H : History) → begin ≤ 0
+        → OnOk result (AreAccepted S.shape (placed_before S (words_of S.shape b) H begin)
+        (K.gives keeper.new)) }
+    ensures refused { let S = script.now in
+        (b : WordBook) (H : History) → IfErr result (λ e. e ≡ ResumeError.Refused
+        → HasRefused S b H (turn_due S due) (K.kept keeper.old) (K.kept keeper.new)
+        (K.gives keeper.new)) }
     ensures run { let S = script.now in
         let begin = turn_due S due in
         (b : WordBook) (H : History) (given : ℕ → List Placed)
@@ -122,8 +141,11 @@ fn take_all_turns<D: Draws, T: Taps, K: Keeper>(
 ) -> Result<(), ResumeError>
     requires running { IsRunning plan.now.script.now (D.book plan.now.draws.now)
         plan.now.history.now 0 run.old }
-    requires sound { let S = plan.now.script.now in turn_due S due ≤ 0
-        → AreSound S.shape S.shape.servers (K.gives keeper.old) }
+    requires accepted { let S = plan.now.script.now in
+        let words = words_of S.shape (D.book plan.now.draws.now) in
+        let begin = turn_due S due in
+        begin ≤ 0 → AreAccepted S.shape (placed_before S words plan.now.history.now begin)
+        (K.gives keeper.old) }
     requires run { let S = plan.now.script.now in
         let book = D.book plan.now.draws.now in
         let history = plan.now.history.now in
@@ -138,8 +160,26 @@ fn take_all_turns<D: Draws, T: Taps, K: Keeper>(
         let at = saved_before S (D.book plan.now.draws.now) plan.now.history.now in
         (before : List (List ℕ)) → K.kept keeper.old ≡ before ++ kept_up_to due at 0
         → OnOk result (K.kept keeper.new ≡ before ++ kept_up_to due at (turn_count S.shape)) }
-    ensures sound { let S = plan.now.script.now in turn_due S due ≤ turn_count S.shape
-        → OnOk result (AreSound S.shape S.shape.servers (K.gives keeper.new)) }
+    ensures accepted { let S = plan.now.script.now in
+        let words = words_of S.shape (D.book plan.now.draws.now) in
+        let begin = turn_due S due in
+        begin ≤ turn_count S.shape
+        → OnOk result (AreAccepted S.shape (placed_before S words plan.now.history.now begin)
+        (K.gives keeper.new)) }
+    ensures refused { let S = plan.now.script.now in
+        let book = D.book plan.now.draws.now in
+        let history = plan.now.history.now in
+        (before : List (List ℕ))
+        → K.kept keeper.old ≡ before ++ kept_up_to due (saved_before S book history) 0
+        → IfErr result (λ e. e ≡ ResumeError.Refused → HasRefused S book history (turn_due S due)
+        before (K.kept keeper.new) (K.gives keeper.new)) }
+    ensures failed { let S = plan.now.script.now in
+        let book = D.book plan.now.draws.now in
+        let history = plan.now.history.now in
+        (before : List (List ℕ))
+        → K.kept keeper.old ≡ before ++ kept_up_to due (saved_before S book history) 0
+        → IfErr result (λ e. e ≡ ResumeError.Taps → HaveAccepted S book history (turn_due S due)
+        before (K.kept keeper.new) (K.gives keeper.new)) }
     ensures running { let S = plan.now.script.now in
         OnOk result (IsRunning S (D.book plan.now.draws.now) plan.now.history.now
         (turn_count S.shape) run.new) }
@@ -237,6 +277,7 @@ fn take_turn<D: Draws, T: Taps>(
     ensures rose { IfErr result (λ e. e ≡ ResumeError.Taps
         → Rose (T.faults taps.old) (T.faults taps.new)) }
     ensures counts { T.faults taps.old ≤ T.faults taps.new }
+    ensures not_refused { IfErr result (λ e. e ≢ ResumeError.Refused) }
 {
     meet(alloc, plan, turn, run)?;
     give_all(run.servers.list.as_mut_slice(), taps)?;

@@ -1,11 +1,11 @@
 -- The first one's checkpoint is kept, and all begin anew from what is given.
 use Rattle.std.proofs.Common.{◌≡◌, ◌∙◌, ◌++◌, ◌∷◌, [], ℕ, List, ap, sym, subst, arith, length}
-use Rattle.std.specs.Prelude.{OnOk}
 use Rattle.std.proofs.lemmas.List.{with_items_is}
-use Rattle.std.proofs.lemmas.Result.{on_ok_weaker}
-use Rattle.tk_run.specs.Keeping.{AreSound}
+use Rattle.std.proofs.lemmas.Result.{IfErr-weaker, on_ok_weaker}
+use Rattle.tk_run.specs.declared.resume_error.ResumeError.TheVariants as resume
+use Rattle.tk_run.specs.Keeping.{OneRefuses}
 use Rattle.tk_run.specs.Servers.{IsServer, AreReady, AreServers, alike, nothing_seen}
-use Rattle.tk_run.proofs.ErrorLaws.{always}
+use Rattle.tk_run.proofs.ErrorLaws.{always, no-memory}
 use Rattle.tk_run.proofs.resuming.go_on_before.Goals as goal
 
 pub go_on_all-requires : goal.go_on_all-requires
@@ -25,11 +25,36 @@ returns-clause-kept g c due E seen are =
     ∙ ap (λ (bytes : List ℕ). g.K.Keeper.kept c.args.keeper.now ++ bytes ∷ [])
     (c.as_slice.ensures.value ∙ c.in_ok-bytes.ensures.saved shape E (seen 1) is))
 
-pub returns-clause-sound : goal.returns-clause-sound
-returns-clause-sound g c due =
-    let lent = ap length c.as_mut_slice.ensures.value in
-    subst (λ (n : ℕ). OnOk c.go_on_all.result
-    (AreSound c.args.shape.now n (g.K.Keeper.gives c.keep.new.self))) lent c.go_on_all.ensures.sound
+pub returns-clause-accepted : goal.returns-clause-accepted
+returns-clause-accepted g c due E are =
+    c.go_on_all.ensures.accepted E
+    (subst (AreServers c.args.shape.now (alike E) nothing_seen) (sym c.as_mut_slice.ensures.value) are)
+
+pub returns-in_err-bytes-clause-refused : goal.returns-in_err-bytes-clause-refused
+returns-in_err-bytes-clause-refused g c due E are =
+    no-memory c.from_residual.result _ c.from_residual.ensures.1
+
+pub returns-in_err-keep-clause-refused : goal.returns-in_err-keep-clause-refused
+returns-in_err-keep-clause-refused g c due E are =
+    no-memory c.from_residual-in_err-keep.result _ c.from_residual-in_err-keep.ensures.1
+
+pub returns-clause-refused : goal.returns-clause-refused
+returns-clause-refused g c due E are =
+    let shape = c.args.shape.now in
+    let gives = g.K.Keeper.gives c.keep.new.self in
+    let first = c.index.result.now in
+    let is : IsServer shape E [] first =
+    subst (IsServer shape E []) (sym c.index.ensures) (are.each 0 first c.requires.0)
+    in
+    let kept = c.in_ok-keep.ensures.ok
+    ∙ ap (λ (bytes : List ℕ). g.K.Keeper.kept c.args.keeper.now ++ bytes ∷ [])
+    (c.as_slice.ensures.value ∙ c.in_ok-bytes.ensures.saved shape E [] is)
+    in
+    let own = c.in_ok-bytes.ensures.accepted shape E [] is in
+    IfErr-weaker c.go_on_all.result (λ e. e ≡ resume.Refused → OneRefuses shape E gives) _
+    (λ e one is. (kept, own, one is))
+    (c.go_on_all.ensures.refused E
+    (subst (AreServers shape (alike E) nothing_seen) (sym c.as_mut_slice.ensures.value) are))
 
 pub returns-clause-ready : goal.returns-clause-ready
 returns-clause-ready g c E are =

@@ -1,6 +1,6 @@
 -- The serial run, in which the checkpoint is kept of the turn in which the epoch begins.
 use Rattle.std.proofs.Common.{◌≡◌, ◌∙◌, ◌++◌, ◌∷◌, [], ◌*◌, ℕ, List, ap, arith, subst}
-use Rattle.std.specs.Prelude.{IfOk, OnErr, OnOk, Some}
+use Rattle.std.specs.Prelude.{IfErr, IfOk, OnErr, OnOk, Some}
 use Rattle.std.proofs.lemmas.Result.{on_ok_weaker}
 use Rattle.tk_io.specs.Tapped.{TapsGain, TapsGainFronts}
 use Rattle.tk_shape.specs.Lengths.{turn_count}
@@ -10,8 +10,11 @@ use Rattle.tk_words.specs.Words.{words_of}
 use Rattle.tk_frames.specs.declared.entry.Placed.{Placed}
 use Rattle.tk_report.specs.Exchange.{bytes_of}
 use Rattle.tk_report.specs.Serving.{exchange_under}
-use Rattle.tk_run.specs.Keeping.{BeginFrom, IsEndUnder, begun_anew, held_now, saved_before}
-use Rattle.tk_run.proofs.ErrorLaws.{on_err}
+use Rattle.tk_report.specs.Turns.{placed_before}
+use Rattle.tk_run.specs.declared.resume_error.ResumeError.TheVariants as resume
+use Rattle.tk_run.specs.Keeping.{AreAccepted, BeginFrom, HasRefused, HaveAccepted, IsEndUnder}
+use Rattle.tk_run.specs.Keeping.{begun_anew, held_now, saved_before}
+use Rattle.tk_run.proofs.ErrorLaws.{no-memory, on_err, passed-on}
 use Rattle.tk_run.proofs.GivingLaws.{fronts-none}
 use Rattle.tk_run.proofs.KeepingLaws.{due-in, kept-since}
 use Rattle.tk_run.proofs.serially.resumed_by.Goals as goal
@@ -32,9 +35,45 @@ returns-clause-kept g c =
     (omega arith) (due-in S.shape c.args.epoch c.requires.within)))
     c.run_turns.ensures.kept)
 
-pub returns-clause-sound : goal.returns-clause-sound
-returns-clause-sound g c =
-    c.run_turns.ensures.sound (due-in c.args.script.now.shape c.args.epoch c.requires.within)
+pub returns-clause-accepted : goal.returns-clause-accepted
+returns-clause-accepted g c =
+    let S = c.args.script.now in
+    let words = words_of S.shape (g.D.Draws.book c.args.draws.now) in
+    let due = c.args.epoch * S.shape.ticks in
+    let gives = g.K.Keeper.gives c.run_turns.new.keeper in
+    subst (λ (H : History). OnOk c.run_turns.result
+    (AreAccepted S.shape (placed_before S words H due) gives)) c.in_ok-history.ensures.serial
+    (c.run_turns.ensures.accepted (due-in S.shape c.args.epoch c.requires.within))
+
+pub returns-clause-refused : goal.returns-clause-refused
+returns-clause-refused g c =
+    let S = c.args.script.now in
+    let book = g.D.Draws.book c.args.draws.now in
+    let due = c.args.epoch * S.shape.ticks in
+    let kept = g.K.Keeper.kept in
+    let now = c.run_turns.new.keeper in
+    subst (λ (H : History). IfErr c.run_turns.result (λ e. e ≡ resume.Refused →
+    HasRefused S book H due (kept c.args.keeper.now) (kept now) (g.K.Keeper.gives now)))
+    c.in_ok-history.ensures.serial c.run_turns.ensures.refused
+
+pub returns-clause-failed : goal.returns-clause-failed
+returns-clause-failed g c =
+    let S = c.args.script.now in
+    let book = g.D.Draws.book c.args.draws.now in
+    let due = c.args.epoch * S.shape.ticks in
+    let kept = g.K.Keeper.kept in
+    let now = c.run_turns.new.keeper in
+    subst (λ (H : History). IfErr c.run_turns.result (λ e. e ≡ resume.Taps →
+    HaveAccepted S book H due (kept c.args.keeper.now) (kept now) (g.K.Keeper.gives now)))
+    c.in_ok-history.ensures.serial c.run_turns.ensures.failed
+
+pub returns-in_err-history-clause-refused : goal.returns-in_err-history-clause-refused
+returns-in_err-history-clause-refused g c = no-memory c.from_residual.result _ c.from_residual.ensures.1
+
+pub returns-in_err-history-clause-failed : goal.returns-in_err-history-clause-failed
+returns-in_err-history-clause-failed g c =
+    passed-on c.from_residual.result resume.Memory resume.Taps _ c.from_residual.ensures.1
+    (λ is. absurd (cc is))
 
 pub returns-clause-left : goal.returns-clause-left
 returns-clause-left g c =

@@ -22,8 +22,8 @@ returns-in_err-history-clause-err g c =
     (fronts-none S.shape.servers (λ (j : ℕ). bytes_of (exchange S book (serial_history S.shape) j))
     (g.T.Taps.tap c.args.taps.now))
 
-pub returns-in_err-end-clause-err : goal.returns-in_err-end-clause-err
-returns-in_err-end-clause-err g c =
+pub returns-in-Err-clause-err : goal.returns-in-Err-clause-err
+returns-in-Err-clause-err g c =
     let S = c.args.script.now in
     let book = g.D.Draws.book c.args.draws.now in
     let H = c.in_ok-history.history in
@@ -36,14 +36,13 @@ returns-in_err-end-clause-err g c =
     in
     let old = g.T.Taps.tap c.args.taps.now in
     let new = g.T.Taps.tap c.run_turns.new.taps in
-    on_err _ c.from_residual-in_err-end.result
-    (subst (λ (h : History). TapsGainFronts S.shape.servers (λ (j : ℕ). bytes_of (exchange S book h j)) old new)
+    subst (λ (h : History). TapsGainFronts S.shape.servers (λ (j : ℕ). bytes_of (exchange S book h j)) old new)
     c.in_ok-history.ensures.serial
     (own-fronts S book H due old new serves legal
-    (c.in_err-end.ensures.err (own S book H due) (λ low kept. absurd (omega (arith, low))))))
+    (c.in-Err.ensures.err (own S book H due) (λ low kept. absurd (omega (arith, low)))))
 
-pub returns-in_err-of-clause-err : goal.returns-in_err-of-clause-err
-returns-in_err-of-clause-err g c =
+pub returns-in_err-of-in-Ok-clause-err : goal.returns-in_err-of-in-Ok-clause-err
+returns-in_err-of-in-Ok-clause-err g c =
     let S = c.args.script.now in
     let book = g.D.Draws.book c.args.draws.now in
     let H = c.in_ok-history.history in
@@ -56,12 +55,15 @@ returns-in_err-of-clause-err g c =
     in
     let old = g.T.Taps.tap c.args.taps.now in
     let new = g.T.Taps.tap c.run_turns.new.taps in
-    on_err _ c.from_residual-in_err-of.result
+    on_err _ c.from_residual-in_err-of-in-Ok.result
     (fronts-of_all S.shape.servers (λ (j : ℕ). bytes_of (exchange S book (serial_history S.shape) j)) old new
     (subst (λ (h : History). TapsGain S.shape.servers (λ (j : ℕ). bytes_of (exchange S book h j)) old new)
     c.in_ok-history.ensures.serial
     (own-gain S book H due old new serves legal
-    (c.in_ok-end.ensures.ok (own S book H due) (λ low kept. absurd (omega (arith, low)))))))
+    (c.in-Ok.ensures.ok (own S book H due) (λ low kept. absurd (omega (arith, low)))))))
+
+pub run_error-requires : goal.run_error-requires
+run_error-requires g c = λ is. omega (arith, (c.in-Err.ensures.refused is).due_in)
 
 pub of-requires : goal.of-requires
 of-requires g c =
@@ -76,12 +78,12 @@ of-requires g c =
     subst (λ (shape : Shape). IsBook shape book) c.requires.one_shape (laws.serves c.args.draws.now)
     in (
       words_of S.shape book,
-      own-end S book H due c.in_ok-end.end serves legal
-          (c.in_ok-end.ensures.left (own S book H due) (λ low kept. absurd (omega (arith, low)))),
+      own-end S book H due c.in-Ok.end serves legal
+          (c.in-Ok.ensures.left (own S book H due) (λ low kept. absurd (omega (arith, low)))),
     )
 
-pub returns-clause-left : goal.returns-clause-left
-returns-clause-left g c =
+pub returns-in_ok-of-in-Ok-clause-left : goal.returns-in_ok-of-in-Ok-clause-left
+returns-in_ok-of-in-Ok-clause-left g c =
     let S = c.args.script.now in
     let book = g.D.Draws.book c.args.draws.now in
     let H = c.in_ok-history.history in
@@ -92,12 +94,12 @@ returns-clause-left g c =
     let serves =
     subst (λ (shape : Shape). IsBook shape book) c.requires.one_shape (laws.serves c.args.draws.now)
     in
-    subst (λ (h : History). IsLeftBy S (words_of S.shape book) h c.in_ok-of.field-0) c.in_ok-history.ensures.serial
-    (c.in_ok-of.ensures (words_of S.shape book) (own-end S book H due c.in_ok-end.end serves legal
-    (c.in_ok-end.ensures.left (own S book H due) (λ low kept. absurd (omega (arith, low))))))
+    subst (λ (h : History). IsLeftBy S (words_of S.shape book) h c.in_ok-of-in-Ok.field-0) c.in_ok-history.ensures.serial
+    (c.in_ok-of-in-Ok.ensures (words_of S.shape book) (own-end S book H due c.in-Ok.end serves legal
+    (c.in-Ok.ensures.left (own S book H due) (λ low kept. absurd (omega (arith, low))))))
 
-pub returns-clause-ok : goal.returns-clause-ok
-returns-clause-ok g c =
+pub returns-in_ok-of-in-Ok-clause-ok : goal.returns-in_ok-of-in-Ok-clause-ok
+returns-in_ok-of-in-Ok-clause-ok g c =
     let S = c.args.script.now in
     let book = g.D.Draws.book c.args.draws.now in
     let H = c.in_ok-history.history in
@@ -113,4 +115,4 @@ returns-clause-ok g c =
     subst (λ (h : History). TapsGain S.shape.servers (λ (j : ℕ). bytes_of (exchange S book h j)) old new)
     c.in_ok-history.ensures.serial
     (own-gain S book H due old new serves legal
-    (c.in_ok-end.ensures.ok (own S book H due) (λ low kept. absurd (omega (arith, low)))))
+    (c.in-Ok.ensures.ok (own S book H due) (λ low kept. absurd (omega (arith, low)))))

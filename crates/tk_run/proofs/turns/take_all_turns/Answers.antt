@@ -1,19 +1,21 @@
 -- Turn after turn the taps gain what the servers see.
-use Rattle.std.proofs.Common.{◌≡◌, ◌∙◌, ◌+◌, ◌++◌, [], ◌<◌, ◌≤◌, ℕ, List, ap, arith, inl, inr, refl, subst, sym}
+use Rattle.std.proofs.Common.{◌≡◌, ◌∙◌, ◌+◌, ◌++◌, ◌∷◌, [], ◌<◌, ◌≤◌, ℕ, List, ap, arith, inl, inr, refl, subst, sym}
 use Rattle.std.proofs.Common.{le_trans, true, false}
-use Rattle.std.proofs.lemmas.Bool.{cases_Bool}
+use Rattle.std.proofs.lemmas.Bool.{cases_Bool, false≢true}
 use Rattle.tk_shape.specs.Lengths.{turn_count}
 use Rattle.tk_words.specs.Words.{words_of}
 use Rattle.tk_frames.specs.declared.entry.Placed.{Placed}
 use Rattle.tk_report.specs.Serving.{read_replied}
 use Rattle.tk_report.specs.Turns.{placed_before}
-use Rattle.tk_run.specs.Keeping.{AreGiven, AreSound, begun_anew, held_now, is_due, kept_up_to, saved_before}
-use Rattle.tk_run.specs.Keeping.{turn_due}
+use Rattle.tk_run.specs.declared.resume_error.ResumeError.TheVariants as resume
+use Rattle.tk_run.specs.Keeping.{AreAccepted, AreGiven, begun_anew, held_now, is_due, kept_up_to}
+use Rattle.tk_run.specs.Keeping.{saved_before, turn_due}
 use Rattle.tk_run.specs.Servers.{alike, nothing_seen}
 use Rattle.tk_run.specs.Under.{IsRunning, IsRunUnder}
-use Rattle.tk_run.proofs.ErrorLaws.{on_err}
+use Rattle.tk_run.proofs.ErrorLaws.{on_err, passed-on}
 use Rattle.tk_run.proofs.HoldingLaws.{run-due, run-last, run-next, run-with, serves-anew}
-use Rattle.tk_run.proofs.KeepingLaws.{is-due, not-due, kept-since, kept-still, kept-then, none-before, still-before}
+use Rattle.tk_run.proofs.KeepingLaws.{came-if-kept, is-due, not-due, kept-since, kept-still, kept-then}
+use Rattle.tk_run.proofs.KeepingLaws.{none-before, refused-when-due, still-before}
 use Rattle.tk_run.proofs.SeenLaws.{taps-first, taps-next, taps-all, fronts-before, fronts-next}
 use Rattle.tk_run.proofs.turns.take_all_turns.Goals as goal
 
@@ -25,7 +27,7 @@ turns-init g c =
     let begin = turn_due S c.args.due in
     record {
       kept = λ before is. is;
-      sound = c.requires.sound;
+      accepted = c.requires.accepted;
       running = c.requires.running;
       run = c.requires.run;
       taps = λ given may.
@@ -94,13 +96,13 @@ turns-preserved g c =
             ap kept (went.same isnt) ∙ so_far.kept before first
             ∙ ap (λ (xs : List (List ℕ)). before ++ xs) (kept-still S due at turn within isnt)
       ];
-      sound = λ low. elim (cases_Bool (is_due due (turn + 1))) [
+      accepted = λ low. elim (cases_Bool (is_due due (turn + 1))) [
         | inl is ↦
-            subst (λ (n : ℕ). AreSound S.shape n (gives now)) took.running.servers.counted
-            (went.sound is)
+            subst (λ (n : ℕ). AreAccepted S.shape (placed_before S words H n) (gives now))
+            (sym (is-due S due (turn + 1) is)) (went.accepted is E (fresh (alike []) is))
         | inr isnt ↦
-            subst (λ k. AreSound S.shape S.shape.servers (gives k)) (sym (went.same isnt))
-            (so_far.sound (none-before S due turn within isnt low))
+            subst (λ k. AreAccepted S.shape (placed_before S words H begin) (gives k))
+            (sym (went.same isnt)) (so_far.accepted (none-before S due turn within isnt low))
       ];
       running = record {
         group = took.running.group;
@@ -198,6 +200,73 @@ returns-in_err-go_on_before-clause-err g c before given first begins =
     (took.ok V (held_now S words H begin given turn) (serves-anew S book H begin given turn)
     (so_far.run given may))))
 
+pub returns-in_err-take_turn-clause-refused : goal.returns-in_err-take_turn-clause-refused
+returns-in_err-take_turn-clause-refused g c before first =
+    passed-on c.from_residual.result _ resume.Refused _ c.from_residual.ensures.1
+    (λ is. absurd (c.in_err-take_turn.ensures.not_refused is))
+
+pub returns-in_err-take_turn-clause-failed : goal.returns-in_err-take_turn-clause-failed
+returns-in_err-take_turn-clause-failed g c before first =
+    let S = c.args.plan.now.script.now in
+    let book = g.D.Draws.book c.args.plan.now.draws.now in
+    let at = saved_before S book c.args.plan.now.history.now in
+    let so_far = c.turns.invariant in
+    passed-on c.from_residual.result _ resume.Taps _ c.from_residual.ensures.1
+    (λ is low kept. so_far.accepted
+    (came-if-kept S c.args.due at c.turns.turn before (g.K.Keeper.kept c.turns.keeper) _
+    (so_far.kept before first) kept))
+
+pub returns-in_err-go_on_before-clause-refused : goal.returns-in_err-go_on_before-clause-refused
+returns-in_err-go_on_before-clause-refused g c before first =
+    let S = c.args.plan.now.script.now in
+    let book = g.D.Draws.book c.args.plan.now.draws.now in
+    let H = c.args.plan.now.history.now in
+    let words = words_of S.shape book in
+    let due = c.args.due in
+    let begin = turn_due S due in
+    let at = saved_before S book H in
+    let kept = g.K.Keeper.kept in
+    let gives = g.K.Keeper.gives in
+    let turn = c.turns.turn in
+    let so_far = c.turns.invariant in
+    let was = c.turns.keeper in
+    let now = c.go_on_before.new.keeper in
+    let went = c.in_err-go_on_before.ensures in
+    let within : turn + 1 ≤ turn_count S.shape = omega (arith, c.turns-test.true) in
+    let fresh = λ (is : is_due due (turn + 1) ≡ true).
+    let here = is-due S due (turn + 1) is in
+    run-last S book H begin (alike []) turn c.take_turn.new.run here
+    (c.in_ok-take_turn.ensures.run (begun_anew S book H begin (alike []))
+    (held_now S words H begin (alike []) turn) (serves-anew S book H begin (alike []) turn)
+    (so_far.run (alike []) (λ low. absurd (omega (arith, low, here)))))
+    in
+    elim (cases_Bool (is_due due (turn + 1))) [
+      | inl is ↦
+          let here = is-due S due (turn + 1) is in
+          passed-on c.from_residual-in_err-go_on_before.result _ resume.Refused _
+          c.from_residual-in_err-go_on_before.ensures.1
+          (λ refused.
+          let said = went.refused is (placed_before S words H (turn + 1)) (fresh is) refused in
+          refused-when-due S book H begin (turn + 1) before (kept now) (gives now) here within
+          (kept-then S due at turn before (kept was) (kept now) within is (so_far.kept before first)
+          said.0
+          ∙ ap (λ (xs : List (List ℕ)). before ++ xs)
+          (kept-since S due at (turn + 1) within (omega (arith, here))
+          ∙ ap (λ (n : ℕ). at n ∷ []) here))
+          said.1 said.2)
+      | inr isnt ↦ absurd (false≢true (went.nothing isnt))
+    ]
+
+pub returns-in_err-go_on_before-clause-others : goal.returns-in_err-go_on_before-clause-others
+returns-in_err-go_on_before-clause-others g c = λ j out.
+    c.in_ok-take_turn.ensures.others j out ∙ c.turns.invariant.others j out
+
+pub returns-in_err-go_on_before-clause-failed : goal.returns-in_err-go_on_before-clause-failed
+returns-in_err-go_on_before-clause-failed g c before first =
+    passed-on c.from_residual-in_err-go_on_before.result _ resume.Taps _
+    c.from_residual-in_err-go_on_before.ensures.1
+    (λ is. absurd (c.in_err-go_on_before.ensures.not_taps is))
+
 pub returns-clause-kept : goal.returns-clause-kept
 returns-clause-kept g c before is =
     let S = c.args.plan.now.script.now in
@@ -206,10 +275,10 @@ returns-clause-kept g c before is =
     subst (λ n. g.K.Keeper.kept c.turns.keeper ≡ before ++ kept_up_to c.args.due at n) all
     (c.turns.invariant.kept before is)
 
-pub returns-clause-sound : goal.returns-clause-sound
-returns-clause-sound g c low =
+pub returns-clause-accepted : goal.returns-clause-accepted
+returns-clause-accepted g c low =
     let all : c.turns.turn ≡ turn_count c.args.plan.now.script.now.shape = omega arith in
-    c.turns.invariant.sound (omega (arith, low, all))
+    c.turns.invariant.accepted (omega (arith, low, all))
 
 pub returns-clause-running : goal.returns-clause-running
 returns-clause-running g c =

@@ -4,7 +4,7 @@ use Rattle.tk_io.specs.Tapped.{TapsGain, TapsKeepBut}
 use Rattle.tk_words.specs.Words.{words_of}
 use Rattle.tk_frames.specs.declared.entry.Placed.{Placed}
 use Rattle.tk_report.specs.Turns.{placed_before}
-use Rattle.tk_run.specs.Keeping.{AreGiven, AreSound, begun_anew, held_now, kept_up_to, saved_before, turn_due}
+use Rattle.tk_run.specs.Keeping.{AreAccepted, AreGiven, begun_anew, held_now, kept_up_to, saved_before, turn_due}
 use Rattle.tk_run.specs.Servers.{nothing_seen}
 use Rattle.tk_run.specs.Under.{IsRunning, IsRunUnder, seen_under}
 use Rattle.tk_run.proofs.turns.take_all_turns.Given as goal
@@ -22,7 +22,8 @@ invariant-turns g l =
       kept : (before : List (List ℕ)) →
           g.K.Keeper.kept l.fn.keeper ≡ before ++ kept_up_to l.due at 0 →
           g.K.Keeper.kept l.keeper ≡ before ++ kept_up_to l.due at l.turn;
-      sound : begin ≤ l.turn → AreSound S.shape S.shape.servers (g.K.Keeper.gives l.keeper);
+      accepted : begin ≤ l.turn →
+          AreAccepted S.shape (placed_before S words H begin) (g.K.Keeper.gives l.keeper);
       running : IsRunning S book H l.turn l.run;
       run : (given : ℕ → List Placed) →
           (begin ≤ l.turn → AreGiven S.shape (placed_before S words H begin)

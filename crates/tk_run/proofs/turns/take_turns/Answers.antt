@@ -3,8 +3,9 @@ use Rattle.std.proofs.Common.{◌∙◌, ◌++◌, ℕ, List, ap, arith}
 use Rattle.tk_shape.specs.Lengths.{turn_count}
 use Rattle.tk_report.specs.Exchange.{bytes_of}
 use Rattle.tk_report.specs.Serving.{exchange_under}
+use Rattle.tk_run.specs.declared.resume_error.ResumeError.TheVariants as resume
 use Rattle.tk_run.specs.Keeping.{begun_anew, saved_before, turn_due}
-use Rattle.tk_run.proofs.ErrorLaws.{on_err}
+use Rattle.tk_run.proofs.ErrorLaws.{on_err, passed-on}
 use Rattle.tk_run.proofs.GivingLaws.{fronts-none}
 use Rattle.tk_run.proofs.KeepingLaws.{kept-since}
 use Rattle.tk_run.proofs.turns.take_turns.Goals as goal
@@ -12,6 +13,10 @@ use Rattle.tk_run.proofs.turns.take_turns.Goals as goal
 pub take_all_turns-requires-clause-running : goal.take_all_turns-requires-clause-running
 take_all_turns-requires-clause-running g c κs within =
     c.in_ok-run.ensures.running (g.D.Draws.book c.args.plan.now.draws.now) c.args.plan.now.history.now
+
+pub take_all_turns-requires-clause-accepted : goal.take_all_turns-requires-clause-accepted
+take_all_turns-requires-clause-accepted g c κs within =
+    c.in_ok-run.ensures.accepted (g.D.Draws.book c.args.plan.now.draws.now) c.args.plan.now.history.now
 
 pub take_all_turns-requires-clause-run : goal.take_all_turns-requires-clause-run
 take_all_turns-requires-clause-run g c κs within given may =
@@ -35,6 +40,33 @@ returns-in_err-take_all_turns-clause-err g c given begins =
     on_err _ c.from_residual-in_err-take_all_turns.result
     (c.in_err-take_all_turns.ensures.err (g.K.Keeper.kept c.args.keeper.now) given
     (c.in_ok-run.ensures.kept book H) begins)
+
+pub returns-in_err-run-clause-refused : goal.returns-in_err-run-clause-refused
+returns-in_err-run-clause-refused g c =
+    passed-on c.from_residual.result _ resume.Refused _ c.from_residual.ensures.1
+    (c.in_err-run.ensures.refused (g.D.Draws.book c.args.plan.now.draws.now)
+    c.args.plan.now.history.now)
+
+pub returns-in_err-run-clause-failed : goal.returns-in_err-run-clause-failed
+returns-in_err-run-clause-failed g c =
+    passed-on c.from_residual.result _ resume.Taps _ c.from_residual.ensures.1
+    (λ is. absurd (c.in_err-run.ensures.not_taps is))
+
+pub returns-in_err-take_all_turns-clause-refused : goal.returns-in_err-take_all_turns-clause-refused
+returns-in_err-take_all_turns-clause-refused g c =
+    let book = g.D.Draws.book c.args.plan.now.draws.now in
+    passed-on c.from_residual-in_err-take_all_turns.result _ resume.Refused _
+    c.from_residual-in_err-take_all_turns.ensures.1
+    (c.in_err-take_all_turns.ensures.refused (g.K.Keeper.kept c.args.keeper.now)
+    (c.in_ok-run.ensures.kept book c.args.plan.now.history.now))
+
+pub returns-in_err-take_all_turns-clause-failed : goal.returns-in_err-take_all_turns-clause-failed
+returns-in_err-take_all_turns-clause-failed g c =
+    let book = g.D.Draws.book c.args.plan.now.draws.now in
+    passed-on c.from_residual-in_err-take_all_turns.result _ resume.Taps _
+    c.from_residual-in_err-take_all_turns.ensures.1
+    (c.in_err-take_all_turns.ensures.failed (g.K.Keeper.kept c.args.keeper.now)
+    (c.in_ok-run.ensures.kept book c.args.plan.now.history.now))
 
 pub returns-clause-kept : goal.returns-clause-kept
 returns-clause-kept g c =

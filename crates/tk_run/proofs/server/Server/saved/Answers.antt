@@ -1,5 +1,5 @@
--- What it has applied ends with a mark, and is what is written.
-use Rattle.std.proofs.Common.{◌∙◌, ◌++◌, ap}
+-- What it has applied ends with a mark, and is what is written and would be accepted.
+use Rattle.std.proofs.Common.{◌∙◌, ◌++◌, ap, refl}
 use Rattle.tk_checkpoint.specs.Saved.{saved}
 use Rattle.tk_run.proofs.ResumingLaws.{at_mark}
 use Rattle.tk_run.proofs.server.Server.saved.Goals as goal
@@ -8,6 +8,13 @@ pub returns-clause-ends : goal.returns-clause-ends
 returns-clause-ends c = λ shape E bytes is.
     (c.written_at_marks.ensures shape E c.args.self.now.state is.state).0
     (at_mark c.args.self.now.state c.in-Ok.ensures.at_mark)
+
+pub returns-clause-accepted : goal.returns-clause-accepted
+returns-clause-accepted c = λ shape E bytes is.
+    let ends = (c.written_at_marks.ensures shape E c.args.self.now.state is.state).0
+    (at_mark c.args.self.now.state c.in-Ok.ensures.at_mark)
+    in
+    (c.checkpoints_accepted.ensures shape E E is.state.order ends).1 (refl, refl)
 
 pub returns-clause-saved : goal.returns-clause-saved
 returns-clause-saved c = λ shape E bytes is.
