@@ -7,6 +7,7 @@ pub mod Answering
 pub mod Setup
 pub mod Desks
 pub mod Stands
+pub mod Releasing
 pub mod Courses
 pub mod Faults
 pub mod Nexts
