@@ -17,7 +17,8 @@ use crate::ended::Ended;
 use crate::input::ready;
 use crate::request::Request;
 use crate::telling::tell_left;
-use std::alloc::Global;
+use std::alloc::AllocGlobal;
+use std::sync::Wait;
 use tk_io::{Sink, Source, Taps};
 use tk_relay::{RelayRunError, relayed};
 use tk_report::{Outcome, ends};
@@ -26,8 +27,8 @@ use tk_script::{Form, Script};
 use tk_words::Book;
 
 /// The word `relay`.
-pub(crate) fn run_relayed<S: Source, K: Sink, T: Taps>(
-    alloc: Global,
+pub(crate) fn run_relayed<S: Source, K: Sink, T: Taps, R: Wait + AllocGlobal>(
+    rt: &R,
     source: &mut S,
     sink: &mut K,
     taps: &mut T,
@@ -38,18 +39,19 @@ pub(crate) fn run_relayed<S: Source, K: Sink, T: Taps>(
         (outside (S.left source.new) (S.faults source.new) (K.held sink.new) (K.faults sink.new)
         (T.tap taps.new) (T.faults taps.new)) }
 {
+    let alloc = rt.alloc();
     let (script, book) = match ready(alloc, source, Form::Relay) {
         Ok(input) => input,
         Err(status) => return Ended::without(status),
     };
-    let left = relayed_by(alloc, &script, &book, taps);
+    let left = relayed_by(rt, &script, &book, taps);
     ends();
     tell_left(alloc, left, sink)
 }
 
 /// What the run of a keyed script leaves whose reads go by way of server 1.
-fn relayed_by<T: Taps>(
-    alloc: Global,
+fn relayed_by<T: Taps, R: Wait + AllocGlobal>(
+    rt: &R,
     script: &Script,
     book: &Book,
     taps: &mut T,
@@ -79,7 +81,7 @@ fn relayed_by<T: Taps>(
     let Book::Keyed(draws) = book else {
         unreachable!()
     };
-    match relayed(alloc, script, draws, keys.seeds.as_slice(), taps) {
+    match relayed(rt, script, draws, keys.seeds.as_slice(), taps) {
         Ok(outcome) => Ok(outcome),
         Err(RelayRunError::Taps) => Err(RunError::Taps),
         Err(RelayRunError::Memory) => Err(RunError::Memory),

@@ -46,7 +46,7 @@ pub fn talek<R: Threads + Wait + Sync + AllocGlobal, S: Source, K: Sink, T: Taps
     let alloc = rt.alloc();
     match request_of(words) {
         Request::Serial => run_serial(alloc, source, sink, taps),
-        Request::Relay => run_relayed(alloc, source, sink, taps),
+        Request::Relay => run_relayed(rt, source, sink, taps),
         Request::Resume { epoch } => run_resumed(alloc, epoch, source, sink, taps),
         Request::Run { workers, shards } => {
             let crew = Crew {

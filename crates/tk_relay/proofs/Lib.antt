@@ -17,7 +17,6 @@ pub mod AskedTurns
 pub mod TakenTurns
 pub mod RelayedReads
 pub mod SeenTurns
-pub mod ReplicaLaws
 pub mod Fronts
 pub mod Results
 pub mod Sent
@@ -30,3 +29,9 @@ pub mod Aside
 pub mod Refusing
 pub mod ServedParts
 pub mod Paddings
+pub mod OneOrder
+pub mod NextOrdered
+pub mod OrderedLaws
+pub mod TakenLaws
+pub mod WrittenLaws
+pub mod EndedLaws

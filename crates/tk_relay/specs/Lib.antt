@@ -10,6 +10,6 @@ pub mod Laws
 pub mod Counts
 pub mod Relayed
 pub mod Reads
-pub mod Replicas
+pub mod Ordered
 pub mod Running
 pub mod RelayedSights

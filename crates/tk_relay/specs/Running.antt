@@ -1,5 +1,5 @@
 -- A run whose reads are relayed, as it stands within a turn.
-use Rattle.std.specs.Prelude.{◌≡◌, ℕ, ◌+◌, ◌<◌, List, [], length, map, slice_index_or}
+use Rattle.std.specs.Prelude.{◌≡◌, ℕ, ◌+◌, ◌<◌, List, length, map, flat_map, slice_index_or}
 use Rattle.std.specs.List.{range_with_len}
 use Rattle.tk_schedule.specs.declared.history.History.{History}
 use Rattle.tk_schedule.specs.Schedule.{epoch_at}
@@ -7,15 +7,21 @@ use Rattle.tk_script.specs.declared.script.Script.{Script}
 use Rattle.tk_words.specs.Words.{WordBook, BookWords, words_of}
 use Rattle.tk_client.specs.Client.{ClientState, opened}
 use Rattle.tk_report.specs.Clients.{AreClients, known_before, client_before, client_knowing}
-use Rattle.tk_report.specs.Displaced.{displaced_in}
 use Rattle.tk_report.specs.Queues.{said_before}
 use Rattle.tk_report.specs.Report.{target_at}
 use Rattle.tk_report.specs.Turns.{placed_before}
+use Rattle.tk_report.specs.Entries.{write_at, entries_at}
+use Rattle.tk_report.specs.declared.group.Group.{Group}
+use Rattle.tk_shape.specs.declared.shape.Shape.{Shape}
+use Rattle.tk_frames.specs.Spelling.{placed_frame}
+use Rattle.tk_cluster.specs.declared.set.EpochSet.{EpochSet}
+use Rattle.tk_cluster.specs.Passes.{Passing}
+use Rattle.tk_cluster.specs.Tellings.{Telling}
+use Rattle.tk_cluster.specs.Sets.{Stands}
 use Rattle.tk_relay.specs.declared.relayed_read.RelayedRead.{RelayedRead}
-use Rattle.tk_relay.specs.declared.run.Run.{Run}
 use Rattle.tk_relay.specs.Bundles.{parts_for, bundle_frame}
 use Rattle.tk_relay.specs.Relayed.{frames_read, pads_read, part_read, reply_read}
-use Rattle.tk_relay.specs.Replicas.{AreReplicas}
+use Rattle.tk_relay.specs.Ordered.{HaveOrdered}
 
 -- ---- clients
 
@@ -47,13 +53,29 @@ pub record AreRelayed (S : Script) (b : WordBook) (seeds : List (List ℕ)) (H :
 
 -- ---- a run
 
--- before turn g all is as the definitions say of it
-pub record IsRunBefore (S : Script) (b : WordBook) (H : History) (g : ℕ) (run : Run) : Type 0 where
-  pub said : run.group.said ≡ said_before S g
+-- Before turn g all is as the definitions say of it: so are the clients, and the entries of the turns
+-- so far are ordered in a cluster of this shape, where all passes have met.
+pub record IsRunBefore (shape : Shape) (S : Script) (b : WordBook) (H : History) (g : ℕ)
+    (group : Group) (passes : List Passing) (p : Telling) (taken : ℕ) : Type 0 where
+  pub same : S.shape ≡ shape
+  pub said : group.said ≡ said_before S g
   pub clients : AreClients S.shape.clients (client_before S (words_of S.shape b) H g)
-      run.group.clients.items
-  pub replicas : AreReplicas S.shape (placed_before S (words_of S.shape b) H g)
-      run.replicas.list.items
-  pub seen : run.replicas.seen.items ≡ []
-  pub displaced : run.replicas.displaced
-      ≡ displaced_in S.shape (placed_before S (words_of S.shape b) H g)
+      group.clients.items
+  pub ordered : HaveOrdered shape (placed_before S (words_of S.shape b) H g) passes p
+  pub met : p.seen ≡ placed_before S (words_of S.shape b) H g
+  pub counted : taken ≡ length (placed_before S (words_of S.shape b) H g)
+
+-- The same when all have written in turn g, and have pinned this set. Of the turn's entries these
+-- bytes are seen.
+pub record HaveWritten (shape : Shape) (S : Script) (b : WordBook) (H : History) (g : ℕ)
+    (group : Group) (passes : List Passing) (p : Telling) (taken : ℕ) (set : EpochSet)
+    (bytes : List ℕ) : Type 0 where
+  pub said : group.said ≡ said_before S (g + 1)
+  pub clients : AreClients S.shape.clients (client_wrote S (words_of S.shape b) H g)
+      group.clients.items
+  pub ordered : HaveOrdered shape (placed_before S (words_of S.shape b) H (g + 1)) passes p
+  pub met : p.seen ≡ placed_before S (words_of S.shape b) H (g + 1)
+  pub counted : taken ≡ length (placed_before S (words_of S.shape b) H (g + 1))
+  pub stands : Stands S.shape (placed_before S (words_of S.shape b) H (g + 1)) set.number set
+  pub epoch : set.number ≡ epoch_at H g 0
+  pub seen : bytes ≡ flat_map placed_frame (entries_at (write_at S (words_of S.shape b)) H g)

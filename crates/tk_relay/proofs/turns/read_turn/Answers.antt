@@ -4,7 +4,6 @@ use Rattle.std.specs.Prelude.{All}
 use Rattle.std.proofs.lemmas.List.{with_items_is}
 use Rattle.tk_shape.specs.declared.shape.Shape.{Shape}
 use Rattle.tk_words.specs.Words.{IsBook, words_of}
-use Rattle.tk_cluster.specs.Sets.{Stands}
 use Rattle.tk_report.specs.Turns.{placed_before}
 use Rattle.tk_relay.specs.Pads.{Padding}
 use Rattle.tk_relay.specs.Reads.{IsWhole}
@@ -12,12 +11,6 @@ use Rattle.tk_relay.specs.Running.{AreRelayed}
 use Rattle.tk_relay.proofs.Paddings.{paddings-counted, paddings-shape}
 use Rattle.tk_relay.proofs.RelayedReads.{all-whole, turn-served}
 use Rattle.tk_relay.proofs.turns.read_turn.Goals as goal
-
-pub set_of-requires : goal.set_of-requires
-set_of-requires g c =
-    let S = c.args.plan.now.script.now in
-    let words = words_of S.shape (g.D.Draws.book c.args.plan.now.draws.now) in
-    (placed_before S words c.args.plan.now.history.now (c.args.turn + 1), c.requires.replicas)
 
 pub ask_all-requires-clause-counted : goal.ask_all-requires-clause-counted
 ask_all-requires-clause-counted g c κs within =
@@ -29,17 +22,6 @@ ask_all-requires-clause-counted g c κs within =
 pub ask_all-requires-clause-pads : goal.ask_all-requires-clause-pads
 ask_all-requires-clause-pads g c κs within =
     (c.args.seeds.now, c.as_slice-pads.ensures.value ∙ c.in_ok-keyed.ensures)
-
-pub ask_all-requires-clause-set : goal.ask_all-requires-clause-set
-ask_all-requires-clause-set g c κs within =
-    let S = c.args.plan.now.script.now in
-    let words = words_of S.shape (g.D.Draws.book c.args.plan.now.draws.now) in
-    let E = placed_before S words c.args.plan.now.history.now (c.args.turn + 1) in
-    subst (λ n. Stands S.shape E n c.in_ok-set.set) (sym c.in_ok-set.ensures.number)
-    (c.in_ok-set.ensures.stands E c.requires.replicas)
-
-pub ask_all-requires-clause-epoch : goal.ask_all-requires-clause-epoch
-ask_all-requires-clause-epoch g c κs within = c.in_ok-set.ensures.number ∙ c.epoch-epoch.ensures
 
 pub serve_all-requires-clause-counted : goal.serve_all-requires-clause-counted
 serve_all-requires-clause-counted g c =
@@ -55,7 +37,7 @@ pub serve_all-requires-clause-one_shape : goal.serve_all-requires-clause-one_sha
 serve_all-requires-clause-one_shape g c =
     let S = c.args.plan.now.script.now in
     subst (λ (shape : Shape). All (λ (p : Padding). p.shape ≡ shape) c.as_slice-pads.result.now)
-    (sym c.in_ok-set.ensures.shape)
+    (sym c.requires.set.same)
     (paddings-shape S.shape c.args.seeds.now c.args.turn c.as_slice-pads.result.now
     (c.as_slice-pads.ensures.value ∙ c.in_ok-keyed.ensures))
 
@@ -70,7 +52,7 @@ serve_all-requires-clause-whole g c =
     (laws.serves c.args.plan.now.draws.now)
     in
     subst (λ (shape : Shape). All (IsWhole shape) c.as_mut_slice.result.now)
-    (sym c.in_ok-set.ensures.shape)
+    (sym c.requires.set.same)
     (subst (All (IsWhole S.shape)) (sym c.as_mut_slice.ensures.value)
     (all-whole serves c.args.plan.now.legal c.requires.turn_in
     (c.in_ok-reads.ensures.reads c.args.seeds.now (c.as_slice-pads.ensures.value ∙ c.in_ok-keyed.ensures))))
@@ -97,16 +79,13 @@ take_all-requires-clause-reads g c κs within =
     let counted : length new ≡ c.in_ok-reads.reads.len =
     omega (arith, c.serve_all.auto.reads, c.as_mut_slice.ensures.len)
     in
-    let stands = subst (λ n. Stands S.shape E n c.in_ok-set.set) (sym c.in_ok-set.ensures.number)
-    (c.in_ok-set.ensures.stands E c.requires.replicas)
-    in
-    let relayed = turn-served S book seeds H turn c.in_ok-set.set.number pads
+    let relayed = turn-served S book seeds H turn c.args.set.now.number pads
     c.as_mut_slice.result.now new c.args.plan.now.legal c.requires.serial c.requires.turn_in
-    (c.in_ok-set.ensures.number ∙ c.epoch-epoch.ensures) own
+    c.requires.epoch own
     (paddings-counted S.shape seeds turn pads own ∙ c.requires.seeds)
     (subst (AreRelayed S book seeds H turn 0) (sym c.as_mut_slice.ensures.value)
     (c.in_ok-reads.ensures.reads seeds own))
-    (c.in_ok-serve_all.ensures S.shape E stands)
+    (c.in_ok-serve_all.ensures S.shape E c.requires.set)
     in (
       seeds,
       own,
@@ -129,16 +108,13 @@ returns-clause-reads g c =
     let counted : length new ≡ c.in_ok-reads.reads.len =
     omega (arith, c.serve_all.auto.reads, c.as_mut_slice.ensures.len)
     in
-    let stands = subst (λ n. Stands S.shape E n c.in_ok-set.set) (sym c.in_ok-set.ensures.number)
-    (c.in_ok-set.ensures.stands E c.requires.replicas)
-    in
-    let relayed = turn-served S book seeds H turn c.in_ok-set.set.number pads
+    let relayed = turn-served S book seeds H turn c.args.set.now.number pads
     c.as_mut_slice.result.now new c.args.plan.now.legal c.requires.serial c.requires.turn_in
-    (c.in_ok-set.ensures.number ∙ c.epoch-epoch.ensures) own
+    c.requires.epoch own
     (paddings-counted S.shape seeds turn pads own ∙ c.requires.seeds)
     (subst (AreRelayed S book seeds H turn 0) (sym c.as_mut_slice.ensures.value)
     (c.in_ok-reads.ensures.reads seeds own))
-    (c.in_ok-serve_all.ensures S.shape E stands)
+    (c.in_ok-serve_all.ensures S.shape E c.requires.set)
     in
     subst (AreRelayed S book seeds H turn S.shape.servers)
     (sym (with_items_is c.in_ok-reads.reads new counted)) relayed

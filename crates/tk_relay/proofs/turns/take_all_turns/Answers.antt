@@ -59,5 +59,7 @@ returns-clause-run g c =
     let S = c.args.plan.now.script.now in
     let book = g.D.Draws.book c.args.plan.now.draws.now in
     let all : c.turns.turn ≡ turn_count S.shape = omega arith in
-    subst (λ n. IsRunBefore S book c.args.plan.now.history.now n c.turns.run) all
+    let run = c.turns.run in
+    subst (λ n. IsRunBefore g.B.Naming.shape S book c.args.plan.now.history.now n run.group
+    run.servers.passes.items run.servers.publisher run.servers.taken) all
     c.turns.invariant.run

@@ -11,7 +11,8 @@ invariant-turns g l =
     let book = g.D.Draws.book l.plan.draws.now in
     let tap = g.T.Taps.tap in
     record {
-      run : IsRunBefore S book l.plan.history.now l.turn l.run;
+      run : IsRunBefore g.B.Naming.shape S book l.plan.history.now l.turn l.run.group
+          l.run.servers.passes.items l.run.servers.publisher l.run.servers.taken;
       taps : TapsGain S.shape.servers (seen_before S book l.seeds l.plan.history.now l.turn)
           (tap l.fn.taps) (tap l.taps);
       others : TapsKeepBut S.shape.servers (tap l.fn.taps) (tap l.taps);
