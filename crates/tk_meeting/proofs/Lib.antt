@@ -14,3 +14,4 @@ pub mod scripts
 pub mod shown
 pub mod lying
 pub mod programs
+pub mod restarts

@@ -12,3 +12,4 @@ pub mod Scripts
 pub mod Matched
 pub mod Adaptive
 pub mod Programs
+pub mod Restarts

@@ -8,6 +8,7 @@ ghost use Rattle.tk_meeting.specs.Matched.{HonestHold, LiarsSeeAlike, MatchedOne
 ghost use Rattle.tk_meeting.specs.OwnBooks.{OwnKeysServe};
 ghost use Rattle.tk_meeting.specs.Pacing.{MeetingsKeepPace};
 ghost use Rattle.tk_meeting.specs.Programs.{MembersAct, ProgramsMeet, ServersAct};
+ghost use Rattle.tk_meeting.specs.Restarts.{MembersGoOn, MembersPutAgain, ServersStandAgain, ServersTellAgain};
 ghost use Rattle.tk_meeting.specs.Scripts.{LiedHaveScripts, MeetingsHaveScripts};
 ghost use Rattle.tk_meeting.specs.Shown.{MembersActAlike};
 
@@ -106,4 +107,13 @@ pub fn programs_meet()
 pub fn clauses_say_programs()
     ensures members { MembersAct }
     ensures servers { ServersAct }
+{}
+
+/// A member that is given its journal again, and a server that is given again what clients sent, put again what they put:
+/// nobody gets two different frames for one turn. A member whose journal lacks what a server has of it ends.
+pub fn restarts_change_nothing()
+    ensures put_again { MembersPutAgain }
+    ensures go_on { MembersGoOn }
+    ensures tell_again { ServersTellAgain }
+    ensures stand_again { ServersStandAgain }
 {}

@@ -17,7 +17,7 @@ use Rattle.tk_meeting.proofs.programs.Standing.{IsTaken, AllTaken}
 
 -- ---- packets after which a member stands end it nowhere
 
-none-stands : (b : WordBook) (ps : List PacketView) (t : Turned) → fold_l (after_packet b) None ps ≡ Some t → ⊥
+pub none-stands : (b : WordBook) (ps : List PacketView) (t : Turned) → fold_l (after_packet b) None ps ≡ Some t → ⊥
 none-stands b [] t is = absurd (cc (is))
 none-stands b (p ∷ ps) t is = none-stands b ps t is
 

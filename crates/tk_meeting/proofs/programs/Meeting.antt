@@ -40,7 +40,7 @@ front-of_peer j xs ys front =
       whole = sym (peer-append j xs front.rest) ∙ ap (for_peer j) front.whole;
     }
 
-front-of_frames : (j : ℕ) (xs ys : List PacketView) → IsFront xs ys → IsFront (frames_for j xs) (frames_for j ys)
+pub front-of_frames : (j : ℕ) (xs ys : List PacketView) → IsFront xs ys → IsFront (frames_for j xs) (frames_for j ys)
 front-of_frames j xs ys front =
     record {
       rest = frames_for j front.rest;
@@ -62,7 +62,7 @@ next-comes frame took put all way next front whole =
     in
     (rest, same-behind took way (frame ∷ rest) is)
 
-after-is : (shape : Shape) (seats : List Seat) (ps : List PacketView) →
+pub after-is : (shape : Shape) (seats : List Seat) (ps : List PacketView) →
     state_after (seats_next shape) seats ps ≡ seats_after shape seats ps
 after-is shape seats [] = refl
 after-is shape seats (p ∷ ps) = after-is shape (step_on shape seats p).seats ps

@@ -34,7 +34,7 @@ frames-append peer xs ys =
     (filter (λ (p : PacketView). p.peer == peer) ys)
 
 -- of packets for the peer all frames, and of packets for another none
-frames-own : (peer other : ℕ) (frames : List (List ℕ)) → (other == peer) ≡ true →
+pub frames-own : (peer other : ℕ) (frames : List (List ℕ)) → (other == peer) ≡ true →
     frames_for peer (map (packet other) frames) ≡ frames
 frames-own peer other [] same = refl
 frames-own peer other (x ∷ xs) same =
@@ -42,7 +42,7 @@ frames-own peer other (x ∷ xs) same =
     ap (λ (b : Bool). map bytes_in (cond b (packet other x ∷ rest) rest)) same
     ∙ ap (λ (ys : List (List ℕ)). x ∷ ys) (frames-own peer other xs same)
 
-frames-none : (peer other : ℕ) (frames : List (List ℕ)) → (other == peer) ≡ false →
+pub frames-none : (peer other : ℕ) (frames : List (List ℕ)) → (other == peer) ≡ false →
     frames_for peer (map (packet other) frames) ≡ []
 frames-none peer other [] differ = refl
 frames-none peer other (x ∷ xs) differ =
@@ -50,7 +50,7 @@ frames-none peer other (x ∷ xs) differ =
     ap (λ (b : Bool). map bytes_in (cond b (packet other x ∷ rest) rest)) differ
     ∙ frames-none peer other xs differ
 
-frames-each : (peer : ℕ) (f : ℕ → List PacketView) (a n : ℕ) →
+pub frames-each : (peer : ℕ) (f : ℕ → List PacketView) (a n : ℕ) →
     frames_for peer (flat_map f (range_with_len a n)) ≡ flat_map (λ k. frames_for peer (f k)) (range_with_len a n)
 frames-each peer f a zero = refl
 frames-each peer f a (suc n) =

@@ -1,0 +1,4 @@
+pub mod Seats
+pub mod Tellings
+pub mod Resting
+pub mod Journals

@@ -1,0 +1,338 @@
+-- A member that acted has nothing due, and put to each server as many frames as it wrote and asked.
+use Rattle.std.proofs.Common.{◌≡◌, refl, sym, ap, ap₂, ◌∙◌, subst, arith, ℕ, zero, suc, ◌+◌, ◌-◌, ◌≤◌, ◌<◌, Bool, true, false, cond}
+use Rattle.std.proofs.Common.{List, [], ◌∷◌, ◌++◌, length, map, min, length-append, inl, inr}
+use Rattle.std.specs.Prelude.{Option, Some, None, Result, Ok, Err, nat_le, nat_lt, not, ◌&&◌, ◌==◌, ◌||◌, ◌*◌, replicate}
+use Rattle.std.specs.Prelude.{slice_index, slice_index_or}
+use Rattle.std.specs.Option.{is_none, is_some}
+use Rattle.std.proofs.lemmas.Bool.{cases_lt, ne_eqb, eq-eqb}
+use Rattle.std.proofs.lemmas.List.{length-map, length-replicate}
+use Rattle.tk_shape.specs.declared.shape.Shape.{Shape}
+use Rattle.tk_shape.specs.Lengths.{turn_count}
+use Rattle.tk_frames.specs.Spelling.{write_frame, read_frame}
+use Rattle.tk_words.specs.Words.{WordBook, BookWords, words_of}
+use Rattle.tk_client.specs.declared.say_error.SayError.{SayError}
+use Rattle.tk_client.specs.declared.take_error.TakeError.{TakeError}
+use Rattle.tk_client.specs.Asked.{asked}
+use Rattle.tk_client.specs.Saying.{fault_of}
+use Rattle.tk_client.specs.Client.{after_replies, refusal_in, target_over}
+use Rattle.tk_client.proofs.Offers.{length-asked}
+use Rattle.tk_packets.specs.Packets.{PacketView, packet}
+use Rattle.tk_member.specs.declared.fault.Fault.{Fault}
+use Rattle.tk_member.specs.declared.fault.Fault.TheVariants.{Peer, Refused, Older}
+use Rattle.tk_member.specs.declared.word.HostWord.{HostWord}
+use Rattle.tk_member.specs.declared.word.HostWord.TheVariants.{Say, Tick, Ahead, Has}
+use Rattle.tk_member.specs.Words.{word_in}
+use Rattle.tk_member.specs.Epochs.{Telling, with_epoch, filter_of, marks_at, known}
+use Rattle.tk_member.specs.Members.{MemberState}
+use Rattle.tk_member.specs.News.{refused_packet}
+use Rattle.tk_member.specs.Acting.{Turned, unmoved, behind, followed_by, packets_from, write_packets, wrote, after_turn}
+use Rattle.tk_member.specs.Acting.{turns_known, ahead_due, goes_ahead, ticks_due, goes_by_ticks, may_ask, asks, asks_if_due, acts, epoch_due}
+use Rattle.tk_member.specs.Steps.{tells_and_acts, said, heard, all_of, settled, settled_by, with_reply, replied}
+use Rattle.tk_member.specs.Steps.{told_after, after_settling, told_epoch, served, step}
+use Rattle.tk_meeting.specs.Meeting.{for_peer, frames_for}
+use Rattle.tk_meeting.proofs.members.Packets.{frames-append, none-below, AreToHost, host-alone}
+use Rattle.tk_meeting.proofs.members.Told.{news-tell, tell-to_host}
+
+-- nothing is due
+pub record IsResting (m : MemberState) : Type 0 where
+  pub none_ahead : ahead_due m ≡ 0
+  pub none_ticks : ticks_due m ≡ 0
+  pub no_read : may_ask m ≡ false
+
+-- ---- one that rests does nothing
+
+module _ (b : WordBook) (m : MemberState) (rests : IsResting m) where
+  ahead-still : goes_ahead (words_of m.client.shape b) m ≡ unmoved m
+  unfolding wrote
+  ahead-still =
+      ap (λ n. wrote (words_of m.client.shape b) n (record m { ahead = m.ahead - n })) rests.none_ahead
+      ∙ ap (λ n. unmoved (record m { ahead = n })) (let same : m.ahead - 0 ≡ m.ahead = omega arith in same)
+
+  ticks-still : goes_by_ticks (words_of m.client.shape b) m ≡ unmoved m
+  unfolding wrote
+  ticks-still =
+      ap (λ n. wrote (words_of m.client.shape b) n (record m { ticks = m.ticks - n })) rests.none_ticks
+      ∙ ap (λ n. unmoved (record m { ticks = n })) (let same : m.ticks - 0 ≡ m.ticks = omega arith in same)
+
+  read-still : asks_if_due b m ≡ unmoved m
+  read-still = ap (λ k. cond k (asks b m) (unmoved m)) rests.no_read
+
+  pub rests-still : acts b m ≡ unmoved m
+  unfolding acts
+  rests-still =
+      let w = words_of m.client.shape b in
+      ap (λ (t : Turned). followed_by (followed_by t (goes_by_ticks w)) (asks_if_due b)) ahead-still
+      ∙ ap (λ (t : Turned). followed_by (behind [] t) (asks_if_due b)) ticks-still
+      ∙ ap (λ (t : Turned). behind [] t) read-still
+
+-- ---- writing
+
+-- a member that wrote in so many turns more, but for what it has to write
+record Wrote (m : MemberState) (n : ℕ) (l : MemberState) : Type 0 where
+  pub shape : l.client.shape ≡ m.client.shape
+  pub read : l.client.read ≡ m.client.read
+  pub written : l.written ≡ m.written + n
+  pub asked : l.asked ≡ m.asked
+  pub ticks : l.ticks ≡ m.ticks
+  pub ahead : l.ahead ≡ m.ahead
+  pub told : l.told ≡ m.told
+
+wrote-so : (w : BookWords) (n : ℕ) (m : MemberState) → Wrote m n (wrote w n m).member
+unfolding wrote
+wrote-so w zero m =
+    record { shape = refl; read = refl; written = omega arith; asked = refl; ticks = refl; ahead = refl; told = refl }
+wrote-so w (suc n) m =
+    let rest = wrote-so w n (after_turn m) in
+    let more = rest.written in
+    record {
+      shape = rest.shape;
+      read = rest.read;
+      written = omega (arith, more);
+      asked = rest.asked;
+      ticks = rest.ticks;
+      ahead = rest.ahead;
+      told = rest.told;
+    }
+
+-- where as many are taken of what is left as may be, no more may be
+none-left : (some left done now rest left_then done_then : ℕ) → now ≡ min some (left - done) → rest ≡ some - now →
+    left_then ≡ left → done + now ≤ done_then → min rest (left_then - done_then) ≡ 0
+none-left some left done now rest left_then done_then n r l d = omega (arith, n, r, l, d)
+
+known-same : (m l : MemberState) → l.client.shape ≡ m.client.shape → l.told ≡ m.told → turns_known l ≡ turns_known m
+known-same m l shape told =
+    ap₂ (λ (s : Shape) (t : List Telling). min (turn_count s) ((known s t + 1) * s.ticks)) shape told
+
+-- ---- frames for one server
+
+pub one-each : (j a : ℕ) (frames : List (List ℕ)) → a ≤ j → j < a + length frames →
+    length (frames_for j (packets_from a frames)) ≡ 1
+one-each j a [] low high = absurd (omega (arith, low, high))
+one-each j a (x ∷ xs) low high =
+    let rest = for_peer j (packets_from (a + 1) xs) in
+    let bytes = λ (ps : List PacketView). map (λ (p : PacketView). p.bytes) ps in
+    elim (cases_lt a j) [
+      | inl above ↦
+          let other : (a == j) ≡ false = ne_eqb a j (λ e. omega (arith, above, e)) in
+          ap (λ k. length (bytes (cond k (packet a x ∷ rest) rest))) other
+          ∙ one-each j (a + 1) xs (omega (arith, above)) (omega (arith, high))
+      | inr at ↦
+          let same : a ≡ j = omega (arith, low, at) in
+          ap (λ k. length (bytes (cond k (packet a x ∷ rest) rest))) (eq-eqb a j same)
+          ∙ ap (λ ps. length (bytes (packet a x ∷ ps))) (none-below j (a + 1) xs (omega (arith, same)))
+    ]
+
+frames-both : (j : ℕ) (xs ys : List PacketView) →
+    length (frames_for j (xs ++ ys)) ≡ length (frames_for j xs) + length (frames_for j ys)
+frames-both j xs ys =
+    ap length (frames-append j xs ys) ∙ length-append (frames_for j xs) (frames_for j ys)
+
+module _ (j : ℕ) (low : 1 ≤ j) where
+  write-counted : (w : BookWords) (m : MemberState) → j ≤ m.client.shape.servers →
+      length (frames_for j (write_packets w m)) ≡ 1
+  write-counted w m most =
+      let frames = λ (f : List ℕ). replicate m.client.shape.servers f in
+      let any : (f : List ℕ) → length (frames_for j (packets_from 1 (frames f))) ≡ 1 =
+      λ f. one-each j 1 (frames f) low (let many = length-replicate m.client.shape.servers f in omega (arith, most, many))
+      in
+      any _
+
+  wrote-counted : (w : BookWords) (n : ℕ) (m : MemberState) → j ≤ m.client.shape.servers →
+      length (frames_for j (wrote w n m).packets) ≡ n
+  unfolding wrote
+  wrote-counted w zero m most = refl
+  wrote-counted w (suc n) m most =
+      let first = write-counted w m most in
+      let rest = wrote-counted w n (after_turn m) most in
+      let both = frames-both j (write_packets w m) (wrote w n (after_turn m)).packets in
+      omega (arith, first, rest, both)
+
+  asks-counted : (b : WordBook) (m : MemberState) → j ≤ m.client.shape.servers →
+      length (frames_for j (asks b m).packets) ≡ 1
+  asks-counted b m most =
+      let shape = m.client.shape in
+      let epoch = epoch_due shape m.asked in
+      let marks = filter_of shape (marks_at shape m.told epoch) in
+      let target = target_over (words_of shape b) marks epoch m.client in
+      let frames = asked shape b m.asked m.client.number epoch target in
+      let many = length-map frames read_frame in
+      let each = length-asked shape b m.asked m.client.number epoch target in
+      one-each j 1 (map read_frame frames) low (omega (arith, most, many, each))
+
+  -- ---- acting
+
+  -- it rests then, and put so many frames
+  pub record Puts (before : MemberState) (t : Turned) : Type 0 where
+    pub rests : IsResting t.member
+    pub most : j ≤ t.member.client.shape.servers
+    pub counted : t.member.written + t.member.asked
+        ≡ before.written + before.asked + length (frames_for j t.packets)
+
+  no-more : (m : MemberState) → ahead_due m ≡ 0 → ticks_due m ≡ 0 → (k : Bool) → may_ask m ≡ k →
+      (b : WordBook) → IsResting (cond k (asks b m) (unmoved m)).member
+  no-more m ahead ticks false none b = record { none_ahead = ahead; none_ticks = ticks; no_read = none }
+  no-more m ahead ticks true due b =
+      record { none_ahead = ahead; none_ticks = ticks; no_read = none (nat_lt (m.asked + 1) m.written) _ }
+    where
+      none : (x y : Bool) → (x && false && y) ≡ false
+      none true y = refl
+      none false y = refl
+
+  read-counted : (b : WordBook) (m : MemberState) → j ≤ m.client.shape.servers → (k : Bool) →
+      (cond k (asks b m) (unmoved m)).member.written + (cond k (asks b m) (unmoved m)).member.asked
+      ≡ m.written + m.asked + length (frames_for j (cond k (asks b m) (unmoved m)).packets)
+  read-counted b m most false = omega arith
+  read-counted b m most true = let counts = asks-counted b m most in omega (arith, counts)
+
+  read-most : (b : WordBook) (m : MemberState) → j ≤ m.client.shape.servers → (k : Bool) →
+      j ≤ (cond k (asks b m) (unmoved m)).member.client.shape.servers
+  read-most b m most false = most
+  read-most b m most true = most
+
+  pub acts-puts : (b : WordBook) (m : MemberState) → j ≤ m.client.shape.servers → Puts m (acts b m)
+  unfolding acts
+  acts-puts b m most =
+      let w = words_of m.client.shape b in
+      let n = ahead_due m in
+      let from = record m { ahead = m.ahead - n } in
+      let one_on = (goes_ahead w m).member in
+      let one = wrote-so w n from in
+      let k = ticks_due one_on in
+      let next = record one_on { ticks = one_on.ticks - k } in
+      let two_on = (goes_by_ticks w one_on).member in
+      let two = wrote-so w k next in
+      let one_shape : one_on.client.shape ≡ m.client.shape = one.shape in
+      let two_shape : two_on.client.shape ≡ one_on.client.shape = two.shape in
+      let one_written : one_on.written ≡ m.written + n = one.written in
+      let two_written : two_on.written ≡ one_on.written + k = two.written in
+      let one_ahead : one_on.ahead ≡ m.ahead - n = one.ahead in
+      let two_ahead : two_on.ahead ≡ one_on.ahead = two.ahead in
+      let one_asked : one_on.asked ≡ m.asked = one.asked in
+      let two_asked : two_on.asked ≡ one_on.asked = two.asked in
+      let most_one : j ≤ one_on.client.shape.servers = subst (λ (s : Shape). j ≤ s.servers) (sym one_shape) most in
+      let most_two : j ≤ two_on.client.shape.servers = subst (λ (s : Shape). j ≤ s.servers) (sym two_shape) most_one in
+      let ahead : ahead_due two_on ≡ 0 =
+      none-left m.ahead (turn_count m.client.shape) m.written n two_on.ahead (turn_count two_on.client.shape)
+      two_on.written refl (two_ahead ∙ one_ahead) (ap turn_count (two_shape ∙ one_shape))
+      (omega (arith, one_written, two_written))
+      in
+      let ticks : ticks_due two_on ≡ 0 =
+      none-left one_on.ticks (turns_known one_on) one_on.written k two_on.ticks (turns_known two_on) two_on.written
+      refl two.ticks (known-same one_on two_on two_shape two.told) (omega (arith, two_written))
+      in
+      let due = may_ask two_on in
+      let counts = read-counted b two_on most_two due in
+      let first : length (frames_for j (goes_ahead w m).packets) ≡ n = wrote-counted w n from most in
+      let second : length (frames_for j (goes_by_ticks w one_on).packets) ≡ k = wrote-counted w k next most_one in
+      let writes = (goes_ahead w m).packets ++ (goes_by_ticks w one_on).packets in
+      let both = frames-both j (goes_ahead w m).packets (goes_by_ticks w one_on).packets in
+      let all = frames-both j writes (asks_if_due b two_on).packets in
+      record {
+        rests = no-more two_on ahead ticks due refl b;
+        most = read-most b two_on most_two due;
+        counted = omega (
+          arith,
+          one_written,
+          two_written,
+          one_asked,
+          two_asked,
+          counts,
+          first,
+          second,
+          both,
+          all,
+        );
+      }
+
+  -- ---- any packet
+
+  module _ (b : WordBook) (m : MemberState) (most : j ≤ m.client.shape.servers) where
+    abbrev pub PutsIf : Result Turned Fault → Type 0
+    PutsIf (Ok t) = Puts m t
+    PutsIf (Err fault) = Unit {0}
+
+    either : (k : Bool) (r t : Result Turned Fault) → PutsIf r → PutsIf t → PutsIf (cond k r t)
+    either true r t this that = this
+    either false r t this that = that
+
+    -- it stands so, but for what is neither counted nor its shape
+    record Alike (n : MemberState) : Type 0 where
+      pub shape : n.client.shape ≡ m.client.shape
+      pub written : n.written ≡ m.written
+      pub asked : n.asked ≡ m.asked
+
+    told-puts : (told : List PacketView) (n : MemberState) → AreToHost told → Alike n →
+        PutsIf (tells_and_acts b told n)
+    told-puts told n host like =
+        let puts = acts-puts b n (subst (λ (s : Shape). j ≤ s.servers) (sym like.shape) most) in
+        let counted = puts.counted in
+        let none : length (frames_for j told) ≡ 0 =
+        ap (λ ps. length (map (λ (p : PacketView). p.bytes) ps)) (host-alone told j low host)
+        in
+        let both = frames-both j told (acts b n).packets in
+        let written = like.written in
+        let asked = like.asked in
+        record {
+          rests = puts.rests;
+          most = puts.most;
+          counted = omega (arith, counted, none, both, written, asked);
+        }
+
+    same : Alike m
+    same = record { shape = refl; written = refl; asked = refl }
+
+    said-puts : (log : ℕ) (text : List ℕ) (o : Option SayError) → PutsIf (said b m log text o)
+    said-puts log text None = told-puts [] _ tt (record { shape = refl; written = refl; asked = refl })
+    said-puts log text (Some error) = told-puts (refused_packet log error ∷ []) m (refl, tt) same
+
+    heard-puts : (word : Option HostWord) → PutsIf (heard b m word)
+    heard-puts None = tt
+    heard-puts (Some (Say log text)) = said-puts log text (fault_of m.client.shape m.client.writing.logs log text)
+    heard-puts (Some Tick) = told-puts [] _ tt (record { shape = refl; written = refl; asked = refl })
+    heard-puts (Some (Ahead turns)) = told-puts [] _ tt (record { shape = refl; written = refl; asked = refl })
+    heard-puts (Some (Has packets)) =
+        either (nat_lt (m.written + m.asked) packets) (Err Older) (tells_and_acts b [] m) tt (told-puts [] m tt same)
+
+    settled-puts : (n : MemberState) (replies : List (List ℕ)) (o : Option TakeError) → Alike n →
+        PutsIf (settled b n replies o)
+    settled-puts n replies None like =
+        let w = words_of n.client.shape b in
+        let told = told_after w replies n in
+        told-puts told (after_settling w replies n)
+        (tell-to_host told (news-tell n.client.shape n.client.reader (after_replies w replies n.client).reader))
+        (record { shape = like.shape; written = like.written; asked = like.asked })
+    settled-puts n replies (Some error) like = tt
+
+    settled_by-puts : (n : MemberState) (o : Option (List (List ℕ))) → Alike n → PutsIf (settled_by b n o)
+    settled_by-puts n None like = told-puts [] n tt like
+    settled_by-puts n (Some replies) like = settled-puts n replies (refusal_in replies n.client) like
+
+    epoch-puts : (r : Result (List Telling) Fault) → PutsIf (told_epoch b m r)
+    epoch-puts (Ok told) = told-puts [] _ tt (record { shape = refl; written = refl; asked = refl })
+    epoch-puts (Err e) = tt
+
+    replied-puts : (k : ℕ) (reply : List ℕ) → PutsIf (replied b m k reply)
+    replied-puts k reply =
+        let now = with_reply m k reply in
+        either (is_none m.client.read || is_some (slice_index_or m.replies (k - 1) None)) (Err Peer)
+        (settled_by b now (all_of now.replies)) tt
+        (settled_by-puts now (all_of now.replies) (record { shape = refl; written = refl; asked = refl }))
+
+    served-puts : (k : ℕ) (frame : List ℕ) → PutsIf (served b m k frame)
+    served-puts k frame =
+        let kind = slice_index frame 0 in
+        let epoch = told_epoch b m (with_epoch m.client.shape m.told k frame) in
+        let other : Result Turned Fault = cond (kind == 0x0c) (Err Refused) (Err Peer) in
+        either (kind == 3) (replied b m k frame) (cond (kind == 0x0b) epoch other) (replied-puts k frame)
+        (either (kind == 0x0b) epoch other (epoch-puts (with_epoch m.client.shape m.told k frame))
+        (either (kind == 0x0c) (Err Refused) (Err Peer) tt tt))
+
+    pub step-puts : (p : PacketView) → PutsIf (step b m p)
+    unfolding step
+    step-puts p =
+        let serves : Result Turned Fault =
+        cond (nat_le p.peer m.client.shape.servers) (served b m p.peer p.bytes) (Err Peer)
+        in
+        either (p.peer == 0) (heard b m (word_in p.bytes)) serves (heard-puts (word_in p.bytes))
+        (either (nat_le p.peer m.client.shape.servers) (served b m p.peer p.bytes) (Err Peer)
+        (served-puts p.peer p.bytes) tt)

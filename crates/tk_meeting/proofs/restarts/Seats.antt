@@ -1,0 +1,155 @@
+-- What a server has of a client is what it makes of that client's frames, in whatever order clients came.
+use Rattle.std.proofs.Common.{◌≡◌, ◌≢◌, refl, ap, ap₂, sym, ◌∙◌, ℕ, ◌+◌, ◌-◌, ◌<◌, true, false, cond, arith, List, [], ◌∷◌, length, map, set}
+use Rattle.std.proofs.Common.{get_or-set_same, get_or-set_other, length-set}
+use Rattle.std.specs.Prelude.{◌==◌, Option, Some, None, slice_index, drop}
+use Rattle.std.specs.List.{AllByRecursion}
+use Rattle.std.proofs.lemmas.Bool.{eqb-true, eqb-false}
+use Rattle.std.proofs.lemmas.List.{ext_get_or, length-replicate}
+use Rattle.tk_shape.specs.declared.shape.Shape.{Shape}
+use Rattle.tk_frames.specs.Fields.{write_in, read_in}
+use Rattle.tk_packets.specs.Packets.{PacketView}
+use Rattle.tk_serve.specs.declared.refusal.Refusal.{Refusal}
+use Rattle.tk_serve.specs.Seats.{Seat, empty_seat, empty_seats, seat_of, seat_with_write, seat_with_read}
+use Rattle.tk_serve.specs.Seats.{with_write, with_read}
+use Rattle.tk_serve.specs.Refusals.{refusal_by, refusal_of}
+use Rattle.tk_serve.specs.Steps.{with_frame, step_by, step, IsOfClient}
+use Rattle.tk_serve.specs.Courses.{seats_next}
+use Rattle.tk_meeting.specs.Meeting.{frames_for, for_peer}
+use Rattle.tk_meeting.specs.Programs.{state_after, seats_from}
+use Rattle.tk_meeting.specs.Restarts.{ServersStandAgain}
+use Rattle.tk_meeting.proofs.courses.Picks.{pick, itself}
+
+-- ---- the seat of one client
+
+module _ (shape : Shape) where
+  abbrev seat_with : Seat → List ℕ → Seat
+  seat_with s bytes =
+      cond (slice_index bytes 0 == 1) (seat_with_write s (write_in shape (drop 2 bytes)))
+      (seat_with_read s (read_in shape bytes))
+
+  abbrev seat_unless : Seat → List ℕ → Option Refusal → Seat
+  seat_unless s bytes (Some refusal) = s
+  seat_unless s bytes None = seat_with s bytes
+
+  -- after a frame of its client, and after several
+  abbrev seat_next : ℕ → Seat → List ℕ → Seat
+  seat_next c s bytes =
+      seat_unless s bytes
+      (refusal_by shape (record { client = c; write = length s.writes; read = length s.reads }) bytes)
+
+  abbrev seat_by : ℕ → Seat → List (List ℕ) → Seat
+  seat_by c s [] = s
+  seat_by c s (frame ∷ frames) = seat_by c (seat_next c s frame) frames
+
+  -- ---- a frame of a client changes the seat of that client alone
+
+  module _ (seats : List Seat) (k : ℕ) (bytes : List ℕ) where
+    own-with : k < length seats → seat_of (with_frame shape seats k bytes) k ≡ seat_with (seat_of seats k) bytes
+    unfolding with_frame
+    own-with low =
+        let w = seat_with_write (seat_of seats k) (write_in shape (drop 2 bytes)) in
+        let r = seat_with_read (seat_of seats k) (read_in shape bytes) in
+        pick (λ b. seat_of (cond b (set seats k w) (set seats k r)) k ≡ cond b w r) (slice_index bytes 0 == 1)
+        (λ _. get_or-set_same seats k w empty_seat low) (λ _. get_or-set_same seats k r empty_seat low)
+
+    other-with : (d : ℕ) → d ≢ k → seat_of (with_frame shape seats k bytes) d ≡ seat_of seats d
+    unfolding with_frame
+    other-with d other =
+        let w = seat_with_write (seat_of seats k) (write_in shape (drop 2 bytes)) in
+        let r = seat_with_read (seat_of seats k) (read_in shape bytes) in
+        pick (λ b. seat_of (cond b (set seats k w) (set seats k r)) d ≡ seat_of seats d) (slice_index bytes 0 == 1)
+        (λ _. get_or-set_other seats k d w empty_seat other) (λ _. get_or-set_other seats k d r empty_seat other)
+
+    as-many-with : length (with_frame shape seats k bytes) ≡ length seats
+    unfolding with_frame
+    as-many-with =
+        let w = seat_with_write (seat_of seats k) (write_in shape (drop 2 bytes)) in
+        let r = seat_with_read (seat_of seats k) (read_in shape bytes) in
+        pick (λ b. length (cond b (set seats k w) (set seats k r)) ≡ length seats) (slice_index bytes 0 == 1)
+        (λ _. length-set seats k w) (λ _. length-set seats k r)
+
+    own-unless : (o : Option Refusal) → k < length seats →
+        seat_of (step_by shape seats k bytes o).seats k ≡ seat_unless (seat_of seats k) bytes o
+    own-unless (Some refusal) low = refl
+    own-unless None low = own-with low
+
+    other-unless : (o : Option Refusal) (d : ℕ) → d ≢ k →
+        seat_of (step_by shape seats k bytes o).seats d ≡ seat_of seats d
+    other-unless (Some refusal) d other = refl
+    other-unless None d other = other-with d other
+
+    as-many-unless : (o : Option Refusal) → length (step_by shape seats k bytes o).seats ≡ length seats
+    as-many-unless (Some refusal) = refl
+    as-many-unless None = as-many-with
+
+    own-next : k < length seats → seat_of (step shape seats k bytes).seats k ≡ seat_next k (seat_of seats k) bytes
+    unfolding step
+    own-next low = own-unless (refusal_of shape seats k bytes) low
+
+    other-next : (d : ℕ) → d ≢ k → seat_of (step shape seats k bytes).seats d ≡ seat_of seats d
+    unfolding step
+    other-next d other = other-unless (refusal_of shape seats k bytes) d other
+
+    as-many-next : length (step shape seats k bytes).seats ≡ length seats
+    unfolding step
+    as-many-next = as-many-unless (refusal_of shape seats k bytes)
+
+  -- ---- packets
+
+  abbrev seats_then : List Seat → List PacketView → List Seat
+  seats_then seats ps = state_after (seats_next shape) seats ps
+
+  as-many-then : (seats : List Seat) (ps : List PacketView) → length (seats_then seats ps) ≡ length seats
+  as-many-then seats [] = refl
+  as-many-then seats (p ∷ ps) =
+      as-many-then (seats_next shape seats p) ps ∙ as-many-next seats (p.peer - 1) p.bytes
+
+  seat-then : (seats : List Seat) (ps : List PacketView) (c : ℕ) → c < length seats →
+      AllByRecursion (IsOfClient shape) ps →
+      seat_of (seats_then seats ps) c ≡ seat_by c (seat_of seats c) (frames_for (c + 1) ps)
+  seat-then seats [] c low all = refl
+  seat-then seats (p ∷ ps) c low all =
+      let k = p.peer - 1 in
+      let next = seats_next shape seats p in
+      let rest = for_peer (c + 1) ps in
+      let more = as-many-next seats k p.bytes in
+      let first = all.0.low in
+      seat-then next ps c (omega (arith, low, more)) all.1
+      ∙ pick (λ b. seat_by c (seat_of next c) (frames_for (c + 1) ps)
+      ≡ seat_by c (seat_of seats c) (map (λ (q : PacketView). q.bytes) (cond b (p ∷ rest) rest))) (p.peer == c + 1)
+      (λ is.
+      let peer : p.peer ≡ c + 1 = eqb-true p.peer (c + 1) is in
+      let same : c ≡ k = omega (arith, peer) in
+      let own : seat_of next c ≡ seat_next c (seat_of seats c) p.bytes =
+      ap (λ d. seat_of next d) same ∙ own-next seats k p.bytes (omega (arith, same, low))
+      ∙ ap (λ d. seat_next d (seat_of seats d) p.bytes) (sym same)
+      in
+      ap (λ s. seat_by c s (frames_for (c + 1) ps)) own)
+      (λ isnt.
+      let apart : c ≢ k =
+      λ same.
+      let here : (p.peer == c + 1) ≡ (c + 1 == c + 1) =
+      ap (λ n. n == c + 1) (let is : p.peer ≡ c + 1 = omega (arith, same, first) in is)
+      in
+      let clash : true ≡ false = sym (here ∙ itself (c + 1)) ∙ isnt in
+      absurd (cc (clash))
+      in
+      ap (λ s. seat_by c s (frames_for (c + 1) ps)) (other-next seats k p.bytes c apart))
+
+-- ---- from the first packet on
+
+first-many : (shape : Shape) → length (empty_seats shape) ≡ shape.clients
+unfolding empty_seats
+first-many shape = length-replicate shape.clients empty_seat
+
+pub stand-again : ServersStandAgain
+stand-again shape before again were are same =
+    let none = empty_seats shape in
+    let one = as-many-then shape none again in
+    let other = as-many-then shape none before in
+    ext_get_or empty_seat (seats_from shape again) (seats_from shape before) (one ∙ sym other) (λ c low.
+    let there : c < length none = omega (arith, low, one) in
+    let client : c < shape.clients = omega (arith, there, first-many shape) in
+    seat-then shape none again c there are
+    ∙ ap (λ frames. seat_by shape c (seat_of none c) frames) (same c client)
+    ∙ sym (seat-then shape none before c there were))
