@@ -35,7 +35,7 @@ unfolding of_report.computing numbers chosen_sum levels_from search_end
     epoch_bytes reply_told told_in gain all_gained with_frame step wrote acts happens after_events
 computing = tt
 
-abbrev book : WordBook
+abbrev pub book : WordBook
 book = drawn tape
 
 abbrev after : List Event → Meeting

@@ -1,19 +1,16 @@
 -- A member that is begun again puts again what it put, and ends where its journal lacks what a server has of it.
-use Rattle.std.proofs.Common.{◌≡◌, refl, sym, ap, ◌∙◌, subst, arith, ℕ, ◌+◌, ◌≤◌, ◌<◌, Bool, true, false, cond, inl, inr}
-use Rattle.std.proofs.Common.{List, [], ◌∷◌, ◌++◌, length, map, append_assoc, append-nil, length-append}
-use Rattle.std.specs.Prelude.{Option, Some, None, Result, Ok, Err, nat_le, nat_lt, ◌==◌}
+use Rattle.std.proofs.Common.{◌≡◌, refl, sym, ap, ◌∙◌, subst, arith, ℕ, ◌+◌, ◌≤◌, Bool, true, false, cond, inl, inr}
+use Rattle.std.proofs.Common.{List, [], ◌∷◌, ◌++◌, length, append_assoc, append-nil, length-append}
+use Rattle.std.specs.Prelude.{Some, None, Result, Ok, Err, nat_le, nat_lt}
 use Rattle.std.specs.List.{AllByRecursion}
 use Rattle.std.specs.Simd.Lanes.{fold_l}
 use Rattle.std.proofs.lemmas.Bool.{cases_lt, eq-eqb}
 use Rattle.std.proofs.lemmas.Bool.Decides.{nat_tests}
-use Rattle.tk_shape.specs.declared.shape.Shape.{Shape}
 use Rattle.tk_script.specs.declared.script.Script.{Script}
 use Rattle.tk_words.specs.Words.{WordBook}
 use Rattle.tk_packets.specs.Packets.{PacketView}
 use Rattle.tk_member.specs.declared.fault.Fault.{Fault}
 use Rattle.tk_member.specs.declared.fault.Fault.TheVariants.{Older, Peer}
-use Rattle.tk_member.specs.declared.word.HostWord.{HostWord}
-use Rattle.tk_member.specs.declared.word.HostWord.TheVariants.{Has}
 use Rattle.tk_member.specs.Words.{word_in}
 use Rattle.tk_member.specs.Members.{MemberState, is_over}
 use Rattle.tk_member.specs.Acting.{Turned, unmoved, behind, acts}
@@ -21,7 +18,7 @@ use Rattle.tk_member.specs.Steps.{tells_and_acts, heard, served, step}
 use Rattle.tk_member.specs.Courses.{behind_if, after_packet, after_packets}
 use Rattle.tk_meeting.specs.Meeting.{frames_for}
 use Rattle.tk_meeting.specs.Programs.{first_member, IsFront}
-use Rattle.tk_meeting.specs.Restarts.{PutsAgain, MembersPutAgain, Greets, IsGreeting, BeginsAgain, MembersGoOn}
+use Rattle.tk_meeting.specs.Restarts.{MembersPutAgain, Greets, IsGreeting, MembersGoOn}
 use Rattle.tk_meeting.proofs.members.Packets.{frames-append}
 use Rattle.tk_meeting.proofs.programs.Acting.{none-stands}
 use Rattle.tk_meeting.proofs.programs.Meeting.{front-of_frames}

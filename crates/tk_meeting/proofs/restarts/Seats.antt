@@ -1,16 +1,15 @@
 -- What a server has of a client is what it makes of that client's frames, in whatever order clients came.
-use Rattle.std.proofs.Common.{◌≡◌, ◌≢◌, refl, ap, ap₂, sym, ◌∙◌, ℕ, ◌+◌, ◌-◌, ◌<◌, true, false, cond, arith, List, [], ◌∷◌, length, map, set}
+use Rattle.std.proofs.Common.{◌≡◌, ◌≢◌, refl, ap, sym, ◌∙◌, ℕ, ◌+◌, ◌-◌, ◌<◌, true, false, cond, arith, List, [], ◌∷◌, length, map, set}
 use Rattle.std.proofs.Common.{get_or-set_same, get_or-set_other, length-set}
 use Rattle.std.specs.Prelude.{◌==◌, Option, Some, None, slice_index, drop}
 use Rattle.std.specs.List.{AllByRecursion}
-use Rattle.std.proofs.lemmas.Bool.{eqb-true, eqb-false}
+use Rattle.std.proofs.lemmas.Bool.{eqb-true}
 use Rattle.std.proofs.lemmas.List.{ext_get_or, length-replicate}
 use Rattle.tk_shape.specs.declared.shape.Shape.{Shape}
 use Rattle.tk_frames.specs.Fields.{write_in, read_in}
 use Rattle.tk_packets.specs.Packets.{PacketView}
 use Rattle.tk_serve.specs.declared.refusal.Refusal.{Refusal}
 use Rattle.tk_serve.specs.Seats.{Seat, empty_seat, empty_seats, seat_of, seat_with_write, seat_with_read}
-use Rattle.tk_serve.specs.Seats.{with_write, with_read}
 use Rattle.tk_serve.specs.Refusals.{refusal_by, refusal_of}
 use Rattle.tk_serve.specs.Steps.{with_frame, step_by, step, IsOfClient}
 use Rattle.tk_serve.specs.Courses.{seats_next}

@@ -1,5 +1,5 @@
 -- What a server told a client is a front of what it tells it once all came.
-use Rattle.std.proofs.Common.{◌≡◌, ◌≢◌, refl, sym, ap, ◌∙◌, subst, arith, ℕ, zero, suc, ◌+◌, ◌≤◌, ◌<◌, true, false, cond}
+use Rattle.std.proofs.Common.{◌≡◌, refl, sym, ap, ◌∙◌, subst, arith, ℕ, zero, suc, ◌+◌, ◌≤◌, ◌<◌, cond}
 use Rattle.std.proofs.Common.{List, [], ◌∷◌, ◌++◌, length, map, drop, flat_map, eq-eqb}
 use Rattle.std.specs.Prelude.{◌==◌}
 use Rattle.std.specs.List.{range_with_len, AllByRecursion}
@@ -9,7 +9,7 @@ use Rattle.tk_shape.specs.declared.shape.Shape.{Shape}
 use Rattle.tk_frames.specs.Laws.{AreBytes}
 use Rattle.tk_script.proofs.FeedLaws.{all-append}
 use Rattle.tk_packets.specs.Packets.{PacketView}
-use Rattle.tk_serve.specs.Seats.{Seat, empty_seats}
+use Rattle.tk_serve.specs.Seats.{empty_seats}
 use Rattle.tk_serve.specs.Steps.{IsOfClient, packets_to}
 use Rattle.tk_serve.specs.Laws.{Comes}
 use Rattle.tk_serve.specs.Told.{told}
