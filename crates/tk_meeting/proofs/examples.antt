@@ -1,3 +1,4 @@
 pub mod Orders
 pub mod Liars
 pub mod Restarts
+pub mod Lives

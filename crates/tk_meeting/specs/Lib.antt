@@ -13,3 +13,4 @@ pub mod Matched
 pub mod Adaptive
 pub mod Programs
 pub mod Restarts
+pub mod Lives
