@@ -68,12 +68,33 @@ impl Keeper for Changer {
     }
 }
 
-/// What is left of the run that begins anew at an epoch, where the servers from a number on are given a changed byte.
-fn left(
+/// Gives each server one text, whatever it keeps.
+#[derive(Drop)]
+struct Stubborn {
+    kept: Vec<Bytes>,
+    text: Vec<u8>,
+}
+
+impl Keeper for Stubborn {
+    ghost kept = { λ k. k.kept.items };
+
+    ghost gives = { λ k _. k.text.items };
+
+    fn keep(&mut self, alloc: Global, bytes: &[u8]) -> Result<(), Memory> {
+        self.kept.push(Bytes::from_slice(alloc, bytes)?)?;
+        Ok(())
+    }
+
+    fn give(&self, alloc: Global, _server: u32) -> Result<Vec<u8>, Memory> {
+        Ok(Vec::from_slice(alloc, self.text.as_slice())?)
+    }
+}
+
+/// What is left of the run that begins anew at an epoch.
+fn left<K: Keeper>(
     alloc: Global,
     epoch: u32,
-    at: usize,
-    from: u32,
+    keeper: &mut K,
 ) -> Result<Result<Ended, ResumeError>, Fail> {
     let Ok(
         Input {
@@ -88,17 +109,21 @@ fn left(
     let Ok(Book::Drawn(draws)) = script.book(alloc, tape) else {
         return Err(Fail::from("drawn words"));
     };
-    let mut keeper = Changer {
+    if epoch > script.shape.phases {
+        return Err(Fail::from("an epoch"));
+    }
+    Ok(resumed_by(alloc, &script, &draws, &mut NoTaps, epoch, keeper))
+}
+
+/// What keeps nothing yet, and will change a byte for the servers from a number on.
+fn changing(alloc: Global, at: usize, from: u32) -> Changer {
+    Changer {
         kept: Vec::new(alloc),
         own: Vec::new(alloc),
         changed: Vec::new(alloc),
         at,
         from,
-    };
-    if epoch > script.shape.phases {
-        return Err(Fail::from("an epoch"));
     }
-    Ok(resumed_by(alloc, &script, &draws, &mut NoTaps, epoch, &mut keeper))
 }
 
 /// How many numbers of the log client 1 got.
@@ -115,7 +140,7 @@ fn got(ended: &Ended) -> usize {
 fn changed_checkpoints(rt: HostRuntime) -> Result<(), Fail> {
     let alloc = rt.alloc();
     for (epoch, from, want) in [(1, 3, 1), (1, 1, 0), (1, 2, 0), (0, 1, 1), (2, 1, 1)] {
-        let Ok(ended) = left(alloc, epoch, SEALED, from)? else {
+        let Ok(ended) = left(alloc, epoch, &mut changing(alloc, SEALED, from))? else {
             return Err(Fail::from("a run"));
         };
         assert!(rt; got(&ended) == want, "from {epoch}, {from} on changed");
@@ -128,8 +153,28 @@ fn changed_checkpoints(rt: HostRuntime) -> Result<(), Fail> {
 fn foreign_texts(rt: HostRuntime) -> Result<(), Fail> {
     let alloc = rt.alloc();
     for at in [0, 4, 64, 68, 72] {
-        let refused = matches!(left(alloc, 1, at, 1)?, Err(ResumeError::Refused));
+        let ended = left(alloc, 1, &mut changing(alloc, at, 1))?;
+        let refused = matches!(ended, Err(ResumeError::Refused));
         assert!(rt; refused, "byte {at} changed");
+    }
+    Ok(())
+}
+
+/// So is the checkpoint of another epoch, since that has other numbers of entries and marks.
+#[test]
+fn other_checkpoints(rt: HostRuntime) -> Result<(), Fail> {
+    let alloc = rt.alloc();
+    for (made, epoch) in [(0, 1), (1, 0), (1, 2), (2, 1)] {
+        let mut keeper = changing(alloc, 0, 9);
+        let Ok(_) = left(alloc, made, &mut keeper)? else {
+            return Err(Fail::from("a run"));
+        };
+        let mut other = Stubborn {
+            kept: Vec::new(alloc),
+            text: keeper.own,
+        };
+        let refused = matches!(left(alloc, epoch, &mut other)?, Err(ResumeError::Refused));
+        assert!(rt; refused, "from {made} at {epoch}");
     }
     Ok(())
 }
