@@ -17,6 +17,8 @@ mod gate_tests;
 #[cfg(test)]
 mod group_tests;
 #[cfg(test)]
+mod kind_tests;
+#[cfg(test)]
 mod refusal_tests;
 #[cfg(test)]
 mod relay_tests;
