@@ -7,6 +7,7 @@ mod differs;
 mod field;
 mod lengths;
 mod lifting;
+mod limits;
 mod memory;
 mod shape;
 mod words;

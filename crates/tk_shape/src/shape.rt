@@ -1,8 +1,7 @@
-ghost use Rattle.std.specs.Prelude.{◌≡◌, ◌≤◌, IfOk, IfErr, OnOk, Some, None, Err, false};
+ghost use Rattle.std.specs.Prelude.{◌≡◌, ◌≤◌, IfOk, IfErr, OnOk, Some, None, false};
 ghost use Rattle.tk_shape.specs.Ranges.{IsShape};
-ghost use Rattle.tk_shape.specs.Ranges as ranges;
 
-use crate::Field;
+use crate::{Field, limits};
 
 /// What fixes a run: its format, and its numbers.
 #[derive(Clone, Copy, Debug, PartialEq, Eq)]
@@ -67,6 +66,7 @@ impl Shape {
         ensures kept { OnOk result (broken (numbers_in format numbers) ≡ None) }
         ensures broken { IfErr result (λ e. broken (numbers_in format numbers) ≡ Some (limit e.field e.value false)) }
     {
+        limits::keep(format, &numbers)?;
         let [
             servers,
             buckets,
@@ -81,57 +81,6 @@ impl Shape {
             ticks,
             logs,
         ] = numbers;
-        if servers < 2 || servers > 8 {
-            return breaks(Field::Servers, servers);
-        }
-        if !buckets.is_power_of_two() || buckets < 8 || buckets > most_buckets(format) {
-            return breaks(Field::Buckets, buckets);
-        }
-        if depth < 1 || depth > 8 {
-            return breaks(Field::Depth, depth);
-        }
-        if retained < 1 || retained > buckets * depth {
-            return breaks(Field::Retained, retained);
-        }
-        if block < 24 || block > 1024 {
-            return breaks(Field::Block, block);
-        }
-        if !filter_bits.is_power_of_two() || filter_bits < 64 || filter_bits > 65536 {
-            return breaks(Field::Filter, filter_bits);
-        }
-        if hits < 1 || hits > 4 {
-            return breaks(Field::Hits, hits);
-        }
-        if ahead > 8 {
-            return breaks(Field::Ahead, ahead);
-        }
-        if clients < 1 || clients > 64 {
-            return breaks(Field::Clients, clients);
-        }
-        if phases < 1 || phases > 256 {
-            return breaks(Field::Phases, phases);
-        }
-        if ticks < 1 || ticks > 64 {
-            return breaks(Field::Ticks, ticks);
-        }
-        if logs < 1 || logs > 256 {
-            return breaks(Field::Logs, logs);
-        }
-        let schedule = clients * phases * ticks;
-        if schedule > 65000 {
-            return breaks(Field::Schedule, schedule);
-        }
-        let table = buckets * depth * (16 + block);
-        if table > 4194304 {
-            return breaks(Field::Table, table);
-        }
-        let work = u64::from(schedule) * u64::from(servers) * u64::from(table);
-        if work > 34359738368 {
-            return Err(ShapeError {
-                field: Field::Work,
-                value: work,
-            });
-        }
         Ok(Shape {
             format,
             servers,
@@ -183,21 +132,4 @@ impl Shape {
             logs,
         ]
     }
-}
-
-/// Format 2 has more: over keys it sends most servers seeds in place of vectors, which grow with the buckets.
-fn most_buckets(format: u32) -> u32
-    ensures value { result ≡ ranges.most_buckets format }
-    ensures most { result ≤ 16384 }
-{
-    if format == 2 { 16384 } else { 4096 }
-}
-
-fn breaks(field: Field, value: u32) -> Result<Shape, ShapeError>
-    ensures { result ≡ Err (record { field = field; value = value }) }
-{
-    Err(ShapeError {
-        field,
-        value: u64::from(value),
-    })
 }
