@@ -1,8 +1,7 @@
 //! A member: its keys, and the client that writes its log and follows all.
 ghost use Rattle.std.specs.Prelude.{◌≡◌, IfOk};
-ghost use Rattle.std.specs.Prelude.{◌+◌, ◌∷◌, [], OnOk};
+ghost use Rattle.std.specs.Prelude.{◌+◌, OnOk};
 ghost use Rattle.std.specs.List.{range_with_len};
-ghost use Rattle.tk_client.specs.Client.{new_client};
 ghost use Rattle.tk_client.specs.Reader.{got_in};
 ghost use Rattle.tk_client.specs.Writing.{after_write, with_text};
 

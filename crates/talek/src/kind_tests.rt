@@ -1,6 +1,5 @@
 //! Each form of the words over each kind of input that it takes: words that are drawn and words of keys, either format,
 //! two servers and three. That memory ran out is said by no contract to be wrong, so that only a run shows what is done.
-ghost use Rattle.std.specs.Prelude.{◌≡◌};
 
 use crate::testing::{REPORT, joined, retold, tried};
 use sha2::{Digest, Sha256};

@@ -1,11 +1,10 @@
 -- The positions of a window that slots have.
 use Rattle.std.proofs.Common.{◌≡◌, ◌≢◌, ℕ, zero, suc, ◌+◌, ◌<◌, ◌≤◌, Bool, true, false, List, [], ◌∷◌, ◌++◌}
 use Rattle.std.proofs.Common.{length, get_or, set, replicate, refl, sym, ap, ap₂, ◌∙◌, arith, eq-eqb}
-use Rattle.std.specs.Prelude.{◌==◌, ◌||◌, ◌&&◌, not}
+use Rattle.std.specs.Prelude.{◌==◌, ◌||◌}
 use Rattle.std.specs.List.{list_any}
 use Rattle.std.proofs.lemmas.Bool.{ne_eqb}
-use Rattle.std.proofs.lemmas.List.{get_or-map}
-use Rattle.std.proofs.lemmas.List.Folds.{list_any-append, list_any_at}
+use Rattle.std.proofs.lemmas.List.Folds.{list_any-append}
 use Rattle.tk_table.specs.Table.{Slot}
 use Rattle.tk_table.specs.Restoring.{AreAscending}
 use Rattle.tk_checkpoint.specs.Sound.{has_slot}
@@ -76,26 +75,9 @@ no_flags (p ∷ ps) = ap (λ bs. false ∷ bs) (no_flags ps)
 
 -- ---- what a search tells
 
--- the flag at a place is that of the position there
-pub flag_at : (ps : List ℕ) (earlier : List Slot) (i x : ℕ) → i < length ps → get_or ps i 0 ≡ x →
-    get_or (flags ps earlier) i false ≡ has_slot earlier x
-flag_at ps earlier i x low is = get_or-map (has_slot earlier) ps i 0 false low ∙ ap (has_slot earlier) is
-
-pub is_named : (ps : List ℕ) (i x : ℕ) → i < length ps → get_or ps i 0 ≡ x → list_any (λ p. p == x) ps ≡ true
-is_named ps i x low is = list_any_at (λ p. p == x) ps i 0 low (eq-eqb (get_or ps i 0) x is)
-
 pub is_unnamed : (ps : List ℕ) (x : ℕ) → ((i : ℕ) → i < length ps → get_or ps i 0 ≢ x) →
     list_any (λ p. p == x) ps ≡ false
 is_unnamed [] x none = refl
 is_unnamed (p ∷ ps) x none =
     ap₂ (λ a b. a || b) (ne_eqb p x (none 0 (omega arith)))
     (is_unnamed ps x (λ i low. none (suc i) (omega (arith, low))))
-
--- a position that was found before isn't new, and one that wasn't is
-pub is_new : (ps : List ℕ) (earlier : List Slot) (found : List Bool) (i x : ℕ) (before : Bool) → i < length ps →
-    get_or ps i 0 ≡ x → found ≡ flags ps earlier → get_or found i false ≡ before →
-    not before ≡ (list_any (λ p. p == x) ps && not (has_slot earlier x))
-is_new ps earlier found i x before low is told there =
-    let known : has_slot earlier x ≡ before =
-    sym (flag_at ps earlier i x low is) ∙ ap (λ fs. get_or fs i false) (sym told) ∙ there in
-    sym (ap₂ (λ a b. a && not b) (is_named ps i x low is) known)

@@ -13,7 +13,7 @@ use Rattle.tk_checkpoint.specs.declared.error.RestoreError.TheVariants as refusa
 use Rattle.tk_checkpoint.specs.Saved.{head_len, table_len}
 use Rattle.tk_checkpoint.specs.Reading.{numbers_in, applied_in, last_in, count_in}
 use Rattle.tk_checkpoint.specs.Sound.{check, first_refusal, head_checks, start_checks, shape_checks, number_checks}
-use Rattle.tk_checkpoint.specs.Sound.{is_magic, is_last, most_applied, count_due, length_due, restore_checks, window_checks, slot_checks}
+use Rattle.tk_checkpoint.specs.Sound.{is_magic, is_last, most_applied, count_due, length_due}
 use Rattle.tk_checkpoint.proofs.Checking.{none-both, none-first}
 
 -- the numbers in front pass their checks
@@ -75,9 +75,3 @@ pub few : (shape : Shape) (bytes : List ℕ) → StandsHead shape bytes → coun
 few shape bytes stands = omega (arith, stands.count, min-le_left shape.retained (applied_in bytes - last_in bytes))
 
 -- ---- the three parts of the checks
-
-pub head_passed : (shape : Shape) (bytes : List ℕ) → first_refusal (restore_checks shape bytes) ≡ None →
-    first_refusal (head_checks shape bytes) ≡ None
-head_passed shape bytes none =
-    (none-both (head_checks shape bytes) (window_checks shape bytes)
-    (none-both (head_checks shape bytes ++ window_checks shape bytes) (slot_checks shape bytes) none).0).0

@@ -3,7 +3,6 @@ use Rattle.std.proofs.Common.{◌≡◌, ℕ, zero, suc, ◌+◌, ◌*◌, ◌<�
 use Rattle.std.proofs.Common.{refl, sym, ap, ◌∙◌, subst, arith, inl, inr}
 use Rattle.std.proofs.lemmas.Bool.{cases_lt}
 use Rattle.std.proofs.lemmas.List.{drop-drop}
-use Rattle.std.proofs.lemmas.Nat.{row_fits}
 use Rattle.tk_frames.specs.Fields.{long_at}
 use Rattle.tk_table.specs.Restoring.{AreAscending}
 use Rattle.tk_checkpoint.specs.Reading.{positions_from}
@@ -26,13 +25,6 @@ position_at hits (suc count) (suc i) bytes low =
     position_at hits count i (drop len bytes) (omega (arith, low))
     ∙ ap (λ ys. long_at 0 ys) (drop-drop (i * len) len bytes)
     ∙ ap (λ n. long_at n bytes) more
-
--- a write ends within the bytes
-pub write_within : (hits count i : ℕ) (bytes : List ℕ) → i < count → count * (8 + 4 * hits) ≤ length bytes →
-    i * (8 + 4 * hits) + 8 ≤ length bytes
-write_within hits count i bytes low long =
-    let ends = row_fits i (8 + 4 * hits) count (8 + 4 * hits) low (omega arith) in
-    omega (arith, ends, long)
 
 -- ---- a search among positions that ascend
 

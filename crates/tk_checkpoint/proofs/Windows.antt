@@ -17,12 +17,6 @@ use Rattle.tk_checkpoint.specs.Sound.{first_refusal, is_sound_write, window_chec
 one_of : (count at : ℕ) → at < count → count - at ≡ suc (count - (at + 1))
 one_of count at low = omega arith
 
--- room for those that are left is room for one, and behind it for the others
-pub room_for_one : (count at len : ℕ) (rest : List ℕ) → at < count → (count - at) * len ≤ length rest → len ≤ length rest
-room_for_one count at len rest low long =
-    let one : (count - at) * len ≡ len + (count - (at + 1)) * len = ap (λ n. n * len) (one_of count at low) ∙ omega arith in
-    omega (arith, one, long)
-
 pub room_for_others : (count at len : ℕ) (rest next : List ℕ) → at < count → (count - at) * len ≤ length rest →
     next ≡ drop len rest → (count - (at + 1)) * len ≤ length next
 room_for_others count at len rest next low long is =

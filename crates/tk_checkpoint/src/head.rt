@@ -1,5 +1,5 @@
 //! The numbers in front of a checkpoint.
-ghost use Rattle.std.specs.Prelude.{◌≡◌, ◌+◌, ◌≤◌, ◌∷◌, [], length, find, OnOk};
+ghost use Rattle.std.specs.Prelude.{◌≡◌, ◌+◌, ◌≤◌, length, find, OnOk};
 ghost use Rattle.std.specs.Result.{result_err};
 ghost use Rattle.tk_shape.specs.Numbers.{format_and_numbers};
 ghost use Rattle.tk_shape.specs.Differences.{fields, side_by_side, are_apart};

@@ -1,5 +1,5 @@
 //! The parts of an input of two scripts, for the words that hide a server.
-ghost use Rattle.std.specs.Prelude.{◌≡◌, ◌++◌, IfOk, IfErr};
+ghost use Rattle.std.specs.Prelude.{◌≡◌, IfOk, IfErr};
 ghost use Rattle.tk_script.specs.Printing.{printed_tape};
 ghost use Rattle.tk_cli.specs.Hidings.{IsHiding, IsOfTwo};
 ghost use Rattle.tk_cli.specs.Inputs.{IsOfRefusal, hiding_refusal};

@@ -1,8 +1,6 @@
 //! The word `lift`: an input's script in format 2, and the tape of a drawn one.
-ghost use Rattle.std.specs.Prelude.{◌≡◌, ◌≤◌, ℕ, List, None, Some, IsSome, IfOk, IfErr, Err};
+ghost use Rattle.std.specs.Prelude.{◌≡◌, ◌≤◌, ℕ, List, None, IsSome, IfOk, IfErr, Err};
 ghost use Rattle.tk_io.specs.Content.{TakesUpTo};
-ghost use Rattle.tk_script.specs.Lifting.{lifted_script};
-ghost use Rattle.tk_script.specs.Printing.{printed};
 ghost use Rattle.tk_cli.specs.Endings.{IsAnswer, IsMade, IsLiftedText};
 ghost use Rattle.tk_cli.specs.Inputs.{IsSpelled, Refuses, Stops};
 ghost use Rattle.tk_cli.specs.Limits.{input_limit};

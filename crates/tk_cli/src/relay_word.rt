@@ -8,7 +8,6 @@ ghost use Rattle.tk_words.specs.Book.{shape_of, words_in};
 ghost use Rattle.tk_report.specs.Exchange.{bytes_of};
 ghost use Rattle.tk_report.specs.Outcomes.{IsLeftBy};
 ghost use Rattle.tk_relay.specs.Relayed.{relayed_exchange, seeds_of};
-ghost use Rattle.tk_script.specs.declared.keys.Keys.{Keys};
 ghost use Rattle.tk_cli.specs.Endings.{Ends};
 ghost use Rattle.tk_cli.specs.Inputs.{HasBookOfKeys};
 ghost use Rattle.tk_cli.specs.Outside.{outside};

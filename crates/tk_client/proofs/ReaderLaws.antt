@@ -49,14 +49,6 @@ first_some-later f i n within gives =
     let later = first_some f (range_with_len (i + 1) (n - (i + 1))) in
     first_some-next f i n within ∙ ap (λ o. option_or o later) gives
 
--- past n there are none
-pub first_some-past : {Y : Type 0} (f : ℕ → Option Y) (i n : ℕ) →
-    n ≤ i → first_some f (range_with_len i (n - i)) ≡ None
-first_some-past f i n past = ap (λ k. first_some f (range_with_len i k)) none
-  where
-    none : n - i ≡ 0
-    none = omega arith
-
 -- ---- a new epoch
 
 -- nothing counts as tried of the first so many logs

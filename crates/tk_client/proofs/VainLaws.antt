@@ -1,28 +1,26 @@
 -- Why a search that found nothing finds nothing again.
 use Rattle.std.proofs.Common.{◌≡◌, ◌∙◌, refl, sym, ap, ap₂, subst, arith, inl, inr}
 use Rattle.std.proofs.Common.{ℕ, zero, suc, ◌+◌, ◌-◌, ◌<◌, ◌≤◌, nat_lt, Bool, true, false, cond, ◌&&◌}
-use Rattle.std.proofs.Common.{List, [], ◌∷◌, length, eq-eqb}
-use Rattle.std.specs.Prelude.{IfSome, IfNone, ◌==◌, not, find, Option, Some, None, slice_set, option_map}
+use Rattle.std.proofs.Common.{List, [], ◌∷◌, length}
+use Rattle.std.specs.Prelude.{◌==◌, not, find, Option, Some, None, option_map}
 use Rattle.std.specs.List.{range_with_len}
 use Rattle.std.specs.Option.{option_or}
 use Rattle.std.proofs.lemmas.Bool.{cond-false, le-ltb, cases_lt}
-use Rattle.std.proofs.lemmas.List.{get_or-set_other}
 use Rattle.tk_frames.specs.Lists.{first_some}
 use Rattle.tk_shape.specs.declared.shape.Shape.{Shape}
 use Rattle.tk_shape.specs.Lengths.{turn_count}
 use Rattle.tk_words.specs.Words.{WordBook, words_of}
 use Rattle.tk_bloom.specs.Filters.{all_marked}
 use Rattle.tk_client.specs.declared.positions.Origin.{Origin}
-use Rattle.tk_client.specs.declared.vain_search.VainSearch.{VainSearch}
 use Rattle.tk_client.specs.Asked.{shown_by}
 use Rattle.tk_client.specs.Positions.{IsOrigin, IsOriginOrNone, IsOriginOf}
 use Rattle.tk_client.specs.Reader.{Follow, Reader, Target, next_of, wanted, follow_in, number_ahead}
 use Rattle.tk_client.specs.Reader.{target, target_in, at_epoch}
 use Rattle.tk_client.specs.Searching.{is_wanted, follows_anew}
 use Rattle.tk_client.specs.Vain.{shown_from, NoneShown, ShowsNothing, ShowNothing, origin_in}
-use Rattle.tk_client.specs.Vain.{AreSameOutside, AreOrigins, IsVain, IsVainOrNone}
+use Rattle.tk_client.specs.Vain.{AreSameOutside, AreOrigins}
 use Rattle.tk_client.proofs.FollowLaws.{find-none}
-use Rattle.tk_client.proofs.ReaderLaws.{target-anew, length-anew}
+use Rattle.tk_client.proofs.ReaderLaws.{target-anew}
 
 -- ---- one log
 
@@ -150,75 +148,6 @@ one-more-same old mid new from place reached so_far same i (inl below) =
 one-more-same old mid new from place reached so_far same i (inr above) =
     same i (inr above) ∙ so_far i (inr (omega (arith, above)))
 
--- from a place on, and then those before it
-pub both-vain : (turns ahead : ℕ) (marks : List Bool) (fs : List Follow)
-    (mid new : List (Option Origin)) (place count : ℕ) →
-    ShowNothing turns ahead marks mid fs place count → AreSameOutside 0 place mid new →
-    ShowNothing turns ahead marks new fs 0 place →
-    ShowNothing turns ahead marks new fs 0 count
-both-vain turns ahead marks fs mid new place count behind same before i low high =
-    elim (cases_lt i place) [
-      | inl below ↦ before i low below
-      | inr above ↦
-          subst (λ (o : Option Origin). ShowsNothing turns ahead marks o (follow_in fs i))
-          (sym (same i (inr above))) (behind i above high)
-    ]
-
-pub same-outside-set : (os : List (Option Origin)) (place : ℕ) (o : Option Origin) →
-    AreSameOutside place (place + 1) os (slice_set os place o)
-same-outside-set os place o i (inl below) =
-    get_or-set_other os place i o None (λ same. absurd (omega (arith, same, below)))
-same-outside-set os place o i (inr above) =
-    get_or-set_other os place i o None (λ same. absurd (omega (arith, same, above)))
-
 -- ---- where positions come from
 
-pub one-more-origin : (shape : Shape) (b : WordBook) (fs : List Follow) (os : List (Option Origin))
-    (place : ℕ) → AreOrigins shape b fs os place →
-    IsOriginOf shape b (follow_in fs place).log (origin_in os place) →
-    AreOrigins shape b fs os (place + 1)
-one-more-origin shape b fs os place so_far here i within =
-    elim (cases_lt i place) [
-      | inl below ↦ so_far i below
-      | inr above ↦
-          let is : place ≡ i = omega (arith, above, within) in
-          subst (λ k. IsOriginOf shape b (follow_in fs k).log (origin_in os k)) is here
-    ]
-
 -- ---- what a reader keeps of a search
-
-pub vain-kept : (fs : List Follow) (os : List (Option Origin)) (last : ℕ) (search : VainSearch)
-    (found : Option Target) (vain : Option VainSearch) →
-    IfSome vain (λ v. found ≡ None) → IfSome vain (λ v. v ≡ search) →
-    IfNone found (ShowNothing search.turns search.ahead search.filter os
-    (follows_anew (not (search.epoch == last)) fs) 0 (length fs)) →
-    IsVainOrNone fs os last vain
-vain-kept fs os last search found None none is shows = tt
-vain-kept fs os last search found (Some v) none is shows =
-    let nothing =
-    subst (λ (o : Option Target). IfNone o (ShowNothing search.turns search.ahead search.filter os
-    (follows_anew (not (search.epoch == last)) fs) 0 (length fs))) none shows
-    in
-    subst (λ (w : VainSearch). IsVain fs os last w) (sym is) nothing
-
--- after a read over its epoch that is for nothing
-pub vain-renewed : (fs new : List Follow) (os : List (Option Origin)) (last e : ℕ)
-    (old vain : Option VainSearch) → new ≡ follows_anew (not (e == last)) fs →
-    IfSome vain (λ v. (v.epoch ≡ e) × (old ≡ Some v)) → IsVainOrNone fs os last old →
-    IsVainOrNone new os e vain
-vain-renewed fs new os last e old None renewed is before = tt
-vain-renewed fs new os last e old (Some v) renewed is before =
-    let shows = subst (λ (o : Option VainSearch). IsVainOrNone fs os last o) is.1 before in
-    let known = follows_anew (not (v.epoch == last)) fs in
-    let same : known ≡ new =
-    ap (λ k. follows_anew (not (k == last)) fs) is.0 ∙ sym renewed
-    in
-    let now : follows_anew (not (v.epoch == e)) new ≡ new =
-    ap (λ b. follows_anew (not b) new) (eq-eqb v.epoch e is.0)
-    in
-    let counted : length fs ≡ length new =
-    sym (length-anew (not (v.epoch == last)) fs) ∙ ap length same
-    in
-    λ i low high.
-    subst (λ (gs : List Follow). ShowsNothing v.turns v.ahead v.filter (origin_in os i) (follow_in gs i))
-    (same ∙ sym now) (shows i low (omega (arith, high, counted)))

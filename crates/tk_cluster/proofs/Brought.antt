@@ -1,5 +1,5 @@
 -- What errands have brought, one after the other.
-use Rattle.std.proofs.Common.{◌≡◌, ℕ, ◌+◌, ◌<◌, List, [], ◌∷◌, ◌++◌, All, length, take, drop, refl, ap, ◌∙◌, subst, arith, length-append, append-nil}
+use Rattle.std.proofs.Common.{◌≡◌, ℕ, ◌+◌, List, [], ◌∷◌, ◌++◌, All, length, take, drop, refl, ap, ◌∙◌, subst, arith, length-append, append-nil}
 use Rattle.std.specs.Prelude.{IfOk, Result, Ok}
 use Rattle.std.proofs.lemmas.List.{get_or_append_left, get_or_push, drop_all, take_all}
 use Rattle.std.proofs.lemmas.List.Elements.{All-push, All-same}

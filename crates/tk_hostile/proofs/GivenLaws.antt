@@ -1,7 +1,7 @@
 -- Sums in a list, by turn, client and server.
 use Rattle.std.proofs.Common.{◌≡◌, refl, ap, ap₂, sym, ◌∙◌, arith, add-mul, Bool, true, false, cond}
-use Rattle.std.proofs.Common.{ℕ, zero, suc, ◌+◌, ◌-◌, ◌*◌, ◌/◌, ◌<◌, ◌≤◌, List, length, set, Option, Some, None}
-use Rattle.std.specs.Prelude.{◌==◌, nat_lt, nat_le, ◌&&◌, slice_index_or, replicate}
+use Rattle.std.proofs.Common.{ℕ, ◌+◌, ◌-◌, ◌*◌, ◌/◌, ◌<◌, ◌≤◌, List, length, set, Option, Some, None}
+use Rattle.std.specs.Prelude.{◌==◌, nat_lt, nat_le, ◌&&◌, slice_index_or}
 use Rattle.std.proofs.lemmas.Bool.{and_parts, eqb-true, eq-eqb, ltb-true, lt-ltb, leb-true, le-leb}
 use Rattle.std.proofs.lemmas.Bool.{false≢true, false_from_ne_true}
 use Rattle.std.proofs.lemmas.List.{get_or-set_same, get_or-set_other}
@@ -11,7 +11,7 @@ use Rattle.tk_shape.specs.Lengths.{turn_count}
 use Rattle.tk_words.specs.CellLaws.{place_within}
 use Rattle.tk_hostile.specs.declared.sums.Sums.{Sums}
 use Rattle.tk_hostile.specs.Given.{given_count, is_in, place_of, sums_or_zeros, zero_sums, listed}
-use Rattle.tk_hostile.specs.Given.{none_chosen, with_sums}
+use Rattle.tk_hostile.specs.Given.{with_sums}
 
 -- ---- places in rows of rows
 
@@ -155,35 +155,3 @@ module _ (shape : Shape) (list : List (Option Sums)) (g c j : ℕ) (sums : Sums)
             ] refl
 
 -- ---- what is listed
-
-get_or-none : (count n : ℕ) → let none : List (Option Sums) = replicate count None in
-    slice_index_or none n None ≡ None
-get_or-none zero n = refl
-get_or-none (suc count) zero = refl
-get_or-none (suc count) (suc n) = get_or-none count n
-
--- no sums
-pub listed-none : (shape : Shape) (count : ℕ) →
-    listed shape (replicate count None) ≡ none_chosen shape
-listed-none shape count = λ i g c j. at g c j i
-  where
-    at : (g c j : ℕ) → listed shape (replicate count None) g c j ≡ zero_sums shape
-    at g c j =
-        elim (is_in shape g c j) as (λ b.
-        cond b (sums_or_zeros shape (slice_index_or (replicate count None) (place_of shape g c j) None))
-        (zero_sums shape) ≡ zero_sums shape) [
-          | true ↦ ap (sums_or_zeros shape) (get_or-none count (place_of shape g c j))
-          | false ↦ refl
-        ]
-
--- those at a place
-pub listed-at : (shape : Shape) (list : List (Option Sums)) (g c j : ℕ) → g < turn_count shape →
-    c < shape.clients → 1 ≤ j → j ≤ shape.servers →
-    listed shape list g c j
-    ≡ sums_or_zeros shape (slice_index_or list (place_of shape g c j) None)
-listed-at shape list g c j turn client low high =
-    let is : IsIn shape g c j =
-    record { turn_in = turn; client_in = client; low = low; high = high }
-    in
-    ap (λ b. cond b (sums_or_zeros shape (slice_index_or list (place_of shape g c j) None))
-    (zero_sums shape)) (from-in shape g c j is)

@@ -6,7 +6,7 @@ use Rattle.std.proofs.lemmas.Bool.{eqb-true}
 use Rattle.tk_shape.specs.declared.shape.Shape.{Shape}
 use Rattle.tk_shape.specs.Lengths.{tape_len}
 use Rattle.tk_script.specs.declared.script.Script.{Script}
-use Rattle.tk_words.specs.Words.{BookWords, drawn, words_of, write_cell, cell_write}
+use Rattle.tk_words.specs.Words.{drawn, words_of, write_cell, cell_write}
 use Rattle.tk_frames.specs.declared.write_frame.WriteFrame.{WriteFrame}
 use Rattle.tk_frames.specs.declared.read_frame.ReadFrame.{ReadFrame}
 use Rattle.tk_client.specs.Writes.{dummy}
@@ -101,9 +101,6 @@ module _ (clients : ℕ → Acting) (c : ℕ) (is : Acting) where
 
 module _ (S : Script) (h : ℕ) (adversary : Adversary) (n : ℕ) (u : List ℕ)
     (whole : length u ≡ tape_len S.shape) (low : 1 ≤ h) (high : h ≤ S.shape.servers) where
-  w : BookWords
-  w = words_of S.shape (drawn u)
-
   pairs : Pairs
   pairs = (under_attack S (drawn u) h adversary n).pairs
 

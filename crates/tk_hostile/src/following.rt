@@ -1,5 +1,4 @@
 ghost use Rattle.std.specs.Prelude.{◌≡◌, ◌≤◌, IfOk};
-ghost use Rattle.tk_shape.specs.Lengths.{turn_count};
 ghost use Rattle.tk_schedule.specs.Schedule.{IsLegal};
 ghost use Rattle.tk_hostile.specs.Given.{sums_at};
 ghost use Rattle.tk_hostile.specs.Wrong as told;

@@ -1,6 +1,6 @@
 //! Scripts of one shape in either format and for two servers or three, the words that they are run over, and the
 //! replies of a server that makes a text up.
-ghost use Rattle.std.specs.Prelude.{◌≡◌, ◌≤◌, length, IfOk, OnOk};
+ghost use Rattle.std.specs.Prelude.{◌≡◌, length, IfOk};
 ghost use Rattle.tk_shape.specs.Lengths.{tape_len};
 
 use std::alloc::{AllocError, Global};

@@ -5,7 +5,6 @@ pub use Rattle.tk_lists.proofs.Prefixes.{prefix_self, prefix_trans, prefix_short
 pub use Rattle.tk_lists.proofs.Prefixes.{prefix_length, prefix_get}
 -- One more number of a range.
 pub use Rattle.tk_lists.proofs.Ranges.{range-more, numbers-more, flat_map-range_more}
-pub use Rattle.tk_lists.proofs.Ranges.{flat_map-numbers_more}
 -- One more element of a list.
 pub use Rattle.tk_lists.proofs.Ends.{front-at, last-at, last-got, length-next}
 -- Elements changed one after the other.

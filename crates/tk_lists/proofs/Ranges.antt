@@ -23,7 +23,3 @@ flat_map-range_more {A} f a n j is =
     ap (flat_map f) (range-more a n j is)
     ∙ flat_map-append f (range_with_len a n) (j ∷ [])
     ∙ ap (λ (xs : List A). flat_map f (range_with_len a n) ++ xs) (append-nil (f j))
-
-pub flat_map-numbers_more : {A : Type 0} (f : ℕ → List A) (n : ℕ) →
-    flat_map f (range_with_len 0 (n + 1)) ≡ flat_map f (range_with_len 0 n) ++ f n
-flat_map-numbers_more f n = flat_map-range_more f 0 n n (zero-add n)

@@ -1,16 +1,13 @@
 -- A text's number is no greater than that of the turn in which it is written.
-use Rattle.std.proofs.Common.{◌≡◌, refl, ap, sym, subst, arith, ℕ, zero, suc, ◌+◌, ◌<◌, ◌≤◌, List, [], ◌∷◌, ◌++◌}
-use Rattle.std.proofs.Common.{length, map, drop, true, false, cond, length-append, inl, inr}
+use Rattle.std.proofs.Common.{◌≡◌, refl, ap, sym, subst, arith, ℕ, zero, suc, ◌+◌, ◌≤◌, List, [], ◌∷◌, ◌++◌}
+use Rattle.std.proofs.Common.{length, map, true, false, cond, length-append, inl, inr}
 use Rattle.std.proofs.Math.ListN.{get_or-append}
 use Rattle.std.proofs.Math.Seq.{get_or-append_seam}
 use Rattle.std.specs.Prelude.{◌==◌, All, slice_index_or}
-use Rattle.std.specs.Option.{ForSome}
 use Rattle.std.proofs.lemmas.Bool.{cases_lt}
-use Rattle.std.proofs.lemmas.Option.{slice_get_within, get_or_from_slice_get}
 use Rattle.tk_client.specs.declared.written.Written.{Written}
 use Rattle.tk_client.specs.declared.waiting.Waiting.{Waiting}
 use Rattle.tk_client.specs.Writing.{Writing, unwritten, count_of, one_more_of, with_text}
-use Rattle.tk_client.specs.Writing.{first_waiting, after_write}
 use Rattle.tk_client.specs.Client.{ClientState}
 use Rattle.tk_member.specs.Pacing.{IsPaced, IsFresh}
 
@@ -85,31 +82,3 @@ paced-said turn log text w paced =
           in
           omega (arith, more, longer);
     }
-
--- the rest is written a turn later
-paced-rest : (turn : ℕ) (logs : List Written) (waiting : List Waiting) →
-    IsPaced turn (record { logs = logs; waiting = waiting }) →
-    IsPaced (turn + 1) (record { logs = logs; waiting = drop 1 waiting })
-paced-rest turn logs [] paced =
-    record {
-      waits = λ i d low. absurd (omega (arith, low));
-      counts = λ i f low. omega (arith, paced.counts i f low);
-    }
-paced-rest turn logs (y ∷ waiting) paced =
-    record {
-      waits = λ i d low.
-          omega (arith, paced.waits (suc i) d (omega (arith, low)));
-      counts = λ i f low. omega (arith, paced.counts i f low);
-    }
-
-pub paced-written : (turn : ℕ) (w : Writing) → IsPaced turn w → IsPaced (turn + 1) (after_write w)
-paced-written turn w paced = paced-rest turn w.logs w.waiting paced
-
--- the text that is written has the number of a turn
-pub number-in : (turn count : ℕ) (w : Writing) → IsPaced turn w → turn < count →
-    ForSome (first_waiting w) (λ y. y.number < count)
-number-in turn count w paced low = λ y e.
-    let there : 0 < length w.waiting = slice_get_within w.waiting 0 y e in
-    let is : slice_index_or w.waiting 0 y ≡ y = get_or_from_slice_get w.waiting 0 y y e in
-    let most : (slice_index_or w.waiting 0 y).number ≤ turn + 0 = paced.waits 0 y there in
-    omega (arith, low, subst (λ (z : Waiting). z.number ≤ turn + 0) is most)

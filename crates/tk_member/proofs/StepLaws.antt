@@ -149,21 +149,3 @@ step-none b m p other far =
     (lt-leb p.peer m.client.shape.servers far)
 
 -- ---- a reply
-
--- none that is awaited
-pub reply-unasked : (b : WordBook) (m : MemberState) (j : ℕ) (reply : List ℕ) →
-    (is_none m.client.read || is_some (slice_index_or m.replies (j - 1) None)) ≡ true →
-    replied b m j reply ≡ Err Peer
-reply-unasked b m j reply unasked =
-    let now = with_reply m j reply in
-    cond-true (is_none m.client.read || is_some (slice_index_or m.replies (j - 1) None)) (Err Peer)
-    (settled_by b now (all_of now.replies)) unasked
-
-pub reply-kept : (b : WordBook) (m : MemberState) (j : ℕ) (reply : List ℕ) →
-    (is_none m.client.read || is_some (slice_index_or m.replies (j - 1) None)) ≡ false →
-    replied b m j reply
-    ≡ settled_by b (with_reply m j reply) (all_of (with_reply m j reply).replies)
-reply-kept b m j reply asked =
-    let now = with_reply m j reply in
-    cond-false (is_none m.client.read || is_some (slice_index_or m.replies (j - 1) None)) (Err Peer)
-    (settled_by b now (all_of now.replies)) asked

@@ -1,4 +1,4 @@
-ghost use Rattle.std.specs.Prelude.{◌≡◌, ◌++◌, [], length, OnOk, IfOk, drop};
+ghost use Rattle.std.specs.Prelude.{◌≡◌, ◌++◌, length, OnOk, IfOk, drop};
 ghost use Rattle.tk_client.specs.Reader.{Reader};
 ghost use Rattle.tk_member.specs.News.{news, news_from, numbers_known, got_packet, refused_packet};
 ghost use Rattle.tk_member.specs.News.{cause_of, kind_of};

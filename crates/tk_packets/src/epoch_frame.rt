@@ -1,4 +1,4 @@
-ghost use Rattle.std.specs.Prelude.{◌≡◌, ◌++◌, IfSome, IfOk, OnOk, OnErr, Some};
+ghost use Rattle.std.specs.Prelude.{◌≡◌, ◌++◌, IfSome, IfOk, OnOk, Some};
 ghost use Rattle.tk_packets.specs.declared.epoch_frame.EpochFrame.{EpochFrame};
 ghost use Rattle.tk_packets.specs.Frames.{epoch_frame, IsEpochFrame};
 

@@ -1,4 +1,4 @@
-ghost use Rattle.std.specs.Prelude.{◌≡◌, ℕ, ◌≤◌, ◌++◌, take, IfOk, OnOk, OnErr, Err};
+ghost use Rattle.std.specs.Prelude.{◌≡◌, ℕ, ◌≤◌, take, IfOk, OnOk, OnErr, Err};
 ghost use Rattle.tk_io.specs.Content.{Rose, gained};
 ghost use Rattle.tk_packets.specs.Packets.{packets_bytes};
 

@@ -1,6 +1,6 @@
 -- A changed tape is bytes where the tape is.
 use Rattle.std.proofs.Common.{◌≡◌, ℕ, ◌+◌, ◌-◌, ◌*◌, ◌/◌, ◌%◌, ◌<◌, Bool, true, false, cond, List, []}
-use Rattle.std.proofs.Common.{◌∷◌, ◌++◌, length, map, take, drop, replicate, refl, sym, subst, arith}
+use Rattle.std.proofs.Common.{◌∷◌, ◌++◌, length, map, take, drop, replicate, refl, subst, arith}
 use Rattle.std.proofs.Common.{inl, inr, Option, Some, None, ltb-true}
 use Rattle.std.specs.Prelude.{slice_index_or, nat_lt, IsTrue}
 use Rattle.std.specs.List.{range_with_len, concat, list_all}

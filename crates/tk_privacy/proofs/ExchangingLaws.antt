@@ -1,7 +1,7 @@
 -- The cells of writes, exchanged one by one.
-use Rattle.std.proofs.Common.{◌≡◌, ◌∙◌, ap, ap₂, sym, ℕ, ◌+◌, List, ◌∷◌, [], ◌++◌}
+use Rattle.std.proofs.Common.{◌≡◌, ◌∙◌, ap, ap₂, sym, ℕ, ◌+◌, List, [], ◌++◌}
 use Rattle.std.proofs.Common.{flat_map, length}
-use Rattle.std.proofs.Common.{zero-add, append_assoc, take, drop, ◌-◌, ◌*◌}
+use Rattle.std.proofs.Common.{append_assoc, take, drop, ◌-◌, ◌*◌}
 use Rattle.std.specs.List.{range_with_len}
 use Rattle.std.proofs.lemmas.List.{flat_map_more}
 use Rattle.tk_shape.specs.declared.shape.Shape.{Shape}

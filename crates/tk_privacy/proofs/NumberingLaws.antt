@@ -1,5 +1,5 @@
 -- The texts of a log among those that its writer sends are its numbers, in order.
-use Rattle.std.proofs.Common.{◌≡◌, ◌∙◌, ap, sym, refl, subst, inl, inr, arith, ℕ, zero, suc, ◌+◌, ◌≤◌, max}
+use Rattle.std.proofs.Common.{◌≡◌, ◌∙◌, ap, sym, refl, subst, inl, inr, arith, ℕ, zero, suc, ◌+◌, max}
 use Rattle.std.proofs.Common.{Bool, true, false, cond, ◌&&◌, eqb-true, eq-eqb, ne_eqb}
 use Rattle.std.proofs.Common.{List, [], ◌∷◌, length, filter, find, Option, Some, None, Bor}
 use Rattle.std.specs.Prelude.{◌==◌, slice_get}

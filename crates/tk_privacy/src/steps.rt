@@ -1,5 +1,5 @@
 //! The two steps from a script's tape to the one over which another shows the same.
-ghost use Rattle.std.specs.Prelude.{◌≡◌, ℕ, ◌≤◌, ◌*◌, ◌++◌, length, map, IfOk, OnOk};
+ghost use Rattle.std.specs.Prelude.{◌≡◌, ◌≤◌, ◌*◌, ◌++◌, length, map, IfOk, OnOk};
 ghost use Rattle.std.specs.List.{range_with_len};
 ghost use Rattle.tk_shape.specs.Lengths.{tape_len, turn_count};
 ghost use Rattle.tk_schedule.specs.declared.history.History.{History};

@@ -1,11 +1,11 @@
 -- A part is read from its spelling, and bytes without a fault spell the part that is read from them.
 use Rattle.std.proofs.Common.{◌≡◌, ℕ, ◌+◌, ◌*◌, List, drop, None, ap, sym, ◌∙◌, arith}
-use Rattle.std.proofs.lemmas.List.{length-append, length-drop, take-append-drop, take_at, drop_at}
+use Rattle.std.proofs.lemmas.List.{length-drop, take-append-drop, take_at, drop_at}
 use Rattle.tk_shape.specs.declared.shape.Shape.{Shape}
 use Rattle.tk_frames.specs.Fields.{number_at}
 use Rattle.tk_frames.specs.Faults.{first_fault}
 use Rattle.tk_frames.specs.Spelling.{asked_frame}
-use Rattle.tk_frames.proofs.Offers.{IsBytes, AskerFits, asker-again, asked_stands, asked_passes}
+use Rattle.tk_frames.proofs.Offers.{IsBytes, AskerFits, asker-again, asked_stands}
 use Rattle.tk_relay.specs.declared.part.Part.{Part}
 use Rattle.tk_relay.specs.Halves.{halves_bytes}
 use Rattle.tk_relay.specs.Parts.{halves_of, IsPart, frame_as, part_in, part_checks}
@@ -49,10 +49,3 @@ part-again shape size kind p fits =
       first = first i;
       second = second i;
     }
-
-pub part_passes : (shape : Shape) (size kind : ℕ) (p : Part) → IsPart shape size p →
-    first_fault (part_checks shape size kind (frame_as kind p)) ≡ None
-part_passes shape size kind p fits =
-    asked_passes shape (14 + 2 * size) kind p.client p.turn p.epoch (halves_bytes (halves_of p))
-    (part-names shape size p fits)
-    (omega (arith, length-append p.first p.second, fits.halves.first, fits.halves.second))

@@ -1,4 +1,4 @@
-ghost use Rattle.std.specs.Prelude.{◌≡◌, ◌+◌, ◌*◌, ◌≤◌, ◌++◌, length, vec_len, vec_capacity, OnOk, OnErr};
+ghost use Rattle.std.specs.Prelude.{◌≡◌, ◌+◌, ◌*◌, ◌≤◌, ◌++◌, vec_len, vec_capacity, OnOk, OnErr};
 ghost use Rattle.tk_shape.specs.Lengths.{vector_len};
 ghost use Rattle.tk_relay.specs.Halves.{HasHalves, halves_bytes};
 ghost use Rattle.tk_relay.specs.Pads.{masked};

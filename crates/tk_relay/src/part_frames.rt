@@ -6,7 +6,7 @@ ghost use Rattle.tk_frames.specs.Spelling.{be32};
 ghost use Rattle.tk_frames.specs.Faults.{first_fault, GivesUnlessMemory, IsRefusal};
 ghost use Rattle.tk_relay.specs.declared.part.Part.{Part};
 ghost use Rattle.tk_relay.specs.Halves.{halves_in};
-ghost use Rattle.tk_relay.specs.Parts.{part_with, part_in, part_checks, frame_as, part_frame};
+ghost use Rattle.tk_relay.specs.Parts.{part_with, part_checks, frame_as, part_frame};
 ghost use Rattle.tk_relay.specs.Parts.{masked_reply_frame, IsPart};
 ghost use Rattle.tk_frames.specs.Fields.{number_at};
 

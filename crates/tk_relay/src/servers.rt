@@ -1,5 +1,5 @@
 //! The servers of a run whose reads are relayed: a cluster, in which one client after the other writes.
-ghost use Rattle.std.specs.Prelude.{◌≡◌, All, List, Some, slice_get, IfOk, OnOk};
+ghost use Rattle.std.specs.Prelude.{◌≡◌, List, Some, slice_get, IfOk, OnOk};
 ghost use Rattle.std.specs.Arc.{arc_value};
 ghost use Rattle.tk_frames.specs.declared.entry.Placed.{Placed as Entered};
 ghost use Rattle.tk_frames.specs.InOrder.{mark_count};

@@ -1,5 +1,5 @@
 -- A state goes on with the list that its seat has seen.
-use Rattle.std.proofs.Common.{◌≡◌, ℕ, ◌+◌, ◌-◌, ◌<◌, ◌≤◌, refl, ap, sym, ◌∙◌, subst, arith}
+use Rattle.std.proofs.Common.{◌≡◌, ℕ, ◌+◌, ◌-◌, ◌<◌, ◌≤◌, ap, sym, ◌∙◌, subst, arith}
 use Rattle.std.proofs.Common.{List, [], ◌∷◌, ◌++◌, length, map, take, drop, Some, None, get_or}
 use Rattle.std.proofs.Common.{Result, Ok, Err, OnOk, OnErr, IfOk, Option, MatchOption}
 use Rattle.std.proofs.Common.{length-append, length-drop, append_assoc}
@@ -14,11 +14,11 @@ use Rattle.tk_frames.specs.declared.entry.Placed.{Placed}
 use Rattle.tk_frames.specs.InOrder.{mark_count, IsNextAt, IsOrder}
 use Rattle.tk_frames.proofs.Offers.{order-entry}
 use Rattle.tk_order.specs.Seats.{Seated, BeginOne}
-use Rattle.tk_order.proofs.Offers.{prefix_length, prefix_get, prefix_trans}
+use Rattle.tk_order.proofs.Offers.{prefix_get, prefix_trans}
 use Rattle.tk_replica.specs.declared.epoch.Epoch.{Epoch}
 use Rattle.tk_replica.specs.Replica.{ReplicaView, StandsFor}
 use Rattle.tk_replica.specs.Following.{marks_among, IsFollowing, IsEpochAt}
-use Rattle.tk_replica.proofs.LastMarks.{take-front, epoch-whole, epoch-front}
+use Rattle.tk_replica.proofs.LastMarks.{epoch-whole, epoch-front}
 use Rattle.tk_replica.proofs.Standing.{entry-next}
 
 -- the first entries of a list begin it
@@ -26,36 +26,6 @@ pub take-begins : (n : ℕ) (E : List Placed) → IsPrefix (take n E) E
 take-begins n E = (drop n E, take-append-drop n E)
 
 -- ---- the seat
-
--- a state that has applied nothing
-pub following-opened : (shape : Shape) (s : ReplicaView) (seat : Seated) → StandsFor shape [] s →
-    seat.number ≡ None → IsFollowing shape s seat
-following-opened shape s seat is number =
-    let none : s.applied ≡ 0 = is.applied in
-    record {
-      unnumbered = number;
-      within = omega (arith, none);
-      stands =
-          subst (λ (E : List Placed). StandsFor shape E s)
-          (sym (ap (λ n. take n seat.seen) none ∙ take-none seat.seen)) is;
-    }
-  where
-    take-none : (E : List Placed) → take 0 E ≡ []
-    take-none [] = refl
-    take-none (p ∷ E) = refl
-
--- the seat has seen more
-pub following-on : (shape : Shape) (s : ReplicaView) (a b : Seated) → IsFollowing shape s a →
-    b.number ≡ a.number → IsPrefix a.seen b.seen → IsFollowing shape s b
-following-on shape s a b is number more =
-    let within = is.within in
-    record {
-      unnumbered = number ∙ is.unnumbered;
-      within = omega (arith, within, prefix_length a.seen b.seen more);
-      stands =
-          subst (λ (E : List Placed). StandsFor shape E s)
-          (take-front s.applied a.seen b.seen more within) is.stands;
-    }
 
 -- ---- the next entry
 

@@ -70,13 +70,6 @@ same-epoch shape E F e n epoch number place writes is =
       stands = subst (λ (R : List Record). EpochStandsFor shape R epoch) writes is.stands;
     })
 
-pub epoch-more : (shape : Shape) (E F : List Placed) (e : ℕ) (epoch : Epoch) →
-    IsOrder shape (E ++ F) → e ≤ mark_count E → IsEpochOf shape E e epoch →
-    IsEpochOf shape (E ++ F) e epoch
-epoch-more shape E F e epoch order within is =
-    same-epoch shape E (E ++ F) e e epoch refl (sym (position-same shape E F e order within))
-    (sym (before-more shape E F e (order-front shape E F order) within)) is
-
 pub take-front : (n : ℕ) (E F : List Placed) → IsPrefix E F → n ≤ length E → take n E ≡ take n F
 take-front n E F front within = sym (take-append-le n E front.0 within) ∙ ap (take n) front.1
 

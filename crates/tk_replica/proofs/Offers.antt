@@ -7,8 +7,6 @@ pub use Rattle.tk_replica.proofs.Standing.{stands-released}
 -- The epoch of the last mark among the first entries is that in a longer list, and the other way
 -- round.
 pub use Rattle.tk_replica.proofs.LastMarks.{epoch-whole, epoch-front}
--- The epoch of a mark that stands is that of the same mark when more entries come.
-pub use Rattle.tk_replica.proofs.LastMarks.{epoch-more}
 -- A vector has a bit for each bucket.
 pub use Rattle.tk_replica.proofs.Vectors.{vector_bits}
 -- A reply over the epoch that a read names is the one that is due to the bytes of the read.

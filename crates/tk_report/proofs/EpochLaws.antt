@@ -1,65 +1,18 @@
 -- Which marks stand before a turn.
-use Rattle.std.proofs.Common.{◌≡◌, ℕ, zero, suc, ◌+◌, ◌*◌, ◌⊎◌, inl, inr, ◌/◌, ◌%◌, ◌<◌, ◌≤◌}
-use Rattle.std.proofs.Common.{Bool, cond, refl, ap, sym, ◌∙◌, arith, count_by}
-use Rattle.std.proofs.Common.{add-one, suc-mul, zero-mul, ne_eqb, length}
-use Rattle.std.specs.Prelude.{◌==◌}
+use Rattle.std.proofs.Common.{◌≡◌, ℕ, zero, suc, ◌+◌, ◌*◌, ◌/◌, ◌≤◌}
+use Rattle.std.proofs.Common.{cond, ap, sym, ◌∙◌, arith, count_by}
+use Rattle.std.proofs.Common.{add-one, zero-mul, length}
 use Rattle.std.proofs.lemmas.List.Sums.{sum_by-append}
-use Rattle.std.proofs.lemmas.Nat.{div-add-mod', div-mul-add, mod-mul-add}
-use Rattle.std.proofs.Math.Nat.{mod-lt}
+use Rattle.std.proofs.lemmas.Nat.{div-mul-add}
 use Rattle.tk_shape.specs.declared.shape.Shape.{Shape}
 use Rattle.tk_shape.specs.Lengths.{turn_count}
 use Rattle.tk_schedule.specs.declared.history.History.{History}
 use Rattle.tk_schedule.specs.Schedule.{IsLegal, is_mark, marks_due, phases_over, order_at}
 use Rattle.tk_frames.specs.declared.write_frame.WriteFrame.{WriteFrame}
 use Rattle.tk_frames.specs.Order.{is_mark_entry}
+use Rattle.tk_schedule.proofs.Offers.{next_in_phase}
 use Rattle.tk_report.specs.Entries.{placed_after, entries_before}
 use Rattle.tk_report.proofs.TurnEntries.{marks-placed_from}
-
-abbrev one_if : Bool → ℕ
-one_if b = cond b 1 0
-
--- a turn after turn g, in a phase of t turns
-next_in_phase : (t g : ℕ) → 0 < t → (g + 1) / t ≡ g / t + cond ((g + 1) % t == 0) 1 0
-next_in_phase t g some =
-    let split : g / t * t + g % t ≡ g = div-add-mod' g t in
-    let low : g % t < t = mod-lt g some in
-    elim (below_or_last (g % t) t low) [
-      | inl in_phase ↦
-          let whole : g / t * t + (g % t + 1) ≡ g + 1 = omega (arith, split) in
-          let quotient : (g + 1) / t ≡ g / t =
-          ap (λ n. n / t) (sym whole) ∙ div-mul-add (g / t) t (g % t + 1) in_phase
-          in
-          let rest : (g + 1) % t ≡ g % t + 1 =
-          ap (λ n. n % t) (sym whole) ∙ mod-mul-add (g / t) t (g % t + 1) in_phase
-          in
-          quotient ∙ omega (
-            arith,
-            ap one_if (ap (λ n. n == 0) rest ∙ ne_eqb (g % t + 1) 0 (λ e. omega (arith, e))),
-          )
-      | inr last ↦
-          let whole : (g / t + 1) * t + 0 ≡ g + 1 =
-          omega (arith, split, last, one_more (g / t) t)
-          in
-          let quotient : (g + 1) / t ≡ g / t + 1 =
-          ap (λ n. n / t) (sym whole) ∙ div-mul-add (g / t + 1) t 0 some
-          in
-          let rest : (g + 1) % t ≡ 0 =
-          ap (λ n. n % t) (sym whole) ∙ mod-mul-add (g / t + 1) t 0 some
-          in
-          quotient ∙ omega (arith, ap one_if (ap (λ n. n == 0) rest))
-    ]
-  where
-    one_more : (q n : ℕ) → (q + 1) * n ≡ q * n + n
-    one_more q n = omega (arith, suc-mul q n, ap (λ k. k * n) (add-one q))
-
-    below_or_last : (r n : ℕ) → r < n → (r + 1 < n) ⊎ (r + 1 ≡ n)
-    below_or_last zero zero h = absurd (omega (arith, h))
-    below_or_last zero (suc zero) h = inr refl
-    below_or_last zero (suc (suc n)) h = inl (omega arith)
-    below_or_last (suc r) zero h = absurd (omega (arith, h))
-    below_or_last (suc r) (suc n) h =
-        elim (below_or_last r n (omega (arith, h)))
-        [ inl l ↦ inl (omega (arith, l)) | inr e ↦ inr (omega (arith, e)) ]
 
 -- a turn closes one phase at most
 pub phases-next : (shape : Shape) (g : ℕ) →

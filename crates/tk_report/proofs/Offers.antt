@@ -56,7 +56,7 @@ pub use Rattle.tk_report.proofs.ClientsLaws.{length-next}
 pub use Rattle.tk_report.proofs.ReadingLaws.{before-next}
 -- how many writes of an order are displaced: none of no entries, and there is room for one more
 pub use Rattle.tk_report.proofs.DisplacedLaws.{none-displaced}
-pub use Rattle.tk_report.proofs.OrderCounts.{next-few, next-room, displaced-most}
+pub use Rattle.tk_report.proofs.OrderCounts.{next-few, displaced-most}
 -- numbers, one after the other
 pub use Rattle.tk_report.proofs.ClientsLaws.{range-next, flat_map-next}
 -- what each client sends, listed, and who writes a log

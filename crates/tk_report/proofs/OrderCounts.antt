@@ -14,7 +14,7 @@ use Rattle.tk_frames.specs.InOrder.{IsNext, IsNextAt, IsOrder, mark_count}
 use Rattle.tk_frames.specs.Order.{record_at, records}
 use Rattle.tk_frames.specs.Ranges.{IsEntry, IsWrite}
 use Rattle.tk_frames.proofs.Offers.{record_of, records-write, records-mark}
-use Rattle.tk_frames.proofs.Offers.{length-writes_and_marks, turn_count_small}
+use Rattle.tk_frames.proofs.Offers.{turn_count_small}
 use Rattle.tk_frames.proofs.Offers.{order-push, order-front, order-entry}
 use Rattle.tk_table.specs.declared.table.Put.{Put}
 use Rattle.tk_table.specs.declared.table.Put.TheVariants.{Placed, Displaced}
@@ -24,10 +24,10 @@ use Rattle.tk_table.specs.Stands.{IsPair}
 use Rattle.tk_table.specs.Table.{is_displaced}
 use Rattle.tk_table.proofs.Offers.{order-writes}
 use Rattle.tk_report.specs.declared.count.Count.{Count}
-use Rattle.tk_report.specs.Counts.{HasCounted, MayCount, MayCountNext}
+use Rattle.tk_report.specs.Counts.{MayCount, MayCountNext}
 use Rattle.tk_report.specs.Displaced.{displaced_on, displaced_in}
 use Rattle.tk_report.specs.Turns.{next_placed}
-use Rattle.tk_report.proofs.DisplacedLaws.{displaced-more, displaced-few}
+use Rattle.tk_report.proofs.DisplacedLaws.{displaced-more}
 
 -- ---- what became of the entry
 
@@ -88,17 +88,6 @@ next-few shape E p next =
     (turn_count_small shape)
     in
     omega (arith, next.at, next.in_range.position_high, writes, shape.in_range.phases_high)
-
--- so that its displaced writes can be counted
-pub next-room : (shape : Shape) (E : List AtPlace) (p : AtPlace) → IsNext shape E p →
-    displaced_in shape E + 1 < 2 ^ 32
-next-room shape E p next =
-    omega (
-      arith,
-      displaced-few shape [] [] (records E),
-      length-writes_and_marks E,
-      next-few shape E p next,
-    )
 
 -- ---- the next entry of an order is counted
 

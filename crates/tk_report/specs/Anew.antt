@@ -1,6 +1,6 @@
 -- Runs whose servers are alike where it counts; and a run whose servers begin anew before a turn, each
 -- from some entries, whatever they are given.
-use Rattle.std.specs.Prelude.{◌≡◌, ℕ, ◌+◌, ◌<◌, ◌≤◌, nat_le, cond, Bool, List, ◌++◌, length, drop}
+use Rattle.std.specs.Prelude.{◌≡◌, ℕ, ◌+◌, ◌<◌, ◌≤◌, nat_le, cond, List, ◌++◌, length, drop}
 use Rattle.tk_shape.specs.Lengths.{turn_count}
 use Rattle.tk_schedule.specs.declared.history.History.{History}
 use Rattle.tk_schedule.specs.Schedule.{IsLegal, epoch_at}
@@ -13,7 +13,7 @@ use Rattle.tk_table.specs.Shown.{is_shown}
 use Rattle.tk_report.specs.Exchange.{exchange}
 use Rattle.tk_report.specs.Report.{report}
 use Rattle.tk_report.specs.Turns.{placed_before}
-use Rattle.tk_report.specs.Serving.{Serving, honest, reader_under, exchange_under, report_under}
+use Rattle.tk_report.specs.Serving.{Serving, reader_under, exchange_under, report_under}
 
 -- ---- servers that are alike where it counts
 

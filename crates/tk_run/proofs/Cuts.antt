@@ -1,8 +1,8 @@
 -- Lists, one element after the other.
 use Rattle.std.proofs.Common.{◌≡◌, refl, ap, ap₂, sym, ◌∙◌, arith, ℕ, zero, suc, ◌+◌, ◌<◌, ◌≤◌, List, [], ◌∷◌, ◌++◌}
-use Rattle.std.proofs.Common.{length, take, append_assoc, append-nil, map}
+use Rattle.std.proofs.Common.{length, take, map}
 use Rattle.std.proofs.lemmas.List.{map-append}
-use Rattle.std.specs.Prelude.{slice_index_or, flat_map}
+use Rattle.std.specs.Prelude.{slice_index_or}
 
 pub take_none : {X : Type 0} (xs : List X) → take 0 xs ≡ []
 take_none [] = refl
@@ -29,12 +29,6 @@ length-take [] (suc i) low = absurd (omega (arith, low))
 length-take (x ∷ xs) (suc i) low =
     let rest = length-take xs i (omega (arith, low)) in
     omega (arith, rest)
-
-pub flat_map-more : {X Y : Type 0} (f : X → List Y) (xs : List X) (x : X) →
-    flat_map f (xs ++ x ∷ []) ≡ flat_map f xs ++ f x
-flat_map-more f [] x = append-nil (f x)
-flat_map-more f (y ∷ xs) x =
-    ap (λ zs. f y ++ zs) (flat_map-more f xs x) ∙ sym (append_assoc (f y) (flat_map f xs) (f x))
 
 -- one element more, and what it gives
 pub map-next : {X Y : Type 0} (f : X → Y) (xs : List X) (i : ℕ) (x : X) (ys more : List Y) (y : Y) →

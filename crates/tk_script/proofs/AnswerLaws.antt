@@ -18,10 +18,6 @@ pub same_refused : {X : Type 0} (e : ScriptError) (said other : Result X Refusal
 same_refused (Line line c) said other same h = same ∙ h
 same_refused Memory said other same h = tt
 
-pub then_ok : {X Y : Type 0} (said : Result X Refusal) (x : X) (f : X → Result Y Refusal) →
-    said ≡ Ok x → said >>= f ≡ f x
-then_ok said x f e = ap (λ r. r >>= f) e
-
 -- ---- parts one after the other
 
 -- after a part that is read, what goes on from it is said

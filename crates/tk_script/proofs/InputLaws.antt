@@ -1,5 +1,5 @@
 -- An input that is read line by line is the one that the text spells, form by form.
-use Rattle.std.proofs.Common.{◌≡◌, ◌∙◌, ℕ, List, Bool, true, false, IsTrue, Option, Some, None, Result, Ok, Err, refl, ap, sym, subst, arith}
+use Rattle.std.proofs.Common.{◌≡◌, ◌∙◌, ℕ, List, Bool, Option, Some, None, Result, Ok, Err, refl, ap, sym, subst, arith}
 use Rattle.std.specs.Prelude.{is_some, not, IfOk}
 use Rattle.std.specs.Option.{option_map}
 use Rattle.tk_schedule.specs.declared.raw.RawLine.{RawLine}

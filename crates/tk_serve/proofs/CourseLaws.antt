@@ -105,10 +105,6 @@ nothing-taken : (left : Told) → left ≡ before_taking [] left
 nothing-taken None = refl
 nothing-taken (Some rest) = refl
 
--- where nothing is taken as much is left as before
-pub nothing-kept : (left rest : Told) → left ≡ before_taking [] rest → left ≡ rest
-nothing-kept left rest none = none ∙ sym (nothing-taken rest)
-
 pub takes-nothing : (most : ℕ) (left : Told) → TakesAtMost most left left
 takes-nothing most left = record { taken = []; front = nothing-taken left; few = omega arith }
 

@@ -8,9 +8,8 @@ use Rattle.tk_serve.specs.declared.server.Server.{Server}
 use Rattle.tk_serve.specs.Seats.{empty_seats}
 use Rattle.tk_serve.specs.Steps.{seats_after}
 use Rattle.tk_serve.specs.Setup.{longest_frame}
-use Rattle.tk_serve.specs.Courses.{Told, IsGoing, StopsBehind, RanPeer, RanFront}
-use Rattle.tk_serve.specs.Nexts.{TakesNextFront, StrangerNext}
-use Rattle.tk_serve.specs.Stands.{Serves}
+use Rattle.tk_serve.specs.Courses.{Told, IsGoing, StopsBehind, RanFront}
+use Rattle.tk_serve.specs.Nexts.{TakesNextFront}
 use Rattle.tk_serve.proofs.CourseLaws.{IsRunning, takes-nothing, course-whole, course-front}
 
 -- a fact of what a call answers follows from another
@@ -49,38 +48,12 @@ module _ (shape : Shape) (count : ℕ) (s : Server) (left middle : Told) (gone n
         over = λ _. refl;
       }
 
-  -- a packet of a peer that there is not
-  pub ran-peer : (rest : Told) (new : Gone) → IsGoing shape runs.frames → StrangerNext shape middle rest now new →
-      RanPeer shape left rest gone new
-  ran-peer rest new going next =
-      record {
-        frames = runs.frames;
-        middle = middle;
-        before = now;
-        course = runs.course;
-        going = going;
-        stranger = next.stranger;
-        comes = next.comes;
-        short = next.short;
-        took = next.took;
-        nobody = next.nobody;
-      }
-
 -- what holds of a call's value holds of more
 pub if_ok-map : {X Y : Type 0} {P Q : X → Type 0} (r : Result X Y) → ((x : X) → P x → Q x) → IfOk r P → IfOk r Q
 if_ok-map (Ok x) f h = f x h
 if_ok-map (Err e) f h = tt
 
 -- ---- a server in the course of a run, by what its calls answer
-
-pub serves-now : (shape : Shape) (count : ℕ) (s : Server) (left middle : Told) (gone now : Gone) →
-    IsRunning shape count s left middle gone now → Serves s
-serves-now shape count s left middle gone now runs =
-    record {
-      shape_of = shape;
-      seats_of = seats_after shape (empty_seats shape) runs.frames;
-      stands = runs.stands;
-    }
 
 -- what is tested holds just where the test passes
 pub tested-not : {P : Type 0} (b : Bool) → (IsTrue b ↔ P) → b ≡ false → P → ⊥

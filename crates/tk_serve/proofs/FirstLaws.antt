@@ -14,9 +14,6 @@ use Rattle.tk_serve.specs.Courses.{Told, SetUpThen, after_setup}
 module _ (shape : Shape) (first : PacketView) (s : Server) (left middle : Told) (gone now : Gone)
     (is : first ≡ setup shape) (comes : left ≡ before_taking (packet_bytes first) middle)
     (took : now ≡ after_taking (Some first) gone) (stands : Stands shape (empty_seats shape) s) where
-  pub stands-own : Stands s.shape (empty_seats s.shape) s
-  stands-own = subst (λ sh. Stands sh (empty_seats sh) s) (sym stands.same) stands
-
   pub set-up-then : (Ran : Shape → Told → Gone → Type 0) → Ran s.shape middle now →
       SetUpThen (λ sh m. Ran sh m (after_setup sh gone)) left
   set-up-then Ran ran =

@@ -1,9 +1,9 @@
 -- The epochs that a server keeps, and what it tells of them.
-use Rattle.std.proofs.Common.{◌≡◌, ℕ, ◌+◌, ◌*◌, ◌/◌, ◌%◌, ◌^◌, ◌<◌, ◌≤◌, ap, ap₂, sym, ◌∙◌, subst, arith, true, false}
+use Rattle.std.proofs.Common.{◌≡◌, ℕ, ◌+◌, ◌*◌, ◌/◌, ◌^◌, ◌<◌, ◌≤◌, ap, ap₂, sym, ◌∙◌, subst, arith, true}
 use Rattle.std.proofs.Common.{List, [], ◌∷◌, length, take, flat_map}
 use Rattle.std.specs.Prelude.{slice_index_or, All}
 use Rattle.std.specs.List.{range_with_len}
-use Rattle.std.proofs.Common.{inl, inr, eq-eqb}
+use Rattle.std.proofs.Common.{inl, inr}
 use Rattle.std.proofs.lemmas.Bool.{eqb-true, cases_lt}
 use Rattle.std.proofs.lemmas.List.Elements.{All-from_get_or}
 use Rattle.std.proofs.Math.Nat.{div-mul-le_self}
@@ -24,7 +24,7 @@ use Rattle.tk_serve.specs.Stands.{StandsAt, Stands, IsDueRead}
 use Rattle.tk_serve.proofs.Phases.{phase-before, phase-past}
 use Rattle.tk_serve.proofs.EntryLaws.{turns-marks}
 use Rattle.tk_serve.proofs.SeatLaws.{turns-most}
-use Rattle.tk_serve.proofs.StandsLaws.{desks-counted, desk-at, due-is, floor-at}
+use Rattle.tk_serve.proofs.StandsLaws.{desks-counted, desk-at, due-is}
 use Rattle.tk_serve.proofs.ToldLaws.{closing-none, closing-some}
 use Rattle.tk_serve.proofs.AnswerLaws.{may-answer, news-all}
 
@@ -84,15 +84,6 @@ module _ (shape : Shape) (seats : List Seat) (s : Server) (is : Stands shape sea
       (is.state_is).last
       ∙ turns-marks shape (taken_write seats) (turns_written shape seats) (turns-most shape seats)
 
-  pub read-floor : s.state.floor ≤ r.epoch
-  read-floor =
-      let over = read-next.over in
-      omega (
-        arith,
-        over,
-        floor-at shape seats (turns_written shape seats) (newest shape seats) s is r.client read-low,
-      )
-
   -- where its epoch is there, it is one of the turns that read over those that are
   pub read-there : r.epoch ≤ s.state.last →
       length (seat_of seats r.client).reads < turns_read shape (newest shape seats)
@@ -145,10 +136,3 @@ module _ (shape : Shape) (seats : List Seat) (s : Server) (is : Stands shape sea
   tells-no_more high =
       closing-none shape (placed shape seats) (newest shape seats) r.turn
       (λ _. omega (arith, read-phase, high, last-newest))
-
-  pub tells-open : is_closing s.shape r.turn ≡ false →
-      closing_told shape (placed shape seats) (newest shape seats) r.turn ≡ []
-  tells-open open_still =
-      closing-none shape (placed shape seats) (newest shape seats) r.turn (λ closes.
-      absurd (cc (sym open_still
-      ∙ ap (λ (sh : Shape). is_closing sh r.turn) is.same ∙ eq-eqb ((r.turn + 1) % shape.ticks) 0 closes)))

@@ -15,7 +15,7 @@ use tk_schedule::closes;
 use tk_shape::{Bytes, Memory};
 
 impl Server {
-    ghost use Rattle.std.specs.Prelude.{◌≡◌, ◌<◌, ◌++◌, ℕ, List, length, OnOk};
+    ghost use Rattle.std.specs.Prelude.{◌≡◌, ◌<◌, ◌++◌, List, length, OnOk};
     ghost use Rattle.tk_shape.specs.declared.shape.Shape.{Shape};
     ghost use Rattle.tk_serve.specs.Seats.{Seat, with_write, with_read};
     ghost use Rattle.tk_serve.specs.Steps.{step, all_gained};

@@ -2,7 +2,6 @@
 ghost use Rattle.std.specs.Prelude.{◌≡◌, ◌+◌, ◌*◌, ◌<◌, ◌^◌, ◌++◌, ◌∷◌, [], cond, nat_le, take, map, length, All};
 ghost use Rattle.std.specs.Prelude.{IfOk, OnOk};
 ghost use Rattle.tk_packets.specs.Packets.{packet};
-ghost use Rattle.tk_frames.specs.Ranges.{IsRead};
 ghost use Rattle.tk_packets.specs.Frames.{epoch_frame as frame_of};
 ghost use Rattle.tk_serve.specs.Desks.{desk_answered};
 ghost use Rattle.tk_serve.specs.Answering.{packet_over, epoch_of, news_for, MayAnswer};

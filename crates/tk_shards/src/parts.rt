@@ -1,5 +1,5 @@
 //! The sums over all ranges, of which each worker takes some.
-ghost use Rattle.std.specs.Prelude.{◌≡◌, ◌<◌, ◌≤◌, length, map, replicate, vec_len, IfOk};
+ghost use Rattle.std.specs.Prelude.{◌≡◌, ◌<◌, length, map, replicate, IfOk};
 ghost use Rattle.std.specs.List.{All};
 ghost use Rattle.tk_shards.specs.Parts.{IsAsked, HasParts, sum_in, xor_rows, AreAlike, IsTotal};
 

@@ -1,5 +1,5 @@
 -- The writes of an order are in order.
-use Rattle.std.proofs.Common.{◌≡◌, ℕ, ◌+◌, ◌≤◌, arith, List, [], ◌∷◌}
+use Rattle.std.proofs.Common.{◌≡◌, ℕ, ◌+◌, arith, List, [], ◌∷◌}
 use Rattle.std.specs.List.{AllByRecursion, cons_option}
 use Rattle.tk_shape.specs.declared.shape.Shape.{Shape}
 use Rattle.tk_frames.specs.declared.entry.Placed.{Placed}

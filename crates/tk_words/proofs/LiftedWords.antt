@@ -54,8 +54,3 @@ pub lifted-words : (shape : Shape) (b : WordBook) → IsBook shape b →
 unfolding pair_of hits_of pad_of tag_of fresh_write fresh_pair
 lifted-words shape (keyed handles seeds) served = refl
 lifted-words shape (drawn tape) whole = tape_words shape tape whole (shape.format == 2) refl
-
--- it serves the shape in format 2
-pub lifted-IsBook : (shape : Shape) (b : WordBook) → IsBook shape b → IsBook (lifted_shape shape) (lifted_book shape b)
-lifted-IsBook shape (keyed handles seeds) served = served
-lifted-IsBook shape (drawn tape) whole = length-lifted_tape shape tape whole

@@ -1,5 +1,5 @@
 //! Blocks that tests are about.
-ghost use Rattle.std.specs.Prelude.{◌≡◌, ◌*◌, ◌<◌, [], ◌∷◌};
+ghost use Rattle.std.specs.Prelude.{◌*◌, [], ◌∷◌};
 ghost use Rattle.tk_kernel.specs.Pieces.{all_pieces};
 ghost use Rattle.tk_shards.specs.Shards.{AreSameBut};
 

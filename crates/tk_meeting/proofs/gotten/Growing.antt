@@ -24,9 +24,6 @@ pub record GrowsTo (old new : List Got) : Type 0 where
 pub grows-none : (got : List Got) → GrowsTo got got
 grows-none got = record { rest = []; is = sym (append-nil got) }
 
-pub grows-same : (old new : List Got) → new ≡ old → GrowsTo old new
-grows-same old new e = record { rest = []; is = e ∙ sym (append-nil old) }
-
 pub grows-next : (old mid new : List Got) → GrowsTo old mid → GrowsTo mid new → GrowsTo old new
 grows-next old mid new a b =
     record {

@@ -1,12 +1,11 @@
 -- What a member does when it acts is what is due at its pace.
 use Rattle.std.proofs.Common.{[], ◌≡◌, refl, sym, ap, ap₂, ◌∙◌, subst, arith, ℕ, zero, suc, ◌+◌, ◌-◌, ◌*◌, ◌≤◌}
 use Rattle.std.proofs.Common.{◌<◌, Bool, List, ◌++◌, map, filter, append-nil}
-use Rattle.std.specs.Prelude.{min, Result}
+use Rattle.std.specs.Prelude.{min}
 use Rattle.tk_shape.specs.Lengths.{turn_count}
 use Rattle.tk_script.specs.declared.script.Script.{Script}
 use Rattle.tk_words.specs.Words.{WordBook, words_of}
 use Rattle.tk_packets.specs.Packets.{PacketView}
-use Rattle.tk_member.specs.declared.fault.Fault.{Fault}
 use Rattle.tk_member.specs.Members.{MemberState}
 use Rattle.tk_member.specs.Acting.{Turned, behind, followed_by, wrote, goes_ahead, goes_by_ticks, ticks_due}
 use Rattle.tk_member.specs.Acting.{asks_if_due, acts}
@@ -14,7 +13,7 @@ use Rattle.tk_member.specs.Steps.{tells_and_acts}
 use Rattle.tk_meeting.specs.Meeting.{Saying, for_peer, frames_for}
 use Rattle.tk_meeting.specs.Laws.{sayings, tells_read}
 use Rattle.tk_meeting.proofs.Pace.{Pace, IsPace, acted, asks_now, count_ahead, count_ticks, gone_ahead}
-use Rattle.tk_meeting.proofs.Standing.{IsAt, IsForetold, Goes, Readies, said_on, frames_of}
+use Rattle.tk_meeting.proofs.Standing.{IsAt, IsForetold, Goes, said_on, frames_of}
 use Rattle.tk_meeting.proofs.members.Members.{member_at, at-is, at-from}
 use Rattle.tk_meeting.proofs.members.Paces.{written_on, asked_on, acted-pace, acted-kinds, written-pace}
 use Rattle.tk_meeting.proofs.members.Counts.{acted-written}
@@ -187,19 +186,4 @@ acts-go S b c p saids m told client is foretold at to_host =
           ∙ ap₂ (λ (xs ys : List PacketView). xs ++ ys) (host-own told to_host)
           (ap (λ (t : Turned). for_peer 0 t.packets) does ∙ host-none S b c p saids is)
           ∙ append-nil told);
-    }
-
--- so a step goes as it should once it is ready to
-pub readies-go : {S : Script} {b : WordBook} {c : ℕ} {p : Pace} {saids : List Saying}
-    {news : List PacketView} {result : Result Turned Fault} → c < S.shape.clients →
-    IsPace S.shape p → IsForetold S c p.written (acted S.shape p).pace.written saids →
-    Readies S b c p saids news result → Goes S b c p saids news result
-readies-go {S} {b} {c} {p} {saids} {news} {result} client is foretold ready =
-    let goes = acts-go S b c p saids ready.member ready.told client is foretold ready.at ready.to_host in
-    record {
-      turned = goes.turned;
-      is = ready.is ∙ goes.is;
-      at = goes.at;
-      frames = goes.frames;
-      host = goes.host ∙ ready.host;
     }

@@ -1,15 +1,11 @@
 -- How many frames of each kind a client sends.
-use Rattle.std.proofs.Common.{◌≡◌, refl, sym, ap, ◌∙◌, arith, ℕ, zero, suc, ◌+◌, ◌≤◌, Bool, true, false, List}
+use Rattle.std.proofs.Common.{◌≡◌, refl, ap, ◌∙◌, arith, ℕ, zero, suc, ◌+◌, Bool, true, false, List}
 use Rattle.std.proofs.Common.{◌∷◌, ◌++◌, cond}
 use Rattle.std.specs.Prelude.{replicate, count_by}
 use Rattle.std.proofs.lemmas.List.Sums.{sum_by-cons}
 use Rattle.tk_shape.specs.declared.shape.Shape.{Shape}
 use Rattle.tk_meeting.proofs.Pace.{Pace, Kind, Wrote, Asked, acted, asks_now}
-use Rattle.tk_meeting.proofs.members.Paces.{written_on, count_due, asked_by, acted-pace, acted-kinds}
-
-abbrev pub is_wrote : Kind → Bool
-is_wrote Wrote = true
-is_wrote Asked = false
+use Rattle.tk_meeting.proofs.members.Paces.{written_on, count_due, asked_by, acted-pace}
 
 abbrev pub is_asked : Kind → Bool
 is_asked Wrote = false
@@ -18,14 +14,6 @@ is_asked Asked = true
 counted-more : (test : Kind → Bool) (k : Kind) (ks : List Kind) →
     count_by test (k ∷ ks) ≡ cond (test k) 1 0 + count_by test ks
 counted-more test k ks = sum_by-cons (λ (x : Kind). cond (test x) 1 0) k ks
-
-writes-counted : (n : ℕ) (b : Bool) (p : Pace) →
-    count_by is_wrote (replicate n Wrote ++ (asked_by b p).kinds) ≡ n
-writes-counted zero true p = refl
-writes-counted zero false p = refl
-writes-counted (suc n) b p =
-    let rest = writes-counted n b p in
-    omega (arith, rest, counted-more is_wrote Wrote (replicate n Wrote ++ (asked_by b p).kinds))
 
 reads-counted : (n : ℕ) (b : Bool) (p : Pace) →
     p.asked + count_by is_asked (replicate n Wrote ++ (asked_by b p).kinds) ≡ (asked_by b p).pace.asked
@@ -44,23 +32,3 @@ pub acted-written : (shape : Shape) (p : Pace) →
 acted-written shape p =
     ap (λ (q : Pace). q.written) (acted-pace shape p)
     ∙ written-same (asks_now shape (written_on shape p)) (written_on shape p) ∙ omega arith
-
-pub count-wrote : (shape : Shape) (p : Pace) →
-    p.written + count_by is_wrote (acted shape p).kinds ≡ (acted shape p).pace.written
-count-wrote shape p =
-    let q = written_on shape p in
-    ap (λ ks. p.written + count_by is_wrote ks) (acted-kinds shape p)
-    ∙ ap (λ n. p.written + n) (writes-counted (count_due shape p) (asks_now shape q) q)
-    ∙ sym (acted-written shape p)
-
-pub count-asked : (shape : Shape) (p : Pace) →
-    p.asked + count_by is_asked (acted shape p).kinds ≡ (acted shape p).pace.asked
-count-asked shape p =
-    let q = written_on shape p in
-    ap (λ ks. p.asked + count_by is_asked ks) (acted-kinds shape p)
-    ∙ reads-counted (count_due shape p) (asks_now shape q) q
-    ∙ sym (ap (λ (x : Pace). x.asked) (acted-pace shape p))
-
--- what was written stays written
-pub written-grows : (shape : Shape) (p : Pace) → p.written ≤ (acted shape p).pace.written
-written-grows shape p = omega (arith, acted-written shape p)

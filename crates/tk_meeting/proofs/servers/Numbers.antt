@@ -1,10 +1,9 @@
 -- What a server tells a client, in numbers: how many frames there are, which comes next, and that more only
 -- come at the end.
-use Rattle.std.proofs.Common.{◌≡◌, ℕ, ◌+◌, ◌*◌, ◌/◌, ◌≤◌, ◌<◌, ap, sym, ◌∙◌, arith, inl, inr, min}
+use Rattle.std.proofs.Common.{◌≡◌, ℕ, ◌+◌, ◌*◌, ◌/◌, ◌≤◌, ◌<◌, ap, sym, ◌∙◌, arith, min}
 use Rattle.std.proofs.Common.{List, ◌∷◌, ◌++◌, length, drop, map}
 use Rattle.std.specs.List.{range_with_len}
 use Rattle.std.proofs.Math.Nat.{div-mul-le_self, mul-le-mul_right}
-use Rattle.std.proofs.lemmas.Bool.{cases_lt}
 use Rattle.std.proofs.lemmas.List.{drop_more, take-append-drop}
 use Rattle.std.proofs.lemmas.List.FromFn.{get_or-map-range_with_len, length-map-range_with_len}
 use Rattle.std.proofs.lemmas.List.FromFn.{take-map-range_with_len}
@@ -12,7 +11,7 @@ use Rattle.tk_shape.specs.declared.shape.Shape.{Shape}
 use Rattle.tk_script.specs.declared.script.Script.{Script}
 use Rattle.tk_words.specs.Words.{WordBook}
 use Rattle.tk_serve.specs.Told.{turns_read}
-use Rattle.tk_serve.proofs.Offers.{phase-before, phase-past}
+use Rattle.tk_serve.proofs.Offers.{phase-past}
 use Rattle.tk_meeting.proofs.Canonical.{reply_in, epoch_in, stream}
 use Rattle.tk_meeting.proofs.Course.{stream_len}
 use Rattle.tk_meeting.proofs.servers.Places.{frame_at, reply-at, epoch-at, stream-places}
@@ -39,28 +38,6 @@ module _ (shape : Shape) where
 
   some : 0 < ticks
   some = let low = shape.in_range.ticks_low in omega (arith, low)
-
-  -- a reply that is there is of a read that came, over an epoch that is there
-  pub reply-there : (n k r : ℕ) → r + r / ticks < stream_len shape n k → (r < k) × (r / ticks ≤ n)
-  reply-there n k r there = elim (cases_lt r (min k (turns_read shape n))) [
-    | inl before ↦
-        let phase : r / ticks < n + 1 = phase-before ticks (n + 1) r some (omega (arith, before)) in
-        (omega (arith, before), omega (arith, phase))
-    | inr past ↦
-        let phases = phases-ordered ticks (min k (turns_read shape n)) r some past in
-        absurd (omega (arith, there, past, phases))
-  ]
-
-  -- and an epoch that is told is there
-  pub epoch-there : (n k r e : ℕ) → r ≡ (e + 1) * ticks → r + e < stream_len shape n k → e + 1 ≤ n
-  epoch-there n k r e is there = elim (cases_lt e n) [
-    | inl before ↦ omega (arith, before)
-    | inr past ↦
-        let later : (n + 1) * ticks ≤ (e + 1) * ticks =
-        mul-le-mul_right {m = n + 1} {n = e + 1} ticks (omega (arith, past))
-        in
-        absurd (omega (arith, there, is, later, past))
-  ]
 
   -- more are told where more epochs are there and more reads came
   pub length-grows : (n more k later : ℕ) → n ≤ more → k ≤ later →

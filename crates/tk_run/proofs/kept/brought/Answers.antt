@@ -1,5 +1,5 @@
 -- All numbers are listed.
-use Rattle.std.proofs.Common.{◌≡◌, List, ℕ, sym, ◌∙◌, subst}
+use Rattle.std.proofs.Common.{List, ℕ, sym, ◌∙◌, subst}
 use Rattle.tk_shards.specs.Shards.{AreSameBut}
 use Rattle.tk_run.proofs.NumbersLaws.{same-but_all}
 use Rattle.tk_run.proofs.kept.brought.Goals as goal

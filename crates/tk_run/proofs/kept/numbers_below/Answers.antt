@@ -1,5 +1,5 @@
 -- One number more.
-use Rattle.std.proofs.Common.{◌≡◌, ◌+◌, ◌++◌, ◌∷◌, [], sym, subst}
+use Rattle.std.proofs.Common.{◌+◌, sym, subst}
 use Rattle.tk_run.specs.Ranging.{AreNumbers}
 use Rattle.tk_run.proofs.NumbersLaws.{numbers-none, numbers-more}
 use Rattle.tk_run.proofs.kept.numbers_below.Goals as goal

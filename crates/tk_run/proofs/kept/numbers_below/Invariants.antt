@@ -1,5 +1,4 @@
 -- The numbers so far.
-use Rattle.std.proofs.Common.{ℕ}
 use Rattle.tk_run.specs.Ranging.{AreNumbers}
 use Rattle.tk_run.proofs.kept.numbers_below.Given as goal
 

@@ -1,6 +1,6 @@
 -- Turn after turn the taps gain what the servers see.
 use Rattle.std.proofs.Common.{◌≡◌, ◌∙◌, ◌+◌, ◌++◌, ◌∷◌, [], ◌<◌, ◌≤◌, ℕ, List, ap, arith, inl, inr, refl, subst, sym}
-use Rattle.std.proofs.Common.{le_trans, true, false}
+use Rattle.std.proofs.Common.{le_trans, true}
 use Rattle.std.proofs.lemmas.Bool.{cases_Bool, false≢true}
 use Rattle.tk_shape.specs.Lengths.{turn_count}
 use Rattle.tk_words.specs.Words.{words_of}
