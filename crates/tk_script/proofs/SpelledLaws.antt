@@ -11,7 +11,7 @@ use Rattle.tk_script.specs.declared.role.Role.{Role}
 use Rattle.tk_script.specs.declared.say.Say.{Say}
 use Rattle.tk_script.specs.declared.script.Script.{Script}
 use Rattle.tk_script.specs.Grammar.{Line, format_line, shape_line, role_line, say_line, SpellsKeys, BeginsWithScript}
-use Rattle.tk_script.specs.Reading.{Place, Refusal, alone, named, next_line, next_lines, to_end, read_format, read_shape, read_kind, read_role, read_handle, read_seed, read_next_say}
+use Rattle.tk_script.specs.Reading.{Place, Refusal, ◌>>=◌, alone, named, next_line, next_lines, to_end, read_format, read_shape, read_kind, read_role, read_handle, read_seed, read_next_say}
 use Rattle.tk_script.specs.Reading.{ScriptLines, read_head, read_keys, read_script, script_lines}
 use Rattle.tk_script.specs.SoundScript.{IsScript, is_role, is_say, has_keys, are_in_order}
 use Rattle.tk_script.proofs.AnswerLaws.{then_said}
