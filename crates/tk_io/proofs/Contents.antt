@@ -7,6 +7,10 @@ pub before_taking-append : (a b : List ℕ) (rest : Option (List ℕ)) → befor
 before_taking-append a b None = refl
 before_taking-append a b (Some rest) = ap Some (append_assoc a b rest)
 
+pub before_taking-nothing : (left : Option (List ℕ)) → before_taking [] left ≡ left
+before_taking-nothing None = refl
+before_taking-nothing (Some rest) = refl
+
 pub gained-twice : (held : Option (List ℕ)) (a b : List ℕ) → gained (gained held a) b ≡ gained held (a ++ b)
 gained-twice None a b = refl
 gained-twice (Some held) a b = ap Some (append_assoc held a b)

@@ -1,19 +1,16 @@
 -- What taps gained, call after call.
 use Rattle.std.proofs.Common.{◌≡◌, refl, ap, sym, ◌∙◌, arith, inl, inr, ℕ, zero, suc, ◌+◌, ◌≤◌}
-use Rattle.std.proofs.Common.{List, [], ◌∷◌, ◌++◌, length, take, Option}
+use Rattle.std.proofs.Common.{List, [], ◌∷◌, ◌++◌, length, take}
 use Rattle.std.proofs.lemmas.Bool.{cases_lt}
 use Rattle.std.proofs.lemmas.List.{take_all, take-append-le}
-use Rattle.tk_io.specs.Content.{gained}
+use Rattle.tk_io.specs.Content.{gained, Told}
 use Rattle.tk_io.specs.Tapped.{GainsFront, TapsGain, TapsGainFronts}
 use Rattle.tk_io.proofs.Contents.{gained-twice}
 
 -- ---- one tap
 
-abbrev Tap : Type 0
-Tap = Option (List ℕ)
-
 -- all of it is a front of it
-pub front-of_all : (t u : Tap) (a : List ℕ) → u ≡ gained t a → GainsFront t u a
+pub front-of_all : (t u : Told) (a : List ℕ) → u ≡ gained t a → GainsFront t u a
 front-of_all t u a all =
     (length a, all ∙ ap (gained t) (sym (take_all (length a) a (omega arith))))
 
@@ -29,7 +26,7 @@ front_longer n a b =
     ]
 
 -- a front of what comes first is a front of both
-pub front-of_first : (t u : Tap) (a b : List ℕ) → GainsFront t u a → GainsFront t u (a ++ b)
+pub front-of_first : (t u : Told) (a b : List ℕ) → GainsFront t u a → GainsFront t u (a ++ b)
 front-of_first t u a b front =
     let longer = front_longer front.0 a b in
     (longer.0, front.1 ∙ ap (gained t) longer.1)
@@ -42,12 +39,12 @@ take_past (x ∷ a) (suc m) n b here =
     ap (λ (xs : List ℕ). x ∷ xs) (take_past a m n b (omega (arith, here)))
 
 -- a front of what comes second, where the first is there
-pub front-of_second : (t u v : Tap) (a b : List ℕ) → u ≡ gained t a → GainsFront u v b →
+pub front-of_second : (t u v : Told) (a b : List ℕ) → u ≡ gained t a → GainsFront u v b →
     GainsFront t v (a ++ b)
 front-of_second t u v a b first front =
     let n = front.0 in (
       length a + n,
-      front.1 ∙ ap (λ (w : Tap). gained w (take n b)) first
+      front.1 ∙ ap (λ (w : Told). gained w (take n b)) first
           ∙ gained-twice t a (take n b)
           ∙ ap (gained t) (sym (take_past a (length a + n) n b refl)),
     )
@@ -58,12 +55,12 @@ abbrev Bytes : Type 0
 Bytes = ℕ → List ℕ
 
 abbrev AllTaps : Type 0
-AllTaps = ℕ → Tap
+AllTaps = ℕ → Told
 
 pub taps-twice : (n : ℕ) (a b : Bytes) (t u v : AllTaps) → TapsGain n a t u → TapsGain n b u v →
     TapsGain n (λ j. a j ++ b j) t v
 taps-twice n a b t u v first second j low high =
-    second j low high ∙ ap (λ (w : Tap). gained w (b j)) (first j low high)
+    second j low high ∙ ap (λ (w : Told). gained w (b j)) (first j low high)
     ∙ gained-twice (t j) (a j) (b j)
 
 pub fronts-of_all : (n : ℕ) (a : Bytes) (t u : AllTaps) → TapsGain n a t u → TapsGainFronts n a t u

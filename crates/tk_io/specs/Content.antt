@@ -5,6 +5,10 @@ use Rattle.std.specs.Prelude.{◌≡◌, ℕ, ◌+◌, ◌^◌, ◌<◌, ◌≤�
 abbrev pub Rose : ℕ → ℕ → Type 0
 Rose old new = (old < new) ⊎ (2 ^ 64 ≤ new + 1)
 
+-- what an object has left, or holds, where it tells it
+abbrev pub Told : Type 0
+Told = Option (List ℕ)
+
 -- what is held when bytes came to it; an object that tells nothing still tells nothing
 abbrev pub gained : Option (List ℕ) → List ℕ → Option (List ℕ)
 gained (Some held) bytes = Some (held ++ bytes)

@@ -12,7 +12,8 @@ use Rattle.tk_frames.specs.Spelling.{be32}
 use Rattle.tk_frames.specs.Fields.{number_at}
 use Rattle.tk_packets.specs.Packets.{packet, packet_bytes, EndsWithin, TakesAtMost}
 use Rattle.tk_packets.specs.Frames.{epoch_frame}
-use Rattle.tk_packets.proofs.Pieces.{taken_both, emptied-before}
+use Rattle.tk_io.proofs.Offers.{taken_more}
+use Rattle.tk_packets.proofs.Pieces.{emptied-before}
 
 -- four bytes are the spelling of the number in them
 pub number-joined : (place : ℕ) (bytes : List ℕ) → IsBytes bytes → place + 4 ≤ length bytes →
@@ -73,7 +74,7 @@ taken-packet old middle new head bytes n m peer count taken spelled counted enou
     let heads : be32 peer ++ be32 (length bytes) ≡ take n head =
     ap (λ k. be32 peer ++ be32 k) counted ∙ spelled ∙ sym (whole n head taken.long taken.all)
     in
-    taken_both old middle new (take n head) (take m bytes) taken.first taken.second
+    taken_more old middle new (take n head) (take m bytes) taken.first taken.second
     ∙ ap (λ xs. before_taking (take n head ++ xs) new) (take_all m bytes enough)
     ∙ ap (λ xs. before_taking (xs ++ bytes) new) (sym heads)
 
@@ -92,7 +93,7 @@ taken-cut old middle new head bytes n m most taken counted fewer allowed end =
     in
     record {
       taken = both;
-      all = taken_both old middle new (take n head) (take m bytes) taken.first taken.second;
+      all = taken_more old middle new (take n head) (take m bytes) taken.first taken.second;
       end = end ∙ sym (ap emptied taken.first ∙ emptied-before (take n head) middle);
       cut =
           record {
@@ -108,7 +109,7 @@ pub takes-both : (old middle new : Option (List ℕ)) (head : List ℕ) (n m mos
 takes-both old middle new head n m most long first low rest =
     record {
       taken = take n head ++ rest.taken;
-      front = taken_both old middle new (take n head) rest.taken first rest.front;
+      front = taken_more old middle new (take n head) rest.taken first rest.front;
       few =
           omega (arith, length-append (take n head) rest.taken, length-take n head, long, rest.few, low);
     }

@@ -1,4 +1,5 @@
 pub mod Pieces
+pub mod Takings
 pub mod Bits
 pub mod Heads
 pub mod Passings

@@ -7,18 +7,6 @@ use Rattle.std.proofs.lemmas.Slice.{take-put_mid}
 use borrow.Rule.Slice.PartMut.{put_mid}
 use Rattle.tk_io.specs.Content.{before_taking, emptied}
 
-before_taking-append : (a b : List ℕ) (rest : Option (List ℕ)) →
-    before_taking (a ++ b) rest ≡ before_taking a (before_taking b rest)
-before_taking-append a b None = refl
-before_taking-append a b (Some rest) = ap Some (append_assoc a b rest)
-
--- two takings in a row
-pub taken_both : (old middle new : Option (List ℕ)) (first second : List ℕ) →
-    old ≡ before_taking first middle → middle ≡ before_taking second new →
-    old ≡ before_taking (first ++ second) new
-taken_both old middle new first second e f =
-    e ∙ ap (before_taking first) f ∙ sym (before_taking-append first second new)
-
 -- where all was taken of what is left after a taking, all was taken
 pub emptied-before : (taken : List ℕ) (rest : Option (List ℕ)) → emptied (before_taking taken rest) ≡ emptied rest
 emptied-before taken None = refl
