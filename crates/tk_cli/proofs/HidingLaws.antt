@@ -1,18 +1,16 @@
 -- An input of two scripts, and the tape that is made of its parts.
-use Rattle.std.proofs.Common.{◌≡◌, ◌∙◌, refl, ap, sym, subst, ℕ, List, length, Option, Some}
+use Rattle.std.proofs.Common.{◌≡◌, ◌∙◌, refl, ap, sym, subst, ℕ, List, Option, Some}
 use Rattle.std.specs.Prelude.{IsSome, None}
 use Rattle.tk_shape.specs.declared.shape.Shape.{Shape}
-use Rattle.tk_shape.specs.Lengths.{tape_len}
 use Rattle.tk_schedule.specs.declared.history.History.{History}
 use Rattle.tk_schedule.specs.declared.raw.RawLine.{RawLine}
 use Rattle.tk_schedule.specs.Schedule.{IsLegal}
 use Rattle.tk_script.specs.declared.form.Form.{Form}
 use Rattle.tk_script.specs.declared.form.Form.TheVariants as form
 use Rattle.tk_script.specs.declared.input.Input.{Input}
-use Rattle.tk_script.specs.declared.input.RawTape.{RawTape}
 use Rattle.tk_script.specs.declared.reply.RawReply.{RawReply}
 use Rattle.tk_script.specs.declared.script.Script.{Script}
-use Rattle.tk_script.specs.Book.{HasTape, IsWholeTape}
+use Rattle.tk_script.specs.Book.{HasTape}
 use Rattle.tk_script.specs.Grammar.{Spells}
 use Rattle.tk_script.specs.Printing.{printed_tape}
 use Rattle.tk_script.proofs.Offers.{spelled-HasTape, zip-replies}
@@ -24,11 +22,11 @@ use Rattle.tk_cli.specs.declared.request.Request.TheVariants as request
 use Rattle.tk_cli.specs.Chosen.{HasReplies, chosen}
 use Rattle.tk_cli.specs.Endings.{IsAnswer, mirror_of, wrong_of}
 use Rattle.tk_cli.specs.Hidings.{IsHiding, IsOfTwo}
-use Rattle.tk_cli.specs.Inputs.{TellsIn, kept_in}
+use Rattle.tk_cli.specs.Inputs.{TellsIn}
 
 -- ---- what is spelled
 
-drawn-tape : (f : Form) (bytes : List ℕ) (input : Input) → Spells f bytes input →
+pub drawn-tape : (f : Form) (bytes : List ℕ) (input : Input) → Spells f bytes input →
     input.first.keys ≡ None → HasTape input.first.shape None input.tape
 drawn-tape f bytes input spelled drawn =
     subst (λ k. HasTape input.first.shape k input.tape) drawn (spelled-HasTape f bytes input spelled)
@@ -59,11 +57,6 @@ wrong-replies bytes input spelled =
     (zip-replies input.first.shape spelled.replies.reply_lines spelled.answers spelled.replies.each)
 
 -- ---- its parts
-
-pub kept-whole : (shape : Shape) (tape : Option RawTape) → HasTape shape None tape →
-    IsWholeTape shape tape → length (kept_in tape) ≡ tape_len shape
-kept-whole shape None has whole = absurd has
-kept-whole shape (Some tape) has whole = whole.0
 
 pub told-legal : (shape : Shape) (raw : Option (List RawLine)) (H : History) →
     TellsIn shape raw H → IsLegal shape H

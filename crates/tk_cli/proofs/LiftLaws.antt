@@ -1,5 +1,5 @@
 -- What refuses a script to be lifted, and what it is lifted to.
-use Rattle.std.proofs.Common.{◌≡◌, ◌∙◌, ◌≤◌, ◌<◌, ◌++◌, append-nil, refl, ap, sym, subst, ℕ, List, [], length, cond, Option, Some, arith}
+use Rattle.std.proofs.Common.{◌≡◌, ◌∙◌, ◌≤◌, ◌<◌, ◌++◌, append-nil, refl, ap, sym, ℕ, List, [], length, cond, Option, Some, arith}
 use Rattle.std.specs.Prelude.{None, IsSome, nat_lt}
 use Rattle.std.proofs.lemmas.Bool.Decides.{nat_tests}
 use Rattle.tk_shape.specs.declared.shape.Shape.{Shape}
@@ -19,7 +19,6 @@ use Rattle.tk_script.specs.Book.{HasTape, IsWholeTape, book_from, book_of}
 use Rattle.tk_script.specs.Grammar.{Line, TapeFor, Spells}
 use Rattle.tk_script.specs.Lifting.{lifted_script}
 use Rattle.tk_script.specs.Printing.{printed, printed_tape}
-use Rattle.tk_script.proofs.Offers.{spelled-HasTape}
 use Rattle.tk_cli.specs.declared.request.Request.TheVariants as request
 use Rattle.tk_cli.specs.declared.status.Status.{Status}
 use Rattle.tk_cli.specs.declared.status.Status.TheVariants as status
@@ -29,11 +28,6 @@ use Rattle.tk_cli.specs.Endings.{IsAnswer, IsLiftedText, sections_of}
 use Rattle.tk_cli.proofs.InputLaws.{whole-not_refused}
 
 -- ---- the tape of a drawn script
-
-pub has-tape : (input : Input) (bytes : List ℕ) → Spells form.Run bytes input → input.first.keys ≡ None →
-    HasTape input.first.shape None input.tape
-has-tape input bytes spelled none =
-    subst (λ k. HasTape input.first.shape k input.tape) none (spelled-HasTape form.Run bytes input spelled)
 
 pub kept-whole : (shape : Shape) (tape : Option RawTape) → HasTape shape None tape → IsWholeTape shape tape →
     length (kept_in tape) ≡ tape_len shape

@@ -2,7 +2,7 @@
 use Rattle.std.proofs.Common.{◌≡◌, refl, ap, ap₂, sym, ◌∙◌, arith, add-mul, Bool, true, false, cond}
 use Rattle.std.proofs.Common.{ℕ, ◌+◌, ◌-◌, ◌*◌, ◌/◌, ◌<◌, ◌≤◌, List, length, set, Option, Some, None}
 use Rattle.std.specs.Prelude.{◌==◌, nat_lt, nat_le, ◌&&◌, slice_index_or}
-use Rattle.std.proofs.lemmas.Bool.{and_parts, eqb-true, eq-eqb, ltb-true, lt-ltb, leb-true, le-leb}
+use Rattle.std.proofs.lemmas.Bool.{and_parts, and_from, eqb-true, eq-eqb, ltb-true, lt-ltb, leb-true, le-leb}
 use Rattle.std.proofs.lemmas.Bool.{false≢true, false_from_ne_true}
 use Rattle.std.proofs.lemmas.List.{get_or-set_same, get_or-set_other}
 use Rattle.std.proofs.lemmas.Nat.{div-mul-add}
@@ -40,9 +40,6 @@ pub record IsIn (shape : Shape) (g c j : ℕ) : Type 0 where
   pub low : 1 ≤ j
   pub high : j ≤ shape.servers
 
-both : (a b : Bool) → a ≡ true → b ≡ true → (a && b) ≡ true
-both a b p q = ap₂ (λ (x y : Bool). x && y) p q
-
 in-from : (shape : Shape) (g c j : ℕ) → is_in shape g c j ≡ true → IsIn shape g c j
 in-from shape g c j e =
     let turn = nat_lt g (turn_count shape) in
@@ -59,9 +56,9 @@ in-from shape g c j e =
 
 from-in : (shape : Shape) (g c j : ℕ) → IsIn shape g c j → is_in shape g c j ≡ true
 from-in shape g c j is =
-    both _ _
-    (both _ _
-    (both _ _ (lt-ltb g (turn_count shape) is.turn_in) (lt-ltb c shape.clients is.client_in))
+    and_from _ _
+    (and_from _ _
+    (and_from _ _ (lt-ltb g (turn_count shape) is.turn_in) (lt-ltb c shape.clients is.client_in))
     (le-leb 1 j is.low))
     (le-leb j shape.servers is.high)
 
@@ -95,7 +92,7 @@ module _ (shape : Shape) (list : List (Option Sums)) (g c j : ℕ) (sums : Sums)
         (j' - 1) (omega (arith, is.low, is.high)) (omega (arith, is'.low, is'.high)) same in
         let turns = rows-apart shape.clients g c g' c' is.client_in is'.client_in reads.0 in
         let servers : j' ≡ j = omega (arith, reads.1, is.low, is'.low) in
-        both _ _ (both _ _ (eq-eqb g' g turns.0) (eq-eqb c' c turns.1)) (eq-eqb j' j servers)
+        and_from _ _ (and_from _ _ (eq-eqb g' g turns.0) (eq-eqb c' c turns.1)) (eq-eqb j' j servers)
 
     inside : (g' c' j' : ℕ) → IsIn shape g' c' j' →
         sums_or_zeros shape (slice_index_or new (place_of shape g' c' j') None)

@@ -1,5 +1,5 @@
 -- A run under wrong replies is one under servers that reply so, and with honest ones the run.
-use Rattle.std.proofs.Common.{◌≡◌, refl, ap, ap₂, sym, ◌∙◌, arith, ℕ, zero, suc, ◌+◌, ◌<◌, ◌≤◌}
+use Rattle.std.proofs.Common.{◌≡◌, refl, ap, sym, ◌∙◌, arith, ℕ, zero, suc, ◌<◌, ◌≤◌}
 use Rattle.std.proofs.Common.{◌==◌, true, false, cond, List, [], ◌∷◌, map}
 use Rattle.std.proofs.lemmas.Bool.{eqb-true, eqb-false}
 use Rattle.std.specs.List.{range_with_len}
@@ -19,7 +19,7 @@ use Rattle.tk_client.specs.Replies.{answer_in}
 use Rattle.tk_report.specs.Exchange.{read_at, read_pair, read_seen}
 use Rattle.tk_report.specs.Report.{read_over, reader_before, target_for}
 use Rattle.tk_report.specs.Serving.{honest, reader_under, reader_after, frame_under}
-use Rattle.tk_report.proofs.Offers.{turns-agree, honest-readers}
+use Rattle.tk_report.proofs.Offers.{turns-agree, honest-readers, map-range}
 use Rattle.tk_privacy.specs.Privacy.{read_for}
 use Rattle.tk_hostile.specs.Choice.{Choice, own_sums, reply_with, reply_by, replies_by}
 use Rattle.tk_hostile.specs.Wrong.{reader_next, reader_asking, asks, wrong_reader, wrong_pair}
@@ -65,13 +65,6 @@ wrong-readers S b H h F c (suc g) =
     ∙ next-same S b H h F g c (reader_under S b H (wrong S w H h F) c g)
 
 -- ---- honest ones
-
-map-range : {X : Type 0} (f f' : ℕ → X) (a n : ℕ) → ((k : ℕ) → a ≤ k → k < a + n → f k ≡ f' k) →
-    map f (range_with_len a n) ≡ map f' (range_with_len a n)
-map-range f f' a zero same = refl
-map-range f f' a (suc n) same =
-    ap₂ (λ x xs. x ∷ xs) (same a (omega arith) (omega arith))
-    (map-range f f' (a + 1) n (λ k low high. same k (omega (arith, low)) (omega (arith, high))))
 
 module _ (S : Script) (b : WordBook) (H : History) (h : ℕ) (F : Choice)
     (are : AreHonest S b H h F) where

@@ -20,7 +20,7 @@ use Rattle.tk_report.specs.Entries.{write_at}
 use Rattle.tk_report.specs.Report.{follows_of}
 use Rattle.tk_privacy.specs.Privacy.{Pairs, normal_for, regained, unnormal_for}
 use Rattle.tk_privacy.specs.Counts.{all_but}
-use Rattle.tk_privacy.specs.Hiding.{blank_read}
+use Rattle.tk_report.specs.Exchange.{blank_read}
 use Rattle.tk_hostile.specs.declared.sums.Sums.{Sums}
 use Rattle.tk_hostile.specs.Choice.{reply_with}
 use Rattle.tk_hostile.specs.Wrong.{read_regained}

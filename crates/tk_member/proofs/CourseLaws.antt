@@ -6,6 +6,7 @@ use Rattle.std.specs.Prelude.{Option, Some, None, option_map, Result, Ok, Err}
 use Rattle.std.specs.Simd.Lanes.{fold_l}
 use Rattle.std.proofs.lemmas.Grind.{flat_map-append}
 use Rattle.tk_io.specs.Content.{before_taking, emptied, gained}
+use Rattle.tk_io.proofs.Offers.{before_taking-append, before_taking-nothing, gained-nothing, gained-twice}
 use Rattle.tk_words.specs.Words.{WordBook}
 use Rattle.tk_packets.specs.Packets.{PacketView, packet_bytes, packets_bytes}
 use Rattle.tk_packets.specs.Lines.{Gone, passed, taken, dealt, exchanges}
@@ -20,8 +21,8 @@ use Rattle.tk_member.specs.Courses.{Told, IsShort, behind_if, after_packet, afte
 use Rattle.tk_member.specs.Courses.{EndsBetween, EndsAt, EndsWriting, EndsFor, TookOne}
 use Rattle.tk_member.specs.Courses.{HasTaken, EndsDone, TookNone, stood_by, sent_by, member_next, sends_next, exchanged}
 use Rattle.tk_member.proofs.ActingLaws.{behind-behind, behind-none}
-use Rattle.tk_member.proofs.Sequences.{each-append}
-use Rattle.tk_member.proofs.Streams.{taking-none, taking-both, gaining-none, gaining-both, front-behind}
+use Rattle.tk_script.proofs.Offers.{each-append}
+use Rattle.tk_member.proofs.Sequences.{front-behind}
 
 -- ---- packets
 
@@ -78,7 +79,7 @@ takes-both b m t u left middle rest first second =
       taken =
           first.taken
           ∙ ap (before_taking (packets_bytes first.packets)) second.taken
-          ∙ taking-both (packets_bytes first.packets) (packets_bytes second.packets) rest
+          ∙ sym (before_taking-append (packets_bytes first.packets) (packets_bytes second.packets) rest)
           ∙ ap (λ bytes. before_taking bytes rest)
           (sym (flat_map-append packet_bytes first.packets second.packets));
     }
@@ -131,7 +132,7 @@ course-both b m t u left middle rest gone h new first second =
       puts =
           second.puts
           ∙ ap (λ o. gained o (packets_bytes u.packets)) first.puts
-          ∙ gaining-both gone.bytes (packets_bytes t.packets) (packets_bytes u.packets)
+          ∙ gained-twice gone.bytes (packets_bytes t.packets) (packets_bytes u.packets)
           ∙ ap (gained gone.bytes) (sym (flat_map-append packet_bytes t.packets u.packets));
       order =
           second.order
@@ -145,7 +146,7 @@ course-both b m t u left middle rest gone h new first second =
 -- no packet
 unfoldable pub takes-none : (b : WordBook) (m : MemberState) (left : Told) → Takes b m (unmoved m) left left
 unfolding after_packets
-takes-none b m left = record { packets = []; short = tt; stands = refl; taken = taking-none left }
+takes-none b m left = record { packets = []; short = tt; stands = refl; taken = sym (before_taking-nothing left) }
 
 pub course-none : (b : WordBook) (m : MemberState) (left : Told) (gone : Gone) →
     IsCourse b m (unmoved m) left left gone gone
@@ -153,7 +154,7 @@ unfolding takes-none exchanged
 course-none b m left gone =
     record {
       takes = takes-none b m left;
-      puts = gaining-none gone.bytes;
+      puts = sym (gained-nothing gone.bytes);
       order = sym (passed-nothing gone.past);
     }
 
@@ -245,7 +246,7 @@ writing-behind b m t left middle rest gone h new course ends =
       puts =
           ends.puts
           ∙ ap (λ o. gained o (take ends.count other)) course.puts
-          ∙ gaining-both gone.bytes one (take ends.count other)
+          ∙ gained-twice gone.bytes one (take ends.count other)
           ∙ ap (gained gone.bytes)
           (front-behind one other ends.count
           ∙ ap (take (length one + ends.count))
@@ -343,7 +344,7 @@ pub ends-empty : (count : ℕ) (b : WordBook) (m k n : MemberState)
     (left middle rest : Told) (gone h new : Gone) → HasTaken count b m k left middle gone h →
     TookNone k n middle rest h new → EndsDone b m left rest gone new
 ends-empty count b m k n left middle rest gone h new taken none =
-    let same : middle ≡ rest = none.none ∙ sym (taking-none rest) in
+    let same : middle ≡ rest = none.none ∙ before_taking-nothing rest in
     let there = subst (λ (x : Told). IsCourse b m taken.last left x gone h) same taken.course in
     record {
       last = taken.last;

@@ -3,6 +3,7 @@ use Rattle.std.proofs.Common.{◌≡◌, refl, sym, ◌∙◌, subst, ◌+◌, t
 use Rattle.std.proofs.Common.{take, ap, append-nil, inl, inr}
 use Rattle.std.specs.Prelude.{Result, Ok, Err, Option, Some, None}
 use Rattle.tk_io.specs.Content.{before_taking}
+use Rattle.tk_io.proofs.Offers.{gained-nothing}
 use Rattle.tk_words.specs.Words.{WordBook}
 use Rattle.tk_packets.specs.declared.packet_error.PacketError.{PacketError}
 use Rattle.tk_packets.specs.declared.packet_error.PacketError.TheVariants as packets
@@ -11,6 +12,7 @@ use Rattle.tk_packets.specs.declared.put_error.PutError.TheVariants as puts
 use Rattle.tk_packets.specs.Packets.{PacketView, packet_bytes, EndsWithin, ComesLong, TakesAtMost}
 use Rattle.tk_packets.specs.Lines.{Gone, passed, taken, after_taking, HasPutFront}
 use Rattle.tk_packets.proofs.Offers.{front-whole, dealt-bytes_front, dealt-order_front, taking-order, taking-bytes}
+use Rattle.tk_packets.proofs.Offers.{takes-nothing, takes-packet}
 use Rattle.tk_member.specs.declared.fault.Fault.{Fault}
 use Rattle.tk_member.specs.declared.fault.Fault.TheVariants.{Memory, Read, Write, Cut, Long, Setup}
 use Rattle.tk_member.specs.declared.fault.Fault.TheVariants.{Peer, Differ, Refused, Older}
@@ -21,7 +23,6 @@ use Rattle.tk_member.specs.Steps.{step, IsEnded}
 use Rattle.tk_member.specs.Courses.{Told, most_later, IsShort, IsCourse, EndsBetween, EndsAt, EndsWriting, EndsFor}
 use Rattle.tk_member.specs.Courses.{exchanged}
 use Rattle.tk_member.proofs.StepLaws.{IsOfPacket, EndsByPacket, step-ends}
-use Rattle.tk_member.proofs.Streams.{gaining-none, takes-nothing, takes-packet}
 use Rattle.tk_member.proofs.CourseLaws.{takes-none, takes-one, course-none, exchanged-one}
 
 -- nothing is put
@@ -43,7 +44,7 @@ ends-memory b m left rest gone new o goes took few =
       middle = left;
       takes = takes-none b m left;
       count = 0;
-      puts = ap (λ (g : Gone). g.bytes) took ∙ taking-bytes o gone ∙ gaining-none gone.bytes;
+      puts = ap (λ (g : Gone). g.bytes) took ∙ taking-bytes o gone ∙ sym (gained-nothing gone.bytes);
       besides = o;
       so_far = order.0;
       order = order.1;

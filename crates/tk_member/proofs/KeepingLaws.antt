@@ -1,13 +1,13 @@
 -- What is kept of epochs, once a server told one epoch more.
-use Rattle.std.proofs.Common.{◌≡◌, refl, ap, sym, ◌∙◌, subst, arith, ℕ, zero, suc, ◌+◌, ◌*◌, ◌<◌, ◌≤◌, inl, inr}
+use Rattle.std.proofs.Common.{◌≡◌, refl, ap, sym, ◌∙◌, subst, arith, ℕ, ◌+◌, ◌*◌, ◌<◌, ◌≤◌, inl, inr}
 use Rattle.std.proofs.Common.{List, [], ◌∷◌, ◌++◌, length, get_or, Bool, true, false, cond, length-append}
 use Rattle.std.proofs.Common.{◌-◌, take, drop, length-drop}
-use Rattle.std.specs.Prelude.{All, Result, Ok, Err, ◌==◌, ◌&&◌, slice_index}
+use Rattle.std.specs.Prelude.{Result, Ok, Err, ◌==◌, ◌&&◌, slice_index}
 use Rattle.std.specs.Str.{bytes_eq}
 use Rattle.std.proofs.Math.ListN.{set}
 use Rattle.std.proofs.lemmas.List.{length-set}
 use Rattle.std.proofs.lemmas.List.{get_or-set_same, get_or-set_other}
-use Rattle.std.proofs.lemmas.List.Elements.{All-set, All-append}
+use Rattle.std.proofs.lemmas.List.Elements.{All-set, All-append, All-cons, All-nil}
 use Rattle.std.proofs.lemmas.Bool.{cases_lt, cases_eq, lt-ltb, le-ltb, eqb-true}
 use Rattle.tk_shape.specs.declared.shape.Shape.{Shape}
 use Rattle.tk_member.specs.declared.fault.Fault.{Fault}
@@ -18,10 +18,6 @@ use Rattle.tk_member.specs.Epochs.{Marks, is_epoch_frame}
 use Rattle.tk_packets.proofs.Offers.{marks-whole}
 use Rattle.std.proofs.lemmas.List.{take_rest}
 use Rattle.tk_member.specs.Keeping.{AreTold, kept_with}
-
-one-all : {X : Type 0} (P : X → Type 0) (x : X) → P x → All P (x ∷ [])
-one-all P x holds zero d low = holds
-one-all P x holds (suc i) d low = absurd (omega (arith, low))
 
 -- the marks are there already
 told-again : (shape : Shape) (last : List ℕ) (none : Marks) (marks : List Marks) (i n : ℕ) →
@@ -59,9 +55,8 @@ told-next shape last none marks i n m are low all few long =
     let longer : length (marks ++ m ∷ []) ≡ length marks + 1 =
     omega (arith, length-append marks (m ∷ []))
     in
-    let one : All (λ (x : Marks). 8 * length x ≡ shape.filter_bits) (m ∷ []) =
-    one-all (λ (x : Marks). 8 * length x ≡ shape.filter_bits) m long
-    in
+    let wide = λ (x : Marks). 8 * length x ≡ shape.filter_bits in
+    let one = All-cons wide m [] long (All-nil wide) in
     record {
       counted = length-set last i (n + 1) ∙ are.counted;
       within =

@@ -1,5 +1,4 @@
 pub mod Sequences
-pub mod Streams
 pub mod Marked
 pub mod Tellings
 pub mod PacingLaws

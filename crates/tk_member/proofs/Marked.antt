@@ -1,12 +1,9 @@
 -- The filter of the positions that are marked has these marks and no others.
-use Rattle.std.proofs.Common.{◌≡◌, refl, ap, sym, ◌∙◌, arith, ℕ, zero, suc, ◌+◌, ◌<◌, ◌≤◌, List, [], ◌∷◌, ◌++◌}
-use Rattle.std.proofs.Common.{length, map, filter, flat_map, add-one, append-nil, cond, Bool, true, false}
+use Rattle.std.proofs.Common.{◌≡◌, refl, ap, sym, ◌∙◌, arith, ℕ, zero, suc, ◌+◌, ◌<◌, ◌≤◌, List, ◌∷◌}
+use Rattle.std.proofs.Common.{length, map, filter, cond, Bool, true, false}
 use Rattle.std.proofs.Common.{subst}
-use Rattle.std.specs.Prelude.{◌==◌, ◌||◌, All}
-use Rattle.std.specs.List.{list_any, range_with_len, AllByRecursion}
-use Rattle.std.proofs.lemmas.Grind.{flat_map-append}
-use Rattle.std.proofs.lemmas.List.{map-append}
-use Rattle.std.proofs.lemmas.List.Elements.{filter-append, All-from_recursion}
+use Rattle.std.specs.Prelude.{◌==◌, ◌||◌}
+use Rattle.std.specs.List.{list_any, range_with_len}
 use Rattle.tk_shape.specs.declared.shape.Shape.{Shape}
 use Rattle.tk_kernel.specs.Chosen.{has_bit}
 use Rattle.tk_kernel.proofs.Offers.{concat-all_pieces}
@@ -15,63 +12,6 @@ use Rattle.tk_bloom.specs.Windows.{pushes_in}
 use Rattle.tk_member.specs.Epochs.{filter_of}
 
 -- ---- the numbers that pass a test
-
-range-more : (a n : ℕ) → range_with_len a (suc n) ≡ range_with_len a n ++ (a + n) ∷ []
-range-more a zero = let here : a ≡ a + 0 = omega arith in ap (λ k. k ∷ []) here
-range-more a (suc n) =
-    let behind = range_with_len (a + 1) n in
-    let there : a + 1 + n ≡ a + suc n = omega arith in
-    ap (λ ks. a ∷ ks) (range-more (a + 1) n ∙ ap (λ k. behind ++ k ∷ []) there)
-
--- the numbers up to one are those below it and itself
-pub range-next : (n : ℕ) → range_with_len 0 (n + 1) ≡ range_with_len 0 n ++ n ∷ []
-range-next n =
-    let here : 0 + n ≡ n = omega arith in
-    ap (range_with_len 0) (add-one n) ∙ range-more 0 n ∙ ap (λ k. range_with_len 0 n ++ k ∷ []) here
-
--- what one more number gives
-pub flat_map-next : {A : Type 0} (f : ℕ → List A) (n : ℕ) →
-    flat_map f (range_with_len 0 (n + 1)) ≡ flat_map f (range_with_len 0 n) ++ f n
-flat_map-next f n =
-    ap (flat_map f) (range-next n)
-    ∙ flat_map-append f (range_with_len 0 n) (n ∷ [])
-    ∙ ap (λ (xs : List _). flat_map f (range_with_len 0 n) ++ xs) (append-nil (f n))
-
-pub map-next : {A : Type 0} (f : ℕ → A) (n : ℕ) →
-    map f (range_with_len 0 (n + 1)) ≡ map f (range_with_len 0 n) ++ f n ∷ []
-map-next f n = ap (map f) (range-next n) ∙ map-append f (range_with_len 0 n) (n ∷ [])
-
-one-more : (p : ℕ → Bool) (n : ℕ) (b : Bool) → p n ≡ b →
-    filter p (range_with_len 0 (n + 1)) ≡ filter p (range_with_len 0 n) ++ cond b (n ∷ []) []
-one-more p n b here =
-    ap (filter p) (range-next n)
-    ∙ filter-append p (range_with_len 0 n) (n ∷ [])
-    ∙ ap (λ a. filter p (range_with_len 0 n) ++ cond a (n ∷ []) []) here
-
--- one number more passes
-pub passes-next : (p : ℕ → Bool) (n : ℕ) → p n ≡ true →
-    filter p (range_with_len 0 n) ++ n ∷ [] ≡ filter p (range_with_len 0 (n + 1))
-passes-next p n here = sym (one-more p n true here)
-
--- or does not
-pub fails-next : (p : ℕ → Bool) (n : ℕ) → p n ≡ false →
-    filter p (range_with_len 0 n) ≡ filter p (range_with_len 0 (n + 1))
-fails-next p n here = sym (one-more p n false here ∙ append-nil (filter p (range_with_len 0 n)))
-
--- those that pass are below the end
-below : (p : ℕ → Bool) (a n top : ℕ) → a + n ≤ top →
-    AllByRecursion (λ k. k < top) (filter p (range_with_len a n))
-below p a zero top within = tt
-below p a (suc n) top within =
-    elim (p a) as (λ b. AllByRecursion (λ k. k < top)
-    (cond b (a ∷ filter p (range_with_len (a + 1) n)) (filter p (range_with_len (a + 1) n)))) [
-      | true ↦ (omega (arith, within), below p (a + 1) n top (omega (arith, within)))
-      | false ↦ below p (a + 1) n top (omega (arith, within))
-    ]
-
-pub passing-below : (p : ℕ → Bool) (n : ℕ) → All (λ h. h < n) (filter p (range_with_len 0 n))
-passing-below p n =
-    All-from_recursion (λ h. h < n) (filter p (range_with_len 0 n)) (below p 0 n n (omega arith))
 
 -- and no more than there are
 pub passing-few : (p : ℕ → Bool) (a n : ℕ) → length (filter p (range_with_len a n)) ≤ n

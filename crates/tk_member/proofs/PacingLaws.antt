@@ -5,6 +5,7 @@ use Rattle.std.proofs.Math.ListN.{get_or-append}
 use Rattle.std.proofs.Math.Seq.{get_or-append_seam}
 use Rattle.std.specs.Prelude.{◌==◌, All, slice_index_or}
 use Rattle.std.proofs.lemmas.Bool.{cases_lt}
+use Rattle.std.proofs.lemmas.List.Elements.{All-tail}
 use Rattle.tk_client.specs.declared.written.Written.{Written}
 use Rattle.tk_client.specs.declared.waiting.Waiting.{Waiting}
 use Rattle.tk_client.specs.Writing.{Writing, unwritten, count_of, one_more_of, with_text}
@@ -28,15 +29,11 @@ counts-none [] i f low = absurd (omega (arith, low))
 counts-none (log ∷ logs) zero f low = refl
 counts-none (log ∷ logs) (suc i) f low = counts-none logs i f (omega (arith, low))
 
-all-rest : (n : ℕ) (f : Written) (logs : List Written) → All (IsAtMost n) (f ∷ logs) →
-    All (IsAtMost n) logs
-all-rest n f logs all i d low = all (suc i) d (omega (arith, low))
-
 count-within : (n log : ℕ) (logs : List Written) → All (IsAtMost n) logs → count_of log logs ≤ n
 count-within n log [] all = omega arith
 count-within n log (f ∷ logs) all =
     let here : f.count ≤ n = all 0 f (omega arith) in
-    let later = count-within n log logs (all-rest n f logs all) in
+    let later = count-within n log logs (All-tail (IsAtMost n) f logs all) in
     elim (f.log == log) as (λ b. cond b f.count (count_of log logs) ≤ n) [
       | true ↦ here
       | false ↦ later
@@ -54,7 +51,7 @@ more-within : (n log : ℕ) (logs : List Written) → All (IsAtMost n) logs →
 more-within n log [] all i d low = absurd (omega (arith, low))
 more-within n log (f ∷ logs) all zero d low = one-more n log f (all 0 f (omega arith))
 more-within n log (f ∷ logs) all (suc i) d low =
-    more-within n log logs (all-rest n f logs all) i d (omega (arith, low))
+    more-within n log logs (All-tail (IsAtMost n) f logs all) i d (omega (arith, low))
 
 -- once a text is said
 pub paced-said : (turn log : ℕ) (text : List ℕ) (w : Writing) → IsPaced turn w →

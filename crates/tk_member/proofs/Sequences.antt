@@ -1,8 +1,7 @@
 -- What was sent, and what is left to be sent, is what it was, once one packet more was sent.
 use Rattle.std.proofs.Common.{◌≡◌, refl, ap, sym, ◌∙◌, arith, ℕ, suc, ◌+◌, ◌-◌, ◌<◌, List, [], ◌∷◌, ◌++◌}
-use Rattle.std.proofs.Common.{length, drop, get_or, append_assoc, add-one, drop-cons}
+use Rattle.std.proofs.Common.{length, take, drop, get_or, append_assoc, add-one, drop-cons}
 use Rattle.std.specs.Prelude.{replicate, Option, Some, None, option_map, IfSome}
-use Rattle.std.specs.List.{AllByRecursion}
 use Rattle.tk_client.specs.declared.got.Got.{Got}
 use Rattle.tk_packets.specs.Packets.{PacketView, packet}
 use Rattle.tk_member.specs.Acting.{packets_from}
@@ -70,8 +69,9 @@ all-sized [] = refl
 all-sized (None ∷ xs) = tt {0}
 all-sized (Some x ∷ xs) = one-sized x (length xs) (all_of xs) (all-sized xs)
 
--- what each element of two lists has each of both has
-pub each-append : {X : Type 0} (P : X → Type 0) (xs ys : List X) → AllByRecursion P xs → AllByRecursion P ys →
-    AllByRecursion P (xs ++ ys)
-each-append P [] ys one other = other
-each-append P (x ∷ xs) ys one other = (one.0, each-append P xs ys one.1 other)
+-- what is sent whole, and a front of what follows it, is a front of both
+pub front-behind : (a b : List ℕ) (k : ℕ) → a ++ take k b ≡ take (length a + k) (a ++ b)
+front-behind [] b k = let here : k ≡ 0 + k = omega arith in ap (λ n. take n b) here
+front-behind (x ∷ a) b k =
+    let here : suc (length a + k) ≡ suc (length a) + k = omega arith in
+    ap (λ bs. x ∷ bs) (front-behind a b k) ∙ ap (λ n. take n (x ∷ (a ++ b))) here

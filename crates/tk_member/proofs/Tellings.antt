@@ -7,6 +7,7 @@ use Rattle.std.specs.Prelude.{◌&&◌, nat_lt, All, replicate, slice_get, slice
 use Rattle.std.specs.Prelude.{Some, None, Result, Ok, Err}
 use Rattle.std.specs.Option.{option_or}
 use Rattle.std.specs.Str.{bytes_eq}
+use Rattle.std.proofs.lemmas.List.Elements.{All-tail}
 use Rattle.std.proofs.lemmas.List.{map-set, take-append-le, get_or_default, get_or-take, take_all, take_more}
 use Rattle.std.proofs.lemmas.Option.{slice_get-get_or, slice_get_past}
 use Rattle.std.proofs.lemmas.Bool.{cases_lt, lt-ltb, le-ltb}
@@ -19,9 +20,6 @@ use Rattle.tk_member.specs.Epochs.{Marks, Telling, least_of, epochs_in, known, m
 use Rattle.tk_member.specs.Epochs.{is_epoch_frame, told_behind, agrees, with_epoch}
 use Rattle.tk_member.specs.Keeping.{told_so_far, AreTold, IsTold, kept_with}
 
-all-rest : {X : Type 0} (P : X → Type 0) (x : X) (xs : List X) → All P (x ∷ xs) → All P xs
-all-rest P x xs all k d low = all (suc k) d (omega (arith, low))
-
 -- ---- how far each server told
 
 pub lengths-told : (marks : List Marks) (last : List ℕ) → All (λ n. n ≤ length marks) last →
@@ -32,7 +30,7 @@ lengths-told marks (n ∷ last) within =
     let here : length (take n marks) ≡ n = omega (arith, length-take n marks, low) in
     ap (λ k. k ∷ map epochs_in (told_so_far marks last)) here
     ∙ ap (λ ks. n ∷ ks)
-    (lengths-told marks last (all-rest (λ k. k ≤ length marks) n last within))
+    (lengths-told marks last (All-tail (λ k. k ≤ length marks) n last within))
 
 pub known-is : (shape : Shape) (marks : List Marks) (last : List ℕ) →
     All (λ n. n ≤ length marks) last →
@@ -118,7 +116,7 @@ told-longer marks more (n ∷ last) within =
     let low : n ≤ length marks = within 0 n (omega arith) in
     ap (λ t. t ∷ told_so_far (marks ++ more) last) (take-append-le n marks more low)
     ∙ ap (λ ts. take n marks ∷ ts)
-    (told-longer marks more last (all-rest (λ k. k ≤ length marks) n last within))
+    (told-longer marks more last (All-tail (λ k. k ≤ length marks) n last within))
 
 abbrev map_ok : {X Y : Type 0} → (X → Y) → Result X Fault → Result Y Fault
 map_ok f (Ok x) = Ok (f x)

@@ -5,12 +5,12 @@ use Rattle.std.specs.Prelude.{Err}
 use Rattle.tk_io.specs.Content.{before_taking}
 use Rattle.tk_words.specs.Words.{WordBook}
 use Rattle.tk_packets.specs.Packets.{PacketView, packet_bytes}
+use Rattle.tk_packets.proofs.Offers.{takes-packet}
 use Rattle.tk_member.specs.declared.fault.Fault.{Fault}
 use Rattle.tk_member.specs.declared.fault.Fault.TheVariants.{Memory, Setup}
 use Rattle.tk_member.specs.Members.{MemberState}
 use Rattle.tk_member.specs.SetUp.{IsSetUp}
 use Rattle.tk_member.specs.Courses.{Told, most_first, EndsUnset}
-use Rattle.tk_member.proofs.Streams.{takes-packet}
 
 -- it sets no member up
 pub unset-refused : (T : Type 0) (e : Fault) (first : PacketView) (left rest : Told) →

@@ -3,6 +3,7 @@ use Rattle.std.specs.Prelude.{◌≡◌, ℕ, ◌+◌, ◌^◌, ◌≤◌, ◌�
 use Rattle.std.specs.Prelude.{length, take, Option, Some, None, Result, Ok, Err}
 use Rattle.std.specs.List.{AllByRecursion}
 use Rattle.std.specs.Simd.Lanes.{fold_l}
+pub use Rattle.tk_io.specs.Content.{Told}
 use Rattle.tk_io.specs.Content.{before_taking, emptied, gained}
 use Rattle.tk_words.specs.Words.{WordBook}
 use Rattle.tk_packets.specs.Packets.{PacketView, packet_bytes, packets_bytes, EndsWithin, ComesLong}
@@ -15,10 +16,6 @@ use Rattle.tk_member.specs.Members.{MemberState, is_over}
 use Rattle.tk_member.specs.Acting.{Turned, unmoved, behind}
 use Rattle.tk_member.specs.Steps.{step}
 use Rattle.tk_member.specs.SetUp.{IsSetUp}
-
--- what a line has left, where it tells it
-abbrev pub Told : Type 0
-Told = Option (List ℕ)
 
 -- the bytes of a packet at most: those of the first one have room for a number and the largest input
 abbrev pub most_first : ℕ

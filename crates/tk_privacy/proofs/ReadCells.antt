@@ -7,7 +7,7 @@ use Rattle.std.proofs.Common.{inl, inr}
 use Rattle.std.specs.Prelude.{nat_lt}
 use Rattle.std.specs.List.{concat}
 use Rattle.std.proofs.lemmas.Bool.{cases_lt, lt-ltb}
-use Rattle.std.proofs.lemmas.List.{take_all, length-take-le, set-get_or, length-set}
+use Rattle.std.proofs.lemmas.List.{take_all, length-map, length-take-le, set-get_or, length-set}
 use Rattle.std.proofs.lemmas.List.{get_or-set_same, get_or-set_other, get_or_append_left}
 use Rattle.std.proofs.lemmas.List.{get_or_push, take_at, drop_at}
 use Rattle.tk_shape.specs.declared.shape.Shape.{Shape}
@@ -15,7 +15,7 @@ use Rattle.tk_shape.specs.Lengths.{seed_len, vector_len, piece_len, read_cell_le
 use Rattle.tk_kernel.specs.Xor.{xor_bytes, xor_all}
 use Rattle.tk_kernel.specs.Pieces.{pieces, AllSized}
 use Rattle.tk_kernel.proofs.Offers.{xor_bytes_assoc, xor_bytes_comm, xor_bytes_twice}
-use Rattle.tk_kernel.proofs.Offers.{length-xor_all}
+use Rattle.tk_kernel.proofs.Offers.{length-xor_all, AllSized-map, AllSized-set, length-concat}
 use Rattle.tk_kernel.proofs.Offers.{concat-pieces, length-pieces, AllSized-pieces, pieces-append}
 use Rattle.tk_bits.specs.Shares.{unit_vector, last_share, completed}
 use Rattle.tk_bits.proofs.Offers.{length-unit_vector, length-last_share}
@@ -43,12 +43,6 @@ xor_all-set size (v ∷ vs) (suc i) x h l =
     ap (xor_bytes v) (xor_all-set size vs i x h.1 (omega arith))
     ∙ swap x v (xor_bytes one all)
     ∙ ap (xor_bytes x) (swap one v all)
-
-sized-set : (size : ℕ) (vs : List (List ℕ)) (i : ℕ) (x : List ℕ) → AllSized size vs → length x
-    ≡ size → AllSized size (set vs i x)
-sized-set size [] i x h e = tt
-sized-set size (v ∷ vs) zero x h e = (e, h.1)
-sized-set size (v ∷ vs) (suc i) x h e = (h.0, sized-set size vs i x h.1 e)
 
 sized-get : (size : ℕ) (vs : List (List ℕ)) (i : ℕ) → AllSized size vs → i < length vs →
     length (get_or vs i []) ≡ size
@@ -92,15 +86,6 @@ get-map f [] i low = absurd (omega (arith, low))
 get-map f (p ∷ ps) zero low = refl
 get-map f (p ∷ ps) (suc i) low = get-map f ps i (omega (arith, low))
 
-length-mapped : (f : List ℕ → List ℕ) (ps : List (List ℕ)) → length (map f ps) ≡ length ps
-length-mapped f [] = refl
-length-mapped f (p ∷ ps) = ap suc (length-mapped f ps)
-
-sized-map : (f : List ℕ → List ℕ) (a b : ℕ) (ps : List (List ℕ)) →
-    ((p : List ℕ) → length p ≡ a → length (f p) ≡ b) → AllSized a ps → AllSized b (map f ps)
-sized-map f a b [] becomes h = tt
-sized-map f a b (p ∷ ps) becomes h = (becomes p h.0, sized-map f a b ps becomes h.1)
-
 -- ---- pieces as they should be
 
 pub record ArePieces (shape : Shape) (ps : List (List ℕ)) : Type 0 where
@@ -117,7 +102,7 @@ vectors_in shape ps = map (piece_vector shape) ps
 sized-vectors : (shape : Shape) (ps : List (List ℕ)) → ArePieces shape ps →
     AllSized (vector_len shape) (vectors_in shape ps)
 sized-vectors shape ps are =
-    sized-map (piece_vector shape) (piece_len shape) (vector_len shape) ps
+    AllSized-map (piece_vector shape) (piece_len shape) (vector_len shape) ps
     (λ p long. omega (arith, long, length-drop (seed_len shape) p)) are.sized
 
 -- server h gets of these pieces for a bucket what the last server gets of others
@@ -154,7 +139,7 @@ module _ (shape : Shape) (h bucket : ℕ) (ps : List (List ℕ)) (high : h < sha
   with_hidden-pieces =
       record {
         count = length-set ps (h - 1) (seed ++ share) ∙ are.count;
-        sized = sized-set (piece_len shape) ps (h - 1) (seed ++ share) are.sized
+        sized = AllSized-set (piece_len shape) ps (h - 1) (seed ++ share) are.sized
             (omega (arith, length-append seed share, length-seed, length-share));
       }
 
@@ -170,7 +155,7 @@ module _ (shape : Shape) (h bucket : ℕ) (ps : List (List ℕ)) (high : h < sha
       let size = vector_len shape in
       let changed = seed ++ share in
       let vectors = vectors_in shape ps in
-      let within : h - 1 < length vectors = omega (arith, place, length-mapped (piece_vector shape) ps) in
+      let within : h - 1 < length vectors = omega (arith, place, length-map ps (piece_vector shape)) in
       let own_seed : piece_seed shape (get_or (set ps (h - 1) changed) (h - 1) []) ≡ seed =
       ap (piece_seed shape) (get_or-set_same ps (h - 1) changed [] place)
       ∙ take_at seed share (seed_len shape) length-seed
@@ -194,7 +179,7 @@ module _ (shape : Shape) (h bucket : ℕ) (ps : List (List ℕ)) (high : h < sha
       hidden-vector =
           let changed = seed ++ share in
           let vectors = vectors_in shape ps in
-          let count = length-mapped (piece_vector shape) ps in
+          let count = length-map ps (piece_vector shape) in
           elim (nat_lt j shape.servers) as (λ t. nat_lt j shape.servers ≡ t →
           piece_vector shape (get_or (set ps (h - 1) changed) (cond t j h - 1) [])
           ≡ get_or (vectors ++ share ∷ []) (j - 1) []) [
@@ -229,7 +214,7 @@ module _ (shape : Shape) (h bucket : ℕ) (ps : List (List ℕ)) (high : h < sha
   hidden-last =
       let size = vector_len shape in
       let vectors = vectors_in shape ps in
-      let count = length-mapped (piece_vector shape) ps in
+      let count = length-map ps (piece_vector shape) in
       let changed = set vectors (h - 1) share in
       let within : h - 1 < length vectors = omega (arith, place, count) in
       let counted : length changed ≡ length vectors = length-set vectors (h - 1) share in
@@ -260,22 +245,13 @@ module _ (shape : Shape) (h j bucket : ℕ) (ps : List (List ℕ)) (low : shape.
       ≡ get_or (completed (vector_len shape) bucket (vectors_in shape ps)) (j - 1) []
   open-vector =
       let vectors = vectors_in shape ps in
-      let count = length-mapped (piece_vector shape) ps in
+      let count = length-map ps (piece_vector shape) in
       let less = less_than in
       shown-own (piece_vector shape)
       ∙ sym (get_or_append_left vectors (last_share (vector_len shape) bucket vectors ∷ []) [] (j - 1)
       (omega (arith, less, j_low, are.count, count)))
 
 -- ---- pieces joined, and cut again
-
-length-concat : (size : ℕ) (vs : List (List ℕ)) → AllSized size vs → length (concat vs)
-    ≡ length vs * size
-length-concat size [] h = omega arith
-length-concat size (v ∷ vs) h =
-    omega (arith, length-append v (concat vs), h.0, length-concat size vs h.1, more (length vs))
-  where
-    more : (n : ℕ) → suc n * size ≡ size + n * size
-    more n = omega arith
 
 pieces-concat : (size : ℕ) (vs : List (List ℕ)) (rest : List ℕ) → AllSized size vs →
     pieces size (length vs) (concat vs ++ rest) ≡ vs

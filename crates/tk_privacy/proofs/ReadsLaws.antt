@@ -16,8 +16,9 @@ use Rattle.tk_frames.specs.declared.read_frame.ReadFrame.{ReadFrame}
 use Rattle.tk_client.specs.Framing.{AreAllTold}
 use Rattle.tk_client.proofs.Offers.{frame-told}
 use Rattle.tk_report.proofs.Offers.{flat_map-next}
+use Rattle.tk_report.specs.Exchange.{blank_read}
 use Rattle.tk_privacy.specs.Privacy.{Pairs, read_for}
-use Rattle.tk_privacy.specs.Hiding.{read_in, blank_read}
+use Rattle.tk_privacy.specs.Hiding.{read_in}
 use Rattle.tk_privacy.specs.Reads.{reads_at, reads_before, all_reads}
 use Rattle.tk_privacy.specs.Steps.{AreLastReads}
 

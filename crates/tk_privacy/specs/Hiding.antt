@@ -1,12 +1,12 @@
 -- Read cells with other vectors for one server.
-use Rattle.std.specs.Prelude.{ℕ, ◌+◌, ◌*◌, List, [], ◌++◌, take}
+use Rattle.std.specs.Prelude.{ℕ, ◌+◌, ◌*◌, List, ◌++◌, take}
 use Rattle.std.specs.Prelude.{slice_index_or}
 use Rattle.std.specs.List.{concat}
 use Rattle.tk_shape.specs.declared.shape.Shape.{Shape}
 use Rattle.tk_shape.specs.Lengths.{turn_count}
 use Rattle.tk_frames.specs.declared.read_frame.ReadFrame.{ReadFrame}
-use Rattle.tk_frames.specs.declared.seeds.Seeds.TheVariants.{Plain}
 use Rattle.tk_words.specs.Words.{cell_pieces, read_cell}
+use Rattle.tk_report.specs.Exchange.{blank_read}
 use Rattle.tk_privacy.specs.Privacy.{cells, with_vector}
 
 -- a read cell with these as server h's vectors of either bucket
@@ -16,10 +16,6 @@ cell_with shape h first second cell =
     take 8 cell
     ++ (concat (with_vector shape h first pieces.first)
     ++ concat (with_vector shape h second pieces.second))
-
-abbrev pub blank_read : ReadFrame
-blank_read =
-    record { client = 0; turn = 0; epoch = 0; first = []; second = []; seeds = Plain }
 
 -- the read of a client's turn, among those of all turns, in each of which they lie by client
 abbrev pub read_in : Shape → List ReadFrame → ℕ → ℕ → ReadFrame

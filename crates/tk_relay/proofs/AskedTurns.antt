@@ -1,11 +1,11 @@
 -- What a client asks in a turn of a run.
-use Rattle.std.proofs.Common.{◌≡◌, refl, ap, sym, subst, ◌∙◌, arith, ℕ, ◌+◌, ◌<◌, ◌≤◌, Bool, List, [], ◌∷◌, map}
-use Rattle.std.proofs.Common.{Option, None, le_trans, div-mul-le_self, le_of_mul-le-mul_right}
+use Rattle.std.proofs.Common.{◌≡◌, refl, ap, sym, subst, ◌∙◌, arith, ℕ, ◌+◌, ◌<◌, Bool, List, [], ◌∷◌, map}
+use Rattle.std.proofs.Common.{Option, None}
 use Rattle.std.specs.List.{AllByRecursion, range_with_len}
 use Rattle.std.proofs.lemmas.List.FromFn.{length-map-range_with_len, get_or-map-range_with_len}
 use Rattle.tk_shape.specs.Lengths.{turn_count}
 use Rattle.tk_schedule.specs.declared.history.History.{History}
-use Rattle.tk_schedule.specs.Schedule.{IsLegal, epoch_at, phases_over}
+use Rattle.tk_schedule.specs.Schedule.{IsLegal, epoch_at}
 use Rattle.tk_script.specs.declared.script.Script.{Script}
 use Rattle.tk_words.specs.Words.{WordBook, BookWords, words_of, IsBook}
 use Rattle.tk_frames.specs.declared.read_frame.ReadFrame.{ReadFrame}
@@ -19,12 +19,11 @@ use Rattle.tk_client.specs.Client.{ClientState, opened, target_over}
 use Rattle.tk_client.specs.Reader.{target, at_epoch}
 use Rattle.tk_client.proofs.Offers.{asked-in_range}
 use Rattle.tk_report.specs.Clients.{client_knowing}
-use Rattle.tk_report.specs.Entries.{write_at}
-use Rattle.tk_report.specs.Exchange.{read_at, read_pair}
+use Rattle.tk_report.specs.Exchange.{blank_read, read_at, read_pair}
 use Rattle.tk_report.specs.Report.{target_at, read_over, reader_before}
 use Rattle.tk_report.specs.Turns.{placed_before}
-use Rattle.tk_report.proofs.Offers.{before-over}
-use Rattle.tk_relay.specs.Bundles.{AreOneRead, IsAlong, frame_of, blank_read}
+use Rattle.tk_report.proofs.Offers.{all-made, epoch-most}
+use Rattle.tk_relay.specs.Bundles.{AreOneRead, IsAlong, frame_of}
 use Rattle.tk_relay.specs.Relayed.{frames_read}
 use Rattle.tk_relay.specs.Running.{client_wrote, client_asked}
 
@@ -39,30 +38,6 @@ module _ (S : Script) (w : BookWords) (H : History) (g c : ℕ) (client : Client
   pub wrote-closed : client.read ≡ None
   unfolding client_knowing
   wrote-closed = ap (λ (s : ClientState). s.read) wrote
-
--- ---- epochs
-
--- no epoch is read that has no phase
-pub epoch-most : (S : Script) (H : History) (g c : ℕ) → IsLegal S.shape H →
-    g < turn_count S.shape → c < S.shape.clients → epoch_at H g c ≤ S.shape.phases
-epoch-most S H g c legal low client_in =
-    let ahead = (legal.each_turn g low).none_ahead c client_in in
-    let most : phases_over S.shape (g + 1) ≤ S.shape.phases =
-    le_of_mul-le-mul_right
-    (le_trans (div-mul-le_self (g + 1) S.shape.ticks) (omega (arith, low)))
-    S.shape.in_range.ticks_low
-    in
-    omega (arith, ahead, most)
-
--- what stands before the mark of an epoch that is read in a turn stands there when its entries do
-pub before-read : (S : Script) (b : WordBook) (H : History) (g c : ℕ) → IsLegal S.shape H →
-    g < turn_count S.shape → c < S.shape.clients →
-    before (placed_before S (words_of S.shape b) H (g + 1)) (epoch_at H g c)
-    ≡ read_over S (words_of S.shape b) H g c
-before-read S b H g c legal low client_in =
-    let ahead = (legal.each_turn g low).none_ahead c client_in in
-    sym (before-over S.shape (write_at S (words_of S.shape b)) H (g + 1) (turn_count S.shape)
-    (epoch_at H g c) legal (omega (arith, low)) (omega arith) ahead)
 
 -- ---- what a client asks
 
@@ -85,7 +60,7 @@ module _ (S : Script) (b : WordBook) (H : History) (g c e : ℕ) (marks : List B
       let E = placed_before S (words_of S.shape b) H (g + 1) in
       shows hits
       ∙ ap (λ (R : List Record). is_shown S.shape R hits)
-      (ap (before E) named ∙ before-read S b H g c legal turn_in client_in)
+      (ap (before E) named ∙ all-made S b H g legal turn_in c client_in)
 
   -- so the client's target is that of the turn
   target-is : target_over (words_of client.shape b) marks e client

@@ -19,10 +19,11 @@ use Rattle.tk_bits.proofs.Offers.{length-chosen_sum, chosen_sum-joined, unit-cho
 use Rattle.tk_words.specs.Words.{BothBuckets}
 use Rattle.tk_frames.specs.declared.read_frame.ReadFrame.{ReadFrame}
 use Rattle.tk_client.specs.Asked.{AreWhole, frame_with}
+use Rattle.tk_report.specs.Exchange.{blank_read}
 use Rattle.tk_relay.specs.Halves.{Halves, HasHalves, mixed}
 use Rattle.tk_relay.specs.Pads.{PadLists, ArePads, masked}
 use Rattle.tk_relay.specs.Parts.{part_with}
-use Rattle.tk_relay.specs.Bundles.{vectors_of, frame_of, blank_read, part_for}
+use Rattle.tk_relay.specs.Bundles.{vectors_of, frame_of, part_for}
 use Rattle.tk_relay.specs.Serving.{sums_for, served_part}
 use Rattle.tk_relay.specs.Sights.{Reading, frames_for, AreBuckets, AreBlocks, units_of, blocks_at}
 use Rattle.tk_relay.proofs.Masks.{masked-twice}

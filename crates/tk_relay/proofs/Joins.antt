@@ -16,16 +16,18 @@ use Rattle.tk_table.specs.Table.{layout, blocks_of}
 use Rattle.tk_table.specs.Ordered.{AreOrdered}
 use Rattle.tk_table.specs.Laws.{IsStorable}
 use Rattle.tk_table.proofs.Offers.{layout-laid_out, layout-read_back}
+use Rattle.tk_report.proofs.Offers.{map-map, map-range, each-made}
+use Rattle.tk_report.specs.Exchange.{blank_read}
 use Rattle.tk_relay.specs.declared.part.Part.{Part}
 use Rattle.tk_relay.specs.Halves.{Halves, HasHalves, blank_halves, mixed, joined}
 use Rattle.tk_relay.specs.Pads.{PadLists, ArePads, pad_of, masked}
 use Rattle.tk_relay.specs.Parts.{halves_of, first_part, blank_part}
-use Rattle.tk_relay.specs.Bundles.{AreOneRead, IsAlong, vectors_of, frame_of, blank_read, part_for}
+use Rattle.tk_relay.specs.Bundles.{AreOneRead, IsAlong, vectors_of, frame_of, part_for}
 use Rattle.tk_relay.specs.Serving.{sums_for, served_part, gathered_part}
 use Rattle.tk_relay.specs.Replies.{reply_with, reply_over, unmasked, zero_halves, replies_from}
 use Rattle.tk_relay.specs.Sights.{AreBlocks}
 use Rattle.tk_relay.specs.Laws.{all_served, JoinAlike, RepliesJoin, HonestRepliesJoin}
-use Rattle.tk_relay.proofs.Lists.{map-same, list-again, map-map, map-replicate, each-made}
+use Rattle.tk_relay.proofs.Lists.{list-again, map-replicate}
 use Rattle.tk_relay.proofs.Mixing.{mixed-assoc, mixed-comm, mixed-off, zeros-mixed}
 use Rattle.tk_relay.proofs.Mixing.{joined-sized, joined-zeros, joined-mixed}
 use Rattle.tk_relay.proofs.Masks.{masked-sized}
@@ -45,7 +47,7 @@ module _ (n servers : ℕ) (pads : List Halves) (s : ℕ → Halves)
   others-masked : map (λ j. masked pads j (s j)) (range_with_len 2 (servers - 1))
       ≡ map (λ j. mixed (s j) (pad_of pads j)) (range_with_len 2 (servers - 1))
   others-masked =
-      map-same (λ j. masked pads j (s j)) (λ j. mixed (s j) (pad_of pads j)) 2 (servers - 1)
+      map-range (λ j. masked pads j (s j)) (λ j. mixed (s j) (pad_of pads j)) 2 (servers - 1)
       (λ j low high. ap (λ b. cond b (mixed (s j) (pad_of pads j)) (s j))
       (lt-ltb 1 j (omega (arith, low))))
 
@@ -142,7 +144,7 @@ module _ (shape : Shape) (blocks : List (List ℕ)) (pads : PadLists) (frames : 
   unfolding served js
   all-served =
       map-map halves_of served js
-      ∙ map-same (λ j. halves_of (served j)) (λ j. masked pads.replies j (sums j)) 1 shape.servers
+      ∙ map-range (λ j. halves_of (served j)) (λ j. masked pads.replies j (sums j)) 1 shape.servers
       served-halves
 
   first-sized : HasHalves (width shape) (halves_of (served 1))

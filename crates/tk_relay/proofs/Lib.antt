@@ -17,8 +17,7 @@ pub mod AskedTurns
 pub mod TakenTurns
 pub mod RelayedReads
 pub mod SeenTurns
-pub mod Fronts
-pub mod Results
+pub mod SightTaps
 pub mod Sent
 pub mod Parting
 pub mod Gathered

@@ -4,10 +4,11 @@ use Rattle.std.proofs.Common.{refl, ap, sym, ◌∙◌, subst, arith, length-app
 use Rattle.std.proofs.Common.{Some, slice_get, get_or-set_same, get_or-set_other}
 use Rattle.std.specs.Prelude.{slice_index_or, Result, Ok, Err, OnOk}
 use Rattle.std.proofs.lemmas.List.FromFn.{length-map-range_with_len, get_or-map-range_with_len}
+use Rattle.std.proofs.lemmas.Option.{slice_get-get_or}
 use mathlib.Core.Logic.{dite}
 use mathlib.Core.List.{IsPrefix}
 use native.Mathlib.Decide.{ℕ_discrete}
-use Rattle.tk_lists.proofs.Offers.{prefix_self, prefix_trans}
+use Rattle.tk_lists.proofs.Offers.{prefix_self, prefix_trans, prefix_get}
 use Rattle.tk_shape.specs.declared.shape.Shape.{Shape}
 use Rattle.tk_frames.specs.declared.entry.Placed.{Placed}
 use Rattle.tk_frames.specs.declared.entry.Entry.TheVariants.{Write, Mark}
@@ -236,15 +237,6 @@ ordered-pinned shape E most xs ys p last have pins =
       shown = have.shown;
     }
 
--- what stands in a list within its beginning stands in the beginning
-prefix_back : {A : Type 0} (xs ys : List A) (k : ℕ) (x : A) → IsPrefix xs ys → k < length xs →
-    slice_get ys k ≡ Some x → slice_get xs k ≡ Some x
-prefix_back [] ys k x p low h = absurd (omega (arith, low))
-prefix_back (y ∷ xs) [] k x p low h = absurd (cc (p.1))
-prefix_back (y ∷ xs) (z ∷ ys) zero x p low h = cc (p.1, h)
-prefix_back (y ∷ xs) (z ∷ ys) (suc k) x p low h =
-    prefix_back xs ys k x (p.0, cc (p.1)) (omega (arith, low)) h
-
 -- the pinned set is the last one that is shown
 pub pinned-set : (E : List Placed) (p : Telling) (most c : ℕ) (a b : Passing) (set : EpochSet) →
     most ≡ mark_count E → length p.shown ≡ mark_count E + 1 → IsPassOf E p c a →
@@ -252,9 +244,10 @@ pub pinned-set : (E : List Placed) (p : Telling) (most c : ℕ) (a b : Passing) 
 pinned-set E p most c a b set last long is pins =
     let r = pins.reads in
     let here : b.reads.known ≡ most = omega (arith, r.least, r.greatest, is.known, last) in
-    prefix_back p.shown b.reads.shown most set
-    (prefix_trans p.shown a.reads.shown b.reads.shown is.shown r.shown)
-    (omega (arith, last, long)) (subst (λ n. slice_get b.reads.shown n ≡ Some set) here r.shows)
+    let there = slice_get-get_or p.shown most set (omega (arith, last, long)) in
+    let begins = prefix_trans p.shown a.reads.shown b.reads.shown is.shown r.shown in
+    there ∙ sym (prefix_get p.shown b.reads.shown most _ begins there)
+    ∙ subst (λ n. slice_get b.reads.shown n ≡ Some set) here r.shows
 
 -- ---- all meet
 

@@ -8,10 +8,11 @@ use Rattle.tk_shape.specs.Lengths.{vector_len}
 use Rattle.tk_frames.specs.declared.read_frame.ReadFrame.{ReadFrame}
 use Rattle.tk_frames.specs.Ranges.{IsRead}
 use Rattle.tk_relay.specs.declared.part.Part.{Part}
-use Rattle.tk_relay.specs.Bundles.{AreOneRead, AreParts, IsAlong, IsOfOne, blank_read, frame_of, part_for, parts_for, vectors_of}
+use Rattle.tk_relay.specs.Bundles.{AreOneRead, AreParts, IsAlong, IsOfOne, frame_of, part_for, parts_for, vectors_of}
 use Rattle.tk_relay.specs.Pads.{ArePads, PadLists}
 use Rattle.tk_relay.specs.Parts.{IsPart, blank_part, first_part}
-use Rattle.tk_relay.proofs.Lists.{each-made}
+use Rattle.tk_report.proofs.Offers.{each-made}
+use Rattle.tk_report.specs.Exchange.{blank_read}
 use Rattle.tk_relay.proofs.Masks.{masked-sized}
 
 module _ (shape : Shape) (pads : PadLists) (frames : List ReadFrame) (are : ArePads shape pads)

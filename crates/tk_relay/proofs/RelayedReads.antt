@@ -16,17 +16,18 @@ use Rattle.tk_frames.specs.Order.{Record, before}
 use Rattle.tk_frames.specs.Ranges.{IsRead}
 use Rattle.tk_table.specs.Table.{layout, blocks_of}
 use Rattle.tk_report.specs.Turns.{placed_before}
+use Rattle.tk_report.proofs.Offers.{all-made, each-made, map-range}
+use Rattle.tk_report.specs.Exchange.{blank_read}
 use Rattle.tk_relay.specs.declared.part.Part.{Part}
 use Rattle.tk_relay.specs.declared.relayed_read.RelayedRead.{RelayedRead}
-use Rattle.tk_relay.specs.Bundles.{IsAlong, blank_read, frame_of, vectors_of, part_for}
+use Rattle.tk_relay.specs.Bundles.{IsAlong, frame_of, vectors_of, part_for}
 use Rattle.tk_relay.specs.Pads.{PadLists, Padding, padding_of, paddings_of}
 use Rattle.tk_relay.specs.Parts.{blank_part}
 use Rattle.tk_relay.specs.Reads.{IsSent, IsWhole, IsServed, AreServed, IsReplied, part_of}
 use Rattle.tk_relay.specs.Relayed.{blocks_read, frames_read, pads_read, part_read, reply_read}
 use Rattle.tk_relay.specs.Running.{IsRelayed, AreRelayed}
 use Rattle.tk_relay.specs.Serving.{IsAsking, served_part}
-use Rattle.tk_relay.proofs.AskedTurns.{before-read, one-read, reads-in_range}
-use Rattle.tk_relay.proofs.Lists.{each-made, map-same}
+use Rattle.tk_relay.proofs.AskedTurns.{one-read, reads-in_range}
 use Rattle.tk_relay.proofs.Masks.{masked-sized}
 use Rattle.tk_relay.proofs.PadLaws.{keyed-are}
 use Rattle.tk_relay.proofs.Paddings.{padding-at}
@@ -61,7 +62,7 @@ blocks-of_turn S b H g c legal serial turn_in client_in =
     let E = placed_before S (words_of S.shape b) H (g + 1) in
     ap (λ (R : List Record). blocks_of (layout S.shape R))
     (ap (before E) (one-epoch S.shape H g c serial turn_in client_in)
-    ∙ before-read S b H g c legal turn_in client_in)
+    ∙ all-made S b H g legal turn_in c client_in)
 
 -- ---- a read that is sent
 
@@ -135,7 +136,7 @@ served-relayed {S} {b} {seeds} {H} {g} {c} {old} {new} blocks pads over own is s
       replies =
           served.replies
           ∙ ap (λ (ps : List Part). ps ++ map reply (range_with_len 1 S.shape.servers)) is.replies
-          ∙ map-same reply (reply_read S b seeds H g c) 1 S.shape.servers replied;
+          ∙ map-range reply (reply_read S b seeds H g c) 1 S.shape.servers replied;
     }
 
 -- ---- those of all clients

@@ -15,7 +15,7 @@ use Rattle.tk_io.specs.Tapped.{GainsFront, TapsGain, TapsGainFronts}
 use Rattle.tk_io.proofs.Offers.{gained-nothing, taps-same, taps-twice, front-of_first, front-of_second}
 use Rattle.tk_report.specs.Entries.{write_at, entries_at}
 use Rattle.tk_report.specs.Exchange.{turn_frames, frames_before, bytes_of}
-use Rattle.tk_report.proofs.Offers.{flat_map-next}
+use Rattle.tk_report.proofs.Offers.{flat_map-next, flat_map-flat_map}
 use Rattle.tk_relay.specs.declared.part.Part.{Part}
 use Rattle.tk_relay.specs.declared.relayed_read.RelayedRead.{RelayedRead}
 use Rattle.tk_relay.specs.Parts.{part_frame, masked_reply_frame, blank_part}
@@ -27,17 +27,6 @@ use Rattle.tk_relay.specs.Sights.{sight}
 use Rattle.tk_relay.proofs.RelayedReads.{part-at}
 
 -- ---- lists
-
--- frames of one each, joined, and frames of several each
-bytes_of-map : {X : Type 0} (f : X → List ℕ) (xs : List X) → bytes_of (map f xs) ≡ flat_map f xs
-bytes_of-map f xs = flat_map-map (λ y. y) f xs
-
-bytes_of-flat_map : {X : Type 0} (f : X → List (List ℕ)) (xs : List X) →
-    bytes_of (flat_map f xs) ≡ flat_map (λ x. bytes_of (f x)) xs
-bytes_of-flat_map f [] = refl
-bytes_of-flat_map f (x ∷ xs) =
-    flat_map-append (λ y. y) (f x) (flat_map f xs)
-    ∙ ap (λ rest. bytes_of (f x) ++ rest) (bytes_of-flat_map f xs)
 
 -- what elements give, and what their places give
 flat_map-places : {X : Type 0} (f : X → List ℕ) (h : ℕ → List ℕ) (k : ℕ) (xs : List X) →
@@ -74,7 +63,7 @@ module _ {S : Script} {b : WordBook} {seeds : List (List ℕ)} {H : History} {g 
       ap₂ (λ (front back : List ℕ). front ++ back) is.bundle
       (ap (flat_map masked_reply_frame) behind
       ∙ flat_map-map masked_reply_frame reply others
-      ∙ sym (bytes_of-map (λ j. masked_reply_frame (reply j)) others))
+      ∙ sym (flat_map-map (λ y. y) (λ j. masked_reply_frame (reply j)) others))
 
   -- what each server sees
   pub seen-read : (j : ℕ) → 1 ≤ j → j ≤ S.shape.servers →
@@ -112,8 +101,8 @@ seen-turn S b seeds H g j entries reads low high are is =
     ∙ ap (λ n. flat_map (λ c. bytes_of (read c)) (range_with_len 0 n)) are.counted
     in
     ap₂ (λ (front back : List ℕ). front ++ back)
-    (is ∙ sym (bytes_of-map placed_frame placed))
-    (each ∙ sym (bytes_of-flat_map read clients))
+    (is ∙ sym (flat_map-map (λ y. y) placed_frame placed))
+    (each ∙ sym (flat_map-flat_map (λ y. y) read clients))
     ∙ sym (flat_map-append (λ f. f) (map placed_frame placed) (flat_map read clients))
 
 -- ---- turn after turn

@@ -12,7 +12,7 @@ use Rattle.tk_relay.specs.Serving.{sums_for, served_part}
 use Rattle.tk_relay.specs.Sights.{Reading, frames_for, AreBuckets, AreBlocks, units_of, blocks_at}
 use Rattle.tk_relay.specs.Sights.{sight, moved_last, moved_pads}
 use Rattle.tk_relay.specs.Laws.{SameSight, MovedBack, MovedStay}
-use Rattle.tk_relay.proofs.Lists.{map-same}
+use Rattle.tk_report.proofs.Offers.{map-range}
 use Rattle.tk_relay.proofs.Masks.{moved-counted, moved-each, other-shows, last-shows, back}
 use Rattle.tk_relay.proofs.Asking.{vectors_for, part-at, served-at, drawn-asked, all_drawn}
 use Rattle.tk_relay.proofs.Asking.{last-asked, last-replied, units-sized, blocks-sized}
@@ -135,10 +135,10 @@ module _ (shape : Shape) (blocks : List (List ℕ)) (pads : PadLists) (r : Readi
   sights =
       let after = moved_pads shape blocks old new pads in
       λ i. record {
-        bundle = bundle_frame (map-same (part_for pads (frames_for shape r old))
+        bundle = bundle_frame (map-range (part_for pads (frames_for shape r old))
             (part_for after (frames_for shape r new)) 1 shape.servers part-shows i);
         replies =
-            map-same (λ j. masked_reply_frame
+            map-range (λ j. masked_reply_frame
             (served_part shape blocks pads j (part_for pads (frames_for shape r old) j)))
             (λ j. masked_reply_frame
             (served_part shape blocks after j (part_for after (frames_for shape r new) j)))

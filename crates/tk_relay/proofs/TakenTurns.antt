@@ -35,12 +35,12 @@ use Rattle.tk_client.specs.Reader.{at_epoch, after_read}
 use Rattle.tk_client.specs.Replies.{answer_in, frames_in, first_joined, second_joined}
 use Rattle.tk_client.proofs.Offers.{frames_in-spelled, fresh-whole, pair-in_range, length-completed}
 use Rattle.tk_report.specs.Clients.{client_before, client_knowing, idle}
-use Rattle.tk_report.specs.Exchange.{read_at}
+use Rattle.tk_report.specs.Exchange.{blank_read, read_at}
 use Rattle.tk_report.specs.Queues.{writing_before}
 use Rattle.tk_report.specs.Report.{answered, read_over, reader_before, target_at}
-use Rattle.tk_report.proofs.Offers.{before-next, bytes-give-lookup, epochs-ordered, epochs-storable}
+use Rattle.tk_report.proofs.Offers.{before-next, bytes-give-lookup, epochs-ordered, epochs-storable, epoch-most, map-map}
 use Rattle.tk_relay.specs.declared.part.Part.{Part}
-use Rattle.tk_relay.specs.Bundles.{blank_read, frame_of}
+use Rattle.tk_relay.specs.Bundles.{frame_of}
 use Rattle.tk_relay.specs.Halves.{Halves, HasHalves, joined}
 use Rattle.tk_relay.specs.Laws.{all_served, JoinAlike}
 use Rattle.tk_relay.specs.Pads.{PadLists, ArePads}
@@ -50,11 +50,11 @@ use Rattle.tk_relay.specs.Replies.{reply_with, replies_from, unmasked, zero_halv
 use Rattle.tk_relay.specs.Running.{client_asked}
 use Rattle.tk_relay.specs.Serving.{gathered_part}
 use Rattle.tk_relay.specs.Sights.{AreBlocks}
-use Rattle.tk_relay.proofs.AskedTurns.{asked-read, one-read, reads-in_range, epoch-most}
+use Rattle.tk_relay.proofs.AskedTurns.{asked-read, one-read, reads-in_range}
 use Rattle.tk_relay.proofs.Joins.{blocks-whole, honest_replies_join, gathered-client, gathered-turn}
 use Rattle.tk_relay.proofs.Joins.{gathered-epoch, gathered-sized, all-sized}
-use Rattle.tk_relay.proofs.Lists.{list-again, map-map}
-use Rattle.tk_relay.proofs.Mixing.{joined-sized, mixed-sized}
+use Rattle.tk_relay.proofs.Lists.{list-again}
+use Rattle.tk_relay.proofs.Mixing.{joined-sized, mixed-sized, zeros-sized}
 use Rattle.tk_relay.proofs.PadLaws.{keyed-are}
 
 -- ---- what the servers' own replies join to
@@ -147,9 +147,6 @@ own-join S b H g c e t serves legal turn_in client_in =
 each-same : {X : Type 0} (P : X → Type 0) (n : ℕ) (x : X) → P x → AllByRecursion P (replicate n x)
 each-same P zero x has = tt
 each-same P (suc n) x has = (has, each-same P n x has)
-
-zeros-sized : (n : ℕ) → HasHalves n (zero_halves n)
-zeros-sized n = record { first = length-replicate n 0; second = length-replicate n 0 }
 
 module _ (S : Script) (b : WordBook) (seeds : List (List ℕ)) (H : History) (g c : ℕ)
     (serves : IsBook S.shape b) (legal : IsLegal S.shape H) (turn_in : g < turn_count S.shape)

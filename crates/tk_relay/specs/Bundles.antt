@@ -1,13 +1,13 @@
 -- What a client sends to server 1: the vectors of its read for all servers, masked for all but the first.
-use Rattle.std.specs.Prelude.{◌≡◌, ℕ, ◌+◌, ◌-◌, ◌*◌, List, [], length, map, flat_map, drop, slice_index_or}
+use Rattle.std.specs.Prelude.{◌≡◌, ℕ, ◌+◌, ◌-◌, ◌*◌, List, length, map, flat_map, drop, slice_index_or}
 use Rattle.std.specs.List.{AllByRecursion, range_with_len}
 use Rattle.tk_shape.specs.declared.shape.Shape.{Shape}
 use Rattle.tk_shape.specs.Lengths.{vector_len}
 use Rattle.tk_frames.specs.declared.read_frame.ReadFrame.{ReadFrame}
-use Rattle.tk_frames.specs.declared.seeds.Seeds.TheVariants.{Plain}
 use Rattle.tk_frames.specs.Fields.{number_at}
 use Rattle.tk_frames.specs.Faults.{Check, asked_checks}
 use Rattle.tk_frames.specs.Spelling.{asked_frame}
+use Rattle.tk_report.specs.Exchange.{blank_read}
 use Rattle.tk_relay.specs.declared.part.Part.{Part}
 use Rattle.tk_relay.specs.Halves.{Halves, HasHalves, halves_bytes}
 use Rattle.tk_relay.specs.Pads.{PadLists, masked, halves_list}
@@ -17,10 +17,6 @@ use Rattle.tk_relay.specs.Parts.{part_with, halves_of, first_part, IsPart}
 
 abbrev pub vectors_of : ReadFrame → Halves
 vectors_of r = record { first = r.first; second = r.second }
-
-abbrev pub blank_read : ReadFrame
-blank_read =
-    record { client = 0; turn = 0; epoch = 0; first = []; second = []; seeds = Plain }
 
 -- the frame of a server among those of all
 abbrev pub frame_of : List ReadFrame → ℕ → ReadFrame

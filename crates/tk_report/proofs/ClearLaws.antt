@@ -1,6 +1,6 @@
 -- A test tells whether a run is clear.
 use Rattle.std.proofs.Common.{◌≡◌, refl, ap, ap₂, ◌∙◌, arith, inl, inr, eqb-true, eq-eqb}
-use Rattle.std.proofs.Common.{ℕ, zero, suc, ◌+◌, ◌<◌, ◌≤◌, Bool, true, false, ◌||◌, ◌&&◌, ◌==◌}
+use Rattle.std.proofs.Common.{ℕ, zero, suc, ◌+◌, ◌<◌, ◌≤◌, Bool, true, ◌||◌, ◌==◌}
 use Rattle.std.proofs.Common.{List, [], ◌∷◌, Option, Some, None}
 use Rattle.std.specs.Prelude.{not, is_some}
 use Rattle.std.specs.List.{list_all, range_with_len}
@@ -9,7 +9,7 @@ use Rattle.tk_shape.specs.Lengths.{turn_count}
 use Rattle.tk_schedule.specs.declared.history.History.{History}
 use Rattle.tk_script.specs.declared.script.Script.{Script}
 use Rattle.tk_script.specs.Sent.{sent}
-use Rattle.std.proofs.lemmas.Bool.{and_parts as parts}
+use Rattle.std.proofs.lemmas.Bool.{and_from, and_parts as parts}
 use Rattle.tk_words.specs.Words.{BookWords, opened}
 use Rattle.tk_words.specs.Opening.{IsNumber}
 use Rattle.tk_frames.specs.declared.write_frame.WriteFrame.{WriteFrame}
@@ -25,15 +25,11 @@ use Rattle.tk_report.proofs.WrittenLaws.{write_at-turn, write_at-client, each-is
 
 -- ---- tests of lists
 
-both : (a b : Bool) → a ≡ true → b ≡ true → (a && b) ≡ true
-both true b p q = q
-both false b p q = absurd (cc p)
-
 all-from : {X : Type 0} (test : X → Bool) (xs : List X) → ((x : X) → IsIn xs x → test x ≡ true) →
     list_all test xs ≡ true
 all-from test [] each = refl
 all-from test (x ∷ xs) each =
-    both (test x) (list_all test xs) (each x (inl refl))
+    and_from (test x) (list_all test xs) (each x (inl refl))
     (all-from test xs (λ y there. each y (inr there)))
 
 in-range : (a n k : ℕ) → a ≤ k → k < a + n → IsIn (range_with_len a n) k
@@ -86,7 +82,7 @@ record-tests S w r log s known =
     in
     ap₂ (λ (g c : ℕ). is_number log s (sent S g c)) turn client
     ∙ ap (is_number log s) known.sends
-    ∙ both (y.log == log) (y.number == s) (eq-eqb y.log log known.of_log)
+    ∙ and_from (y.log == log) (y.number == s) (eq-eqb y.log log known.of_log)
     (eq-eqb y.number s known.of_number)
 
 gives-number : (o : Option (List ℕ)) (is : Bool) (text : List ℕ) →

@@ -1,9 +1,8 @@
 -- The clients before the first turn, and the logs that each writes and follows.
 use Rattle.std.proofs.Common.{◌≡◌, ◌∙◌, refl, ap, ap₂, sym, subst, arith}
-use Rattle.std.proofs.Common.{ℕ, zero, suc, ◌+◌, ◌<◌, ◌≤◌, add-one, append-nil}
+use Rattle.std.proofs.Common.{ℕ, zero, suc, ◌+◌, ◌<◌, ◌≤◌, add-one, append-nil, zero-add}
 use Rattle.std.proofs.Common.{Bool, true, false, cond, List, [], ◌∷◌, ◌++◌, length, filter}
 use Rattle.std.proofs.Common.{inl, inr, length-append, flat_map}
-use Rattle.std.proofs.lemmas.Grind.{flat_map-append}
 use Rattle.std.proofs.Math.ListN.{get_or-append}
 use Rattle.std.proofs.lemmas.Bool.{cases_lt}
 use Rattle.std.specs.Prelude.{All, slice_index, slice_index_or}
@@ -24,44 +23,21 @@ use Rattle.tk_report.specs.Leaving.{got_by, unsent_by}
 use Rattle.tk_report.specs.Queues.{writes_of, writing_before}
 use Rattle.tk_report.specs.Report.{follows_of, reader_before}
 use Rattle.tk_report.specs.declared.group.Group.{Group}
+use Rattle.tk_lists.proofs.Offers.{numbers-more, flat_map-range_more, last-at}
 use Rattle.tk_report.proofs.SayOrder.{said-none}
 
 -- ---- the logs that pass a test
 
-range-more : (a n : ℕ) → range_with_len a (suc n) ≡ range_with_len a n ++ (a + n) ∷ []
-range-more a zero = ap (λ k. k ∷ []) here
-  where
-    here : a ≡ a + 0
-    here = omega arith
-range-more a (suc n) =
-    let behind = range_with_len (a + 1) n in
-    ap (λ ks. a ∷ ks) (range-more (a + 1) n ∙ ap (λ k. behind ++ k ∷ []) there)
-  where
-    there : a + 1 + n ≡ a + suc n
-    there = omega arith
-
--- the numbers up to one are those below it and itself
-pub range-next : (log : ℕ) → range_with_len 0 (log + 1) ≡ range_with_len 0 log ++ log ∷ []
-range-next log =
-    ap (range_with_len 0) (add-one log) ∙ range-more 0 log
-    ∙ ap (λ k. range_with_len 0 log ++ k ∷ []) here
-  where
-    here : 0 + log ≡ log
-    here = omega arith
-
 -- what one more number gives
 pub flat_map-next : {A : Type 0} (f : ℕ → List A) (n : ℕ) →
     flat_map f (range_with_len 0 (n + 1)) ≡ flat_map f (range_with_len 0 n) ++ f n
-flat_map-next f n =
-    ap (flat_map f) (range-next n)
-    ∙ flat_map-append f (range_with_len 0 n) (n ∷ [])
-    ∙ ap (λ (xs : List _). flat_map f (range_with_len 0 n) ++ xs) (append-nil (f n))
+flat_map-next f n = flat_map-range_more f 0 n n (zero-add n)
 
 one-more : (p : ℕ → Bool) (log : ℕ) (b : Bool) → p log ≡ b →
     filter p (range_with_len 0 (log + 1))
     ≡ filter p (range_with_len 0 log) ++ cond b (log ∷ []) []
 one-more p log b here =
-    ap (filter p) (range-next log)
+    ap (filter p) (numbers-more log)
     ∙ filter-append p (range_with_len 0 log) (log ∷ [])
     ∙ ap (λ a. filter p (range_with_len 0 log) ++ cond a (log ∷ []) []) here
 
@@ -148,10 +124,6 @@ AreSoFar {X} state xs = (i : ℕ) (d : X) → i < length xs → slice_index_or x
 pub none-yet : {X : Type 0} (state : ℕ → X) → AreSoFar state []
 none-yet state i d low = absurd (omega (arith, low))
 
-at-end : {X : Type 0} (xs : List X) (x d : X) → slice_index_or (xs ++ x ∷ []) (length xs) d ≡ x
-at-end [] x d = refl
-at-end (y ∷ xs) x d = at-end xs x d
-
 -- one more
 pub one-next : {X : Type 0} (state : ℕ → X) (xs more : List X) (x : X) (n : ℕ) →
     more ≡ xs ++ x ∷ [] → length xs ≡ n → x ≡ state n → AreSoFar state xs → AreSoFar state more
@@ -165,13 +137,8 @@ one-next {X} state xs more x n pushed counted is so_far =
           let counts = length-append xs (x ∷ []) in
           let last : i ≡ length xs = omega (arith, low, later, counts) in
           ap (λ k. slice_index_or (xs ++ x ∷ []) k d) last
-          ∙ at-end xs x d ∙ is ∙ ap state (sym (last ∙ counted))
+          ∙ last-at xs x d ∙ is ∙ ap state (sym (last ∙ counted))
     ]
-
-pub length-next : {X : Type 0} (xs more : List X) (x : X) (n : ℕ) →
-    more ≡ xs ++ x ∷ [] → length xs ≡ n → length more ≡ n + 1
-length-next xs more x n pushed counted =
-    ap length pushed ∙ length-append xs (x ∷ []) ∙ omega (arith, counted)
 
 -- ---- the clients
 

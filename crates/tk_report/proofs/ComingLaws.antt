@@ -1,7 +1,7 @@
 -- Which item may come next in a run, and the entry that it puts there.
 use Rattle.std.proofs.Common.{◌≡◌, refl, ap, ap₂, sym, ◌∙◌, subst, arith, ℕ, zero, suc, ◌+◌, ◌*◌}
 use Rattle.std.proofs.Common.{◌<◌, ◌≤◌}
-use Rattle.std.proofs.Common.{List, [], ◌∷◌, ◌++◌, length, take, true, false, cond}
+use Rattle.std.proofs.Common.{List, [], ◌∷◌, ◌++◌, length, take, cond}
 use Rattle.std.proofs.Common.{count_by, get_or, length-append, zero-mul, suc-mul, add-one}
 use Rattle.std.proofs.Common.{append-nil, append_assoc}
 use Rattle.std.proofs.lemmas.List.{take_more, take_all}
@@ -12,7 +12,7 @@ use Rattle.tk_shape.specs.Lengths.{turn_count}
 use Rattle.tk_schedule.specs.declared.item.Item.{Item}
 use Rattle.tk_schedule.specs.declared.item.Item.TheVariants.{Client, Publish}
 use Rattle.tk_schedule.specs.declared.history.History.{History}
-use Rattle.tk_schedule.specs.Schedule.{IsLegal, is_closing, is_mark, marks_due, phase_of}
+use Rattle.tk_schedule.specs.Schedule.{IsLegal, is_mark, marks_due, phase_of}
 use Rattle.tk_schedule.specs.Schedule.{phases_over, order_at}
 use Rattle.tk_frames.specs.declared.write_frame.WriteFrame.{WriteFrame}
 use Rattle.tk_frames.specs.declared.entry.Placed.{Placed}
@@ -24,6 +24,7 @@ use Rattle.tk_frames.proofs.Offers.{next-write, next-mark}
 use Rattle.tk_report.specs.Entries.{placed_from, placed_after, entries_before, entries_at}
 use Rattle.tk_report.specs.Entries.{write_at}
 use Rattle.tk_report.proofs.EpochLaws.{marks-before}
+use Rattle.tk_report.proofs.StorableLaws.{one-mark}
 use Rattle.tk_report.proofs.TurnEntries.{length-placed_from, marks-placed_from}
 use Rattle.tk_report.proofs.TurnEntries.{placed_from-append}
 use Rattle.tk_script.specs.declared.script.Script.{Script}
@@ -121,10 +122,6 @@ writes-before shape write H legal (suc g) within =
 below : {m n : ℕ} → m < n → suc m ≤ n
 below low = omega (arith, low)
 
-one-due : (shape : Shape) (g : ℕ) → marks_due shape g ≤ 1
-one-due shape g =
-    elim (is_closing shape g) as (λ b. cond b 1 0 ≤ 1) [ true ↦ omega arith | false ↦ omega arith ]
-
 -- what stands before an item of a turn
 record IsBefore (shape : Shape) (g : ℕ) (all : List Placed) (x : Item) : Type 0 where
   writes : length (records all) + 1 ≤ suc g * shape.clients + cond (is_mark x) 1 0
@@ -144,7 +141,7 @@ item-before shape write H g front rest x legal low is =
     let parts = is.long in
     let marked = is.marks in
     let behind = count_by-le-length is_mark rest in
-    let due = one-due shape g in
+    let due = one-mark shape g in
     let wrote = length-written (write g) E front in
     let both = length-records E placed in
     let before = writes-before shape write H legal g (omega (arith, low)) in

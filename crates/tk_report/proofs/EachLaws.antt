@@ -21,11 +21,6 @@ pub each-behind : {X : Type 0} (P : X → Type 0) (xs ys : List X) → AllByRecu
 each-behind P [] ys h = h
 each-behind P (x ∷ xs) ys h = each-behind P xs ys h.1
 
-pub each-append : {X : Type 0} (P : X → Type 0) (xs ys : List X) → AllByRecursion P xs →
-    AllByRecursion P ys → AllByRecursion P (xs ++ ys)
-each-append P [] ys all more = more
-each-append P (x ∷ xs) ys all more = (all.0, each-append P xs ys all.1 more)
-
 -- ---- those that pass a test
 
 -- what a filter leaves passes its test

@@ -6,11 +6,10 @@ use Rattle.tk_schedule.specs.declared.raw.RawKind.{RawKind}
 use Rattle.tk_schedule.specs.declared.raw.RawKind.TheVariants.{Order, Reads, End}
 use Rattle.tk_schedule.specs.Raw.{is_end}
 use Rattle.tk_script.specs.declared.cause.Cause.{Cause}
-use Rattle.tk_script.specs.Grammar.{Line, item_word, raw_line, IsItem, IsTurn}
+use Rattle.tk_script.specs.Grammar.{Line, item_word, raw_line, IsItem, IsTurn, IsNumber}
 use Rattle.tk_script.specs.Reading.{Verdict, read_turn}
 use Rattle.tk_script.proofs.Offers.{LacksFeed}
-use Rattle.tk_script.proofs.Offers.{IsWord}
-use Rattle.tk_script.proofs.Offers.{turn_is, turn_whole}
+use Rattle.tk_script.proofs.Offers.{turn_is, turn_whole, turn-no_end}
 use Rattle.tk_report.specs.ReportLines.{no_line, kind_or, kind_said, stops}
 use Rattle.tk_report.proofs.LineCuts.{IsField, fields-lack}
 
@@ -54,11 +53,6 @@ told-none line c e = sym (ap kind_or e)
 
 -- ---- no line says the end
 
-turn-no_end : (kind : RawKind) → IsTurn kind → is_end kind ≡ false
-turn-no_end (Order phase tick items) turn = refl
-turn-no_end (Reads phase tick epochs) turn = refl
-turn-no_end End turn = absurd turn
-
 pub said-no_end : (line : Line) → is_end (kind_said line) ≡ false
 unfolding kind_said
 said-no_end line =
@@ -97,7 +91,7 @@ own-order phase tick x items low phase_in tick_in short are =
     }
 
 pub own-reads : (phase tick e : ℕ) (epochs : List ℕ) → phase < 2 ^ 32 →
-    tick < 2 ^ 32 → AllByRecursion IsWord (e ∷ epochs) →
+    tick < 2 ^ 32 → AllByRecursion IsNumber (e ∷ epochs) →
     AllByRecursion IsField
     (codes "reads" ∷ decimal phase ∷ decimal tick ∷ map decimal (e ∷ epochs)) →
     IsOwn (Reads phase tick (e ∷ epochs))

@@ -1,4 +1,4 @@
-pub mod OptionLaws
+pub mod Lists
 pub mod EachLaws
 pub mod TurnEntries
 pub mod EpochLaws

@@ -1,15 +1,13 @@
 -- Where a line ends and its fields do.
-use Rattle.std.proofs.Common.{◌≡◌, ◌≢◌, refl, ap, sym, ◌∙◌, arith, true, eq-eqb}
-use Rattle.std.proofs.Common.{ℕ, zero, suc, ◌<◌, ◌^◌}
-use Rattle.std.proofs.Common.{List, [], ◌∷◌, ◌++◌, length, get_or, decimal, append_assoc}
-use Rattle.std.specs.Prelude.{◌==◌, not}
-use Rattle.std.specs.List.{AllByRecursion, list_all}
-use Rattle.std.proofs.lemmas.Bool.{and_parts as parts}
+use Rattle.std.proofs.Common.{◌≡◌, ◌≢◌, refl, ap, sym, ◌∙◌, arith}
+use Rattle.std.proofs.Common.{ℕ, ◌<◌, ◌^◌}
+use Rattle.std.proofs.Common.{List, [], ◌∷◌, ◌++◌, decimal, append_assoc}
+use Rattle.std.specs.List.{AllByRecursion}
 use Rattle.tk_script.specs.Fields.{LacksSpace}
 use Rattle.tk_script.specs.Grammar.{fields}
 use Rattle.tk_script.specs.Reading.{parts_of}
-use Rattle.tk_script.proofs.Offers.{LacksFeed}
-use Rattle.tk_report.proofs.EachLaws.{each-append}
+use Rattle.tk_script.proofs.Offers.{LacksFeed, feed_by_index, each-append}
+use Rattle.tk_script.proofs.Offers.{same_first, same_rest, cons_both}
 use Rattle.tk_script.proofs.Offers.{all_digits}
 use Rattle.tk_script.proofs.Offers.{split_field, one_field}
 use Rattle.tk_report.specs.Report.{line}
@@ -18,12 +16,6 @@ use Rattle.tk_report.specs.Report.{line}
 pub record IsField (text : List ℕ) : Type 0 where
   pub no_space : LacksSpace text
   pub no_feed : LacksFeed text
-
-pub feed_by_index : (xs : List ℕ) → ((k : ℕ) → k < length xs → get_or xs k 0 ≡ 0x0A → ⊥) →
-    LacksFeed xs
-feed_by_index [] none = tt
-feed_by_index (x ∷ xs) none =
-    (none 0 (omega arith), feed_by_index xs (λ k h. none (suc k) (omega (arith, h))))
 
 pub decimal-field : (n : ℕ) → n < 2 ^ 64 → IsField (decimal n)
 decimal-field n small =
@@ -36,16 +28,6 @@ decimal-field n small =
           omega (arith, digit.0, e));
     }
 
--- a word is a field if no byte of it is a space or a line feed
-pub space_by_test : (xs : List ℕ) → list_all (λ b. not (b == 0x20)) xs ≡ true → LacksSpace xs
-space_by_test [] t k within e = absurd (omega (arith, within))
-space_by_test (x ∷ xs) t zero within e =
-    let both = parts (not (x == 0x20)) (list_all (λ b. not (b == 0x20)) xs) t in
-    absurd (cc (both.0, ap not (eq-eqb x 0x20 e)))
-space_by_test (x ∷ xs) t (suc k) within e =
-    let both = parts (not (x == 0x20)) (list_all (λ b. not (b == 0x20)) xs) t in
-    space_by_test xs both.1 k (omega (arith, within)) e
-
 -- ---- lines
 
 pub fields-lack : (fs : List (List ℕ)) → AllByRecursion IsField fs → LacksFeed (fields fs)
@@ -56,24 +38,15 @@ fields-lack (f ∷ g ∷ fs) are =
     each-append (λ b. b ≢ 0x0A) f (0x20 ∷ fields (g ∷ fs)) are.0.no_feed
     (space, fields-lack (g ∷ fs) are.1)
 
-cons_both : (x y : ℕ) (xs ys : List ℕ) → x ≡ y → xs ≡ ys → x ∷ xs ≡ y ∷ ys
-cons_both x y xs ys p q = cc (p, q)
-
-head_same : (x y : ℕ) (xs ys : List ℕ) → x ∷ xs ≡ y ∷ ys → x ≡ y
-head_same x y xs ys e = cc e
-
-tail_same : (x y : ℕ) (xs ys : List ℕ) → x ∷ xs ≡ y ∷ ys → xs ≡ ys
-tail_same x y xs ys e = cc e
-
 -- a text has one first line
 pub cut_feed : (a b x y : List ℕ) → LacksFeed a → LacksFeed b → a ++ 0x0A ∷ x ≡ b ++ 0x0A ∷ y →
     (a ≡ b) × (x ≡ y)
-cut_feed [] [] x y p q e = (refl, tail_same 0x0A 0x0A x y e)
-cut_feed [] (d ∷ b) x y p q e = absurd (q.0 (sym (head_same 0x0A d x (b ++ 0x0A ∷ y) e)))
-cut_feed (d ∷ a) [] x y p q e = absurd (p.0 (head_same d 0x0A (a ++ 0x0A ∷ x) y e))
+cut_feed [] [] x y p q e = (refl, same_rest 0x0A 0x0A x y e)
+cut_feed [] (d ∷ b) x y p q e = absurd (q.0 (sym (same_first 0x0A d x (b ++ 0x0A ∷ y) e)))
+cut_feed (d ∷ a) [] x y p q e = absurd (p.0 (same_first d 0x0A (a ++ 0x0A ∷ x) y e))
 cut_feed (c ∷ a) (d ∷ b) x y p q e =
-    let first = head_same c d (a ++ 0x0A ∷ x) (b ++ 0x0A ∷ y) e in
-    let rest = cut_feed a b x y p.1 q.1 (tail_same c d (a ++ 0x0A ∷ x) (b ++ 0x0A ∷ y) e) in
+    let first = same_first c d (a ++ 0x0A ∷ x) (b ++ 0x0A ∷ y) e in
+    let rest = cut_feed a b x y p.1 q.1 (same_rest c d (a ++ 0x0A ∷ x) (b ++ 0x0A ∷ y) e) in
     (cons_both c d a b first rest.0, rest.1)
 
 -- ---- fields

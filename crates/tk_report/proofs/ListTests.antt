@@ -1,12 +1,8 @@
 -- Tests of all elements.
-use Rattle.std.proofs.Common.{◌≡◌, ◌<◌, ℕ, zero, suc, List, [], ◌∷◌, length, get_or, arith}
-use Rattle.std.proofs.Common.{Bool, true, false, ◌&&◌, refl, IsTrue}
+use Rattle.std.proofs.Common.{◌<◌, ℕ, zero, suc, List, [], ◌∷◌, length, get_or, arith}
+use Rattle.std.proofs.Common.{Bool, IsTrue}
 use Rattle.std.specs.List.{list_all}
-
-parts : (a b : Bool) → (a && b) ≡ true → (a ≡ true) × (b ≡ true)
-parts true true e = (refl, refl)
-parts true false e = absurd (cc e)
-parts false b e = absurd (cc e)
+use Rattle.std.proofs.lemmas.Bool.{and_parts as parts}
 
 -- what all pass, each passes
 pub list_all-at : {X : Type 0} (p : X → Bool) (xs : List X) (i : ℕ) (d : X) → i < length xs →

@@ -13,6 +13,7 @@ use Rattle.tk_schedule.specs.declared.history.History.{History}
 use Rattle.tk_schedule.specs.Schedule.{IsLegal, phases_over, order_at}
 use Rattle.tk_frames.specs.declared.write_frame.WriteFrame.{WriteFrame}
 use Rattle.tk_frames.specs.declared.entry.Placed.{Placed}
+use Rattle.tk_frames.specs.InOrder.{mark_count}
 use Rattle.tk_frames.specs.Order.{is_mark_entry, is_mark_of, has_mark, before}
 use Rattle.tk_frames.proofs.Offers.{before-none, before-settled}
 use Rattle.tk_report.specs.Entries.{placed_from, placed_after, entries_before}
@@ -39,9 +40,6 @@ turn_entries-agree write H K g same =
     (same g (omega arith))
 
 -- ---- marks
-
-abbrev marks_in : List Placed → ℕ
-marks_in E = count_by is_mark_entry E
 
 any-front : (e : ℕ) (E F : List Placed) → has_mark e E ≡ true → has_mark e (E ++ F) ≡ true
 any-front e [] F h = absurd (cc h)
@@ -108,7 +106,7 @@ any-none e (p ∷ E) F none also =
 
 -- no mark of the turns before a turn has number 0, or one above how many they are
 turns-unmarked : (write : ℕ → ℕ → WriteFrame) (H : History) (g e : ℕ) →
-    (e ≡ 0) ⊎ (marks_in (entries_before write H g) < e) → has_mark e (entries_before write H g)
+    (e ≡ 0) ⊎ (mark_count (entries_before write H g) < e) → has_mark e (entries_before write H g)
     ≡ false
 unfolding entries_before
 turns-unmarked write H zero e out = refl
@@ -116,36 +114,36 @@ turns-unmarked write H (suc g) e out =
     let E = entries_before write H g in
     let items = order_at H g in
     let turn = placed_after (write g) E items in
-    let here = marks-placed_from (write g) (length E + 1) (marks_in E + 1) items in
+    let here = marks-placed_from (write g) (length E + 1) (mark_count E + 1) items in
     let all = sum_by-append (λ q. cond (is_mark_entry q) 1 0) E turn in
-    let before : (e ≡ 0) ⊎ (marks_in E < e) = elim out [
+    let before : (e ≡ 0) ⊎ (mark_count E < e) = elim out [
       | inl first ↦ inl first
       | inr past ↦ inr (omega (arith, past, all))
     ]
     in
-    let now : (e < marks_in E + 1) ⊎ (marks_in E + 1 + count_by is_mark items ≤ e) = elim out [
+    let now : (e < mark_count E + 1) ⊎ (mark_count E + 1 + count_by is_mark items ≤ e) = elim out [
       | inl first ↦ inl (omega (arith, first))
       | inr past ↦ inr (omega (arith, past, all, here))
     ]
     in
     any-none e E turn (turns-unmarked write H g e before)
-    (items-unmarked (write g) (length E + 1) (marks_in E + 1) e items now)
+    (items-unmarked (write g) (length E + 1) (mark_count E + 1) e items now)
 
 -- the marks of the turns before a turn are numbered from 1
 turns-marked : (write : ℕ → ℕ → WriteFrame) (H : History) (g e : ℕ) → 0 < e →
-    e ≤ marks_in (entries_before write H g) → has_mark e (entries_before write H g) ≡ true
+    e ≤ mark_count (entries_before write H g) → has_mark e (entries_before write H g) ≡ true
 unfolding entries_before
 turns-marked write H zero e low high = absurd (omega (arith, low, high))
 turns-marked write H (suc g) e low high =
     let E = entries_before write H g in
     let items = order_at H g in
     let turn = placed_after (write g) E items in
-    elim (cases_lt (marks_in E) e) [
+    elim (cases_lt (mark_count E) e) [
       | inl new ↦
-          let here = marks-placed_from (write g) (length E + 1) (marks_in E + 1) items in
+          let here = marks-placed_from (write g) (length E + 1) (mark_count E + 1) items in
           let all = sum_by-append (λ q. cond (is_mark_entry q) 1 0) E turn in
           any-behind e E turn
-          (items-marked (write g) (length E + 1) (marks_in E + 1) e items (omega (arith, new))
+          (items-marked (write g) (length E + 1) (mark_count E + 1) e items (omega (arith, new))
           (omega (arith, high, here, all)))
       | inr old ↦ any-front e E turn (turns-marked write H g e low old)
     ]
@@ -180,7 +178,7 @@ before-standing write H g n e later stands =
 
 -- what stands before a mark of the first turns, whatever turns follow
 pub before-made : (write : ℕ → ℕ → WriteFrame) (H : History) (g n e : ℕ) → g ≤ n →
-    e ≤ marks_in (entries_before write H g) →
+    e ≤ mark_count (entries_before write H g) →
     before (entries_before write H n) e ≡ before (entries_before write H g) e
 before-made write H g n zero later made =
     before-none (entries_before write H n) ∙ sym (before-none (entries_before write H g))
@@ -192,7 +190,7 @@ pub before-over : (shape : Shape) (write : ℕ → ℕ → WriteFrame) (H : Hist
     IsLegal shape H → g ≤ n → n ≤ turn_count shape → e ≤ phases_over shape g →
     before (entries_before write H n) e ≡ before (entries_before write H g) e
 before-over shape write H g n e legal later within made =
-    let marks : marks_in (entries_before write H g) ≡ phases_over shape g =
+    let marks : mark_count (entries_before write H g) ≡ phases_over shape g =
     marks-before shape write H legal g (omega (arith, later, within))
     in
     before-made write H g n e later (omega (arith, marks, made))
@@ -202,12 +200,12 @@ pub before-agree : (shape : Shape) (write : ℕ → ℕ → WriteFrame) (H K : H
     IsLegal shape H → g ≤ n → n ≤ turn_count shape → e ≤ phases_over shape g → SameOrders H K g →
     before (entries_before write H n) e ≡ before (entries_before write K n) e
 before-agree shape write H K g n e legal later within made same =
-    let marks : marks_in (entries_before write H g) ≡ phases_over shape g =
+    let marks : mark_count (entries_before write H g) ≡ phases_over shape g =
     marks-before shape write H legal g (omega (arith, later, within))
     in
     let alike = entries-agree write H K g same in
-    let others : marks_in (entries_before write H g) ≡ marks_in (entries_before write K g) =
-    ap marks_in alike
+    let others : mark_count (entries_before write H g) ≡ mark_count (entries_before write K g) =
+    ap mark_count alike
     in
     before-made write H g n e later (omega (arith, marks, made))
     ∙ ap (λ (E : List Placed). before E e) alike
@@ -215,7 +213,7 @@ before-agree shape write H K g n e legal later within made same =
 
 pub phases-marked : PhasesMarked
 phases-marked shape write H n e legal within =
-    let marks : marks_in (entries_before write H n) ≡ phases_over shape n =
+    let marks : mark_count (entries_before write H n) ≡ phases_over shape n =
     marks-before shape write H legal n within
     in
     record {

@@ -4,7 +4,7 @@
 pub use Rattle.tk_report.proofs.TurnEntries.{length-placed_from}
 pub use Rattle.tk_report.proofs.TurnEntries.{marks-placed_from}
 pub use Rattle.tk_report.proofs.TurnEntries.{placed_from-append, placed_after-append}
-pub use Rattle.tk_report.proofs.EpochLaws.{marks-before}
+pub use Rattle.tk_report.proofs.EpochLaws.{phases-next, marks-before}
 pub use Rattle.tk_report.proofs.WrittenLaws.{write_at-client, write_at-turn, turns-own}
 pub use Rattle.tk_report.proofs.WrittenLaws.{entries-placed}
 pub use Rattle.tk_report.proofs.WrittenLaws.{pair-low, each-is_written, before-front}
@@ -13,7 +13,7 @@ pub use Rattle.tk_report.proofs.RecordLaws.{ordered-front}
 pub use Rattle.tk_report.proofs.EachLaws.{each-front}
 pub use Rattle.tk_report.proofs.MarkedLaws.{entries-agree, turn_entries-agree, before-standing}
 pub use Rattle.tk_report.proofs.MarkedLaws.{before-made, before-over, before-agree, phases-marked}
-pub use Rattle.tk_report.proofs.StorableLaws.{length-written, epochs-storable}
+pub use Rattle.tk_report.proofs.StorableLaws.{one-mark, length-written, epochs-storable}
 -- what is said in each turn
 pub use Rattle.tk_report.proofs.SayOrder.{now-below, other-above, none-earlier, all-now}
 pub use Rattle.tk_report.proofs.SayOrder.{said-rises, said-within, said-none}
@@ -27,7 +27,7 @@ pub use Rattle.tk_report.proofs.AgreementLaws.{alike-where_old, fronts-agree, fl
 pub use Rattle.tk_report.proofs.AgreementLaws.{turns-agree}
 pub use Rattle.tk_report.proofs.LaidOutLaws.{layout-gives-lookup, bytes-give-lookup}
 -- the reads of a run, and what is taken of their replies
-pub use Rattle.tk_report.proofs.SoundReads.{map-map, map_same, AreMade, all-made, epoch-most}
+pub use Rattle.tk_report.proofs.SoundReads.{AreMade, all-made, epoch-most}
 pub use Rattle.tk_report.proofs.SoundReads.{blocks-whole, text-taken, asked-read_at}
 pub use Rattle.tk_report.proofs.SoundReads.{IsSound, all-sound}
 -- runs whose servers reply what they will
@@ -52,13 +52,16 @@ pub use Rattle.tk_report.proofs.ClientsLaws.{clients-first, clients-know, group-
 pub use Rattle.tk_report.proofs.ClientsLaws.{followers-first}
 -- lists that are changed from the first element on
 pub use Rattle.tk_report.proofs.Splits.{IsSplit, split-none, split-next, split-all}
-pub use Rattle.tk_report.proofs.ClientsLaws.{length-next}
+pub use Rattle.tk_lists.proofs.Offers.{length-next}
 pub use Rattle.tk_report.proofs.ReadingLaws.{before-next}
 -- how many writes of an order are displaced: none of no entries, and there is room for one more
 pub use Rattle.tk_report.proofs.DisplacedLaws.{none-displaced}
 pub use Rattle.tk_report.proofs.OrderCounts.{next-few, displaced-most}
--- numbers, one after the other
-pub use Rattle.tk_report.proofs.ClientsLaws.{range-next, flat_map-next}
+-- numbers, one after the other, and those that pass a test
+pub use Rattle.tk_lists.proofs.Offers.{numbers-more as range-next}
+pub use Rattle.tk_report.proofs.ClientsLaws.{flat_map-next, passes-next, fails-next, passing-below}
+-- what functions give of lists
+pub use Rattle.tk_report.proofs.Lists.{map-map, map_same, map-range, each-made, flat_map-flat_map}
 -- what each client sends, listed, and who writes a log
 pub use Rattle.tk_report.proofs.SendingsLaws.{sent_of, sent_each, finds}
 pub use Rattle.tk_report.proofs.ListingLaws.{writer-of, none-late}

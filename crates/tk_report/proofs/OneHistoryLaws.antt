@@ -1,10 +1,10 @@
 -- Bytes show one history at most.
-use Rattle.std.proofs.Common.{◌≡◌, refl, ap, sym, ◌∙◌, subst, arith, inl, inr, tests}
+use Rattle.std.proofs.Common.{◌≡◌, refl, ap, sym, ◌∙◌, subst, arith, inl, inr}
 use Rattle.std.proofs.Common.{ℕ, zero, suc, ◌+◌, ◌<◌, ◌≤◌, ◌^◌, true, false, cond}
 use Rattle.std.proofs.Common.{List, [], ◌∷◌, ◌++◌, map, codes, decimal, append_assoc}
 use Rattle.std.specs.Prelude.{◌==◌, not, flat_map, nat_lt, slice_index_or}
 use Rattle.std.specs.List.{AllByRecursion, list_all, range_with_len}
-use Rattle.std.proofs.lemmas.Bool.{cases_lt}
+use Rattle.std.proofs.lemmas.Bool.{cases_lt, ltb-true}
 use Rattle.std.proofs.lemmas.Fmt.{decimal_injective}
 use Rattle.std.proofs.lemmas.List.{ext_get_or, append_cancel_left}
 use Rattle.std.proofs.Math.Nat.{div-le_self, mod-lt}
@@ -18,38 +18,34 @@ use Rattle.tk_schedule.specs.Schedule.{phase_of, tick_of, is_closing, phases_ove
 use Rattle.tk_schedule.specs.Schedule.{epoch_at}
 use Rattle.tk_schedule.specs.Schedule.{blank_turn, is_within, IsTurn, IsLegal}
 use Rattle.tk_schedule.proofs.Offers.{turn_within}
-use Rattle.tk_schedule.proofs.Offers.{epochs_of_open}
-use Rattle.tk_script.proofs.Offers.{feed_by_test}
+use Rattle.tk_schedule.proofs.Offers.{epochs_of_open, same_turn}
+use Rattle.tk_script.proofs.Offers.{feed_by_test, lacks_by_test}
+use Rattle.tk_script.proofs.Offers.{same_first, same_rest, cons_both}
 use Rattle.tk_script.proofs.Offers.{all_digits}
 use Rattle.std.proofs.lemmas.Bool.{and_parts as parts}
 use Rattle.tk_frames.proofs.Offers.{turn_count_small}
 use Rattle.tk_script.specs.Grammar.{item_word}
 use Rattle.tk_report.specs.Report.{line, turn_lines, history_lines}
 use Rattle.tk_report.specs.Histories.{ShowsOne}
-use Rattle.tk_report.proofs.LineCuts.{IsField, decimal-field, cut_line, space_by_test}
+use Rattle.tk_report.proofs.LineCuts.{IsField, decimal-field, cut_line}
 
 -- ---- the fields of an order
 
-abbrev pub Fields : Type 0
-Fields = List (List ℕ)
-
+-- a word is a field if no byte of it is a space or a line feed
 pub word-field : (word : List ℕ) → list_all (λ b. not (b == 0x0A)) word ≡ true →
     list_all (λ b. not (b == 0x20)) word ≡ true → IsField word
 word-field word feed space =
-    record { no_space = space_by_test word space; no_feed = feed_by_test word feed }
+    record { no_space = lacks_by_test word space; no_feed = feed_by_test word feed }
 
 mark-field : IsField (codes "mark")
 mark-field = word-field (codes "mark") refl refl
-
-pub below : (c n : ℕ) → nat_lt c n ≡ true → c < n
-below c n h = grind (arith, tests)
 
 pub items-fields : (n : ℕ) (items : List Item) → n ≤ 64 → list_all (is_within n) items ≡ true →
     AllByRecursion IsField (map item_word items)
 items-fields n [] small within = tt
 items-fields n (Client c ∷ items) small within =
     let both = parts (nat_lt c n) (list_all (is_within n) items) within in
-    let low = below c n both.0 in
+    let low = ltb-true c n both.0 in
     (decimal-field c (omega (arith, low, small)), items-fields n items small both.1)
 items-fields n (Publish ∷ items) small within =
     (mark-field, items-fields n items small within)
@@ -60,15 +56,6 @@ not_mark c small e =
     let digit = all_digits (codes "mark") c small (sym e) 0 (omega arith) in
     omega (arith, digit.1)
 
-first_same : (f g : List ℕ) (fs gs : Fields) → f ∷ fs ≡ g ∷ gs → f ≡ g
-first_same f g fs gs e = cc e
-
-rest_same : (f g : List ℕ) (fs gs : Fields) → f ∷ fs ≡ g ∷ gs → fs ≡ gs
-rest_same f g fs gs e = cc e
-
-cons_both : (x y : Item) (xs ys : List Item) → x ≡ y → xs ≡ ys → x ∷ xs ≡ y ∷ ys
-cons_both x y xs ys p q = cc (p, q)
-
 -- fields tell one order
 items-same : (n : ℕ) (xs ys : List Item) → n ≤ 64 → list_all (is_within n) xs ≡ true →
     list_all (is_within n) ys ≡ true → map item_word xs ≡ map item_word ys → xs ≡ ys
@@ -78,32 +65,32 @@ items-same n (x ∷ xs) [] small p q e = absurd (cc e)
 items-same n (Client c ∷ xs) (Client d ∷ ys) small p q e =
     let one = parts (nat_lt c n) (list_all (is_within n) xs) p in
     let two = parts (nat_lt d n) (list_all (is_within n) ys) q in
-    let low = below c n one.0 in
-    let also = below d n two.0 in
+    let low = ltb-true c n one.0 in
+    let also = ltb-true d n two.0 in
     let same = decimal_injective c d (omega (arith, low, small)) (omega (arith, also, small))
-    (first_same (decimal c) (decimal d) (map item_word xs) (map item_word ys) e)
+    (same_first (decimal c) (decimal d) (map item_word xs) (map item_word ys) e)
     in
     cons_both (Client c) (Client d) xs ys (ap (λ k. Client k) same)
     (items-same n xs ys small one.1 two.1
-    (rest_same (decimal c) (decimal d) (map item_word xs) (map item_word ys) e))
+    (same_rest (decimal c) (decimal d) (map item_word xs) (map item_word ys) e))
 items-same n (Client c ∷ xs) (Publish ∷ ys) small p q e =
     let one = parts (nat_lt c n) (list_all (is_within n) xs) p in
-    let low = below c n one.0 in
+    let low = ltb-true c n one.0 in
     absurd (not_mark c (omega (arith, low, small))
-    (first_same (decimal c) (codes "mark") (map item_word xs) (map item_word ys) e))
+    (same_first (decimal c) (codes "mark") (map item_word xs) (map item_word ys) e))
 items-same n (Publish ∷ xs) (Client d ∷ ys) small p q e =
     let two = parts (nat_lt d n) (list_all (is_within n) ys) q in
-    let low = below d n two.0 in
+    let low = ltb-true d n two.0 in
     absurd (not_mark d (omega (arith, low, small))
-    (sym (first_same (codes "mark") (decimal d) (map item_word xs) (map item_word ys) e)))
+    (sym (same_first (codes "mark") (decimal d) (map item_word xs) (map item_word ys) e)))
 items-same n (Publish ∷ xs) (Publish ∷ ys) small p q e =
     cons_both Publish Publish xs ys refl
     (items-same n xs ys small p q
-    (rest_same (codes "mark") (codes "mark") (map item_word xs) (map item_word ys) e))
+    (same_rest (codes "mark") (codes "mark") (map item_word xs) (map item_word ys) e))
 
 -- ---- the fields of epochs
 
-abbrev pub epoch_fields : History → ℕ → ℕ → ℕ → Fields
+abbrev pub epoch_fields : History → ℕ → ℕ → ℕ → List (List ℕ)
 epoch_fields H g a n = map (λ c. decimal (epoch_at H g c)) (range_with_len a n)
 
 epochs-fields : (H : History) (g a n : ℕ) →
@@ -128,14 +115,14 @@ epochs-same H K g a (suc n) small also e c low high =
       | inl behind ↦ epochs-same H K g (a + 1) n
           (λ d l h. small d (omega (arith, l)) (omega (arith, h)))
           (λ d l h. also d (omega (arith, l)) (omega (arith, h)))
-          (rest_same (decimal (epoch_at H g a)) (decimal (epoch_at K g a)) one two e)
+          (same_rest (decimal (epoch_at H g a)) (decimal (epoch_at K g a)) one two e)
           c (omega (arith, behind)) (omega (arith, high))
       | inr not_behind ↦
           let here : a ≡ c = omega (arith, low, not_behind) in
           subst (λ d. epoch_at H g d ≡ epoch_at K g d) here
           (decimal_injective (epoch_at H g a) (epoch_at K g a)
           (small a (omega arith) (omega arith)) (also a (omega arith) (omega arith))
-          (first_same (decimal (epoch_at H g a)) (decimal (epoch_at K g a)) one two e))
+          (same_first (decimal (epoch_at H g a)) (decimal (epoch_at K g a)) one two e))
     ]
 
 -- ---- the lines of a turn
@@ -162,11 +149,11 @@ is-small shape g low =
       over = omega (arith, few, low, over);
     }
 
-abbrev pub order_fields : Shape → History → ℕ → Fields
+abbrev pub order_fields : Shape → History → ℕ → List (List ℕ)
 order_fields shape H g =
     decimal (phase_of shape g) ∷ decimal (tick_of shape g) ∷ map item_word (order_at H g)
 
-abbrev pub reads_fields : Shape → History → ℕ → Fields
+abbrev pub reads_fields : Shape → History → ℕ → List (List ℕ)
 reads_fields shape H g =
     decimal (phase_of shape g) ∷ decimal (tick_of shape g) ∷ epoch_fields H g 0 shape.clients
 
@@ -205,7 +192,7 @@ reads-fields shape H g small legal = (
   ),
 )
 
-behind_three : (a b c : List ℕ) (fs gs : Fields) → a ∷ b ∷ c ∷ fs ≡ a ∷ b ∷ c ∷ gs → fs ≡ gs
+behind_three : (a b c : List ℕ) (fs gs : List (List ℕ)) → a ∷ b ∷ c ∷ fs ≡ a ∷ b ∷ c ∷ gs → fs ≡ gs
 behind_three a b c fs gs e = cc e
 
 -- the epochs of a closing turn, and what follows
@@ -251,9 +238,6 @@ epochs-told shape H K g x y small legal also e =
         rest,
       )
     ] refl e
-
-same_turn : (a b : TurnOrder) → a.order ≡ b.order → a.epochs ≡ b.epochs → a ≡ b
-same_turn a b p q = λ i. record { order = p i; epochs = q i }
 
 -- the lines of a turn tell it, and what follows
 turn-told : (shape : Shape) (H K : History) (g : ℕ) (x y : List ℕ) → g < turn_count shape →

@@ -4,11 +4,12 @@ use Rattle.std.proofs.Common.{ℕ, zero, suc, ◌+◌, ◌-◌, ◌<◌, ◌≤�
 use Rattle.std.proofs.Common.{Bool, true, false, cond, ◌&&◌, eqb-true, zero-add, suc-add}
 use Rattle.std.proofs.Common.{List, [], ◌∷◌, ◌++◌, length, map, filter, find, replicate, slice_get}
 use Rattle.std.proofs.Common.{append_assoc}
-use Rattle.std.proofs.Common.{slice_index_or, slice_set, Option, Some, None, option_map}
+use Rattle.std.proofs.Common.{slice_index_or, slice_set, Option, Some, None}
 use Rattle.std.specs.List.{AllByRecursion, range_with_len}
 use Rattle.std.specs.Option.{option_or}
 use Rattle.std.proofs.lemmas.Bool.{cases_lt}
-use Rattle.std.proofs.lemmas.Option.{slice_get_within}
+use Rattle.std.proofs.lemmas.Option.{same_Some, slice_get_within}
+use Rattle.tk_lists.proofs.Offers.{option_map-from}
 use Rattle.tk_shape.specs.declared.shape.Shape.{Shape}
 use Rattle.tk_shape.specs.Lengths.{turn_count}
 use Rattle.tk_schedule.specs.declared.history.History.{History}
@@ -45,9 +46,6 @@ record IsFirst (test : ℕ → Bool) (a n j : ℕ) : Type 0 where
   within : j < a + n
   fail_before : (i : ℕ) → a ≤ i → i < j → test i ≡ false
 
-some_inj : {X : Type 0} (a b : X) → Some a ≡ Some b → a ≡ b
-some_inj a b e = cc e
-
 find-first : (test : ℕ → Bool) (a n j : ℕ) → find test (range_with_len a n) ≡ Some j →
     IsFirst test a n j
 find-first test a zero j e = absurd (cc e)
@@ -55,7 +53,7 @@ find-first test a (suc n) j e =
     elim (test a)
     as (λ b. test a ≡ b → cond b (Some a) (find test (range_with_len (a + 1) n)) ≡ Some j →
     IsFirst test a (suc n) j) [
-      | true ↦ λ hit here. let same = some_inj a j here in
+      | true ↦ λ hit here. let same = same_Some a j here in
           record {
             passes = subst (λ k. test k ≡ true) same hit;
             above = omega (arith, same);
@@ -95,7 +93,7 @@ wanted-next : (n count j : ℕ) → cond (nat_lt n count) (Some 0) None ≡ Some
 wanted-next n count j e =
     elim (nat_lt n count)
     as (λ b. nat_lt n count ≡ b → cond b (Some 0) None ≡ Some j → (n < count) × (0 ≡ j)) [
-      | true ↦ λ low here. (ltb-true n count low, some_inj 0 j here)
+      | true ↦ λ low here. (ltb-true n count low, same_Some 0 j here)
       | false ↦ λ _ none. absurd (cc none)
     ] refl e
 
@@ -149,11 +147,6 @@ first_some-from {X} {Y} f (x ∷ xs) y e =
       | None ↦ λ _ later. first_some-from f xs y later
       | Some z ↦ λ here same. (x, here ∙ same)
     ] refl e
-
-option_map-from : {X Y : Type 0} (f : X → Y) (o : Option X) (y : Y) → option_map f o ≡ Some y →
-    (x : X) × (o ≡ Some x) × (f x ≡ y)
-option_map-from f None y e = absurd (cc e)
-option_map-from f (Some x) y e = (x, refl, some_inj (f x) y e)
 
 target-is : (shape : Shape) (shown : ℕ → ℕ → Bool) (r : Reader) (t : Target) →
     target shape shown r ≡ Some t → IsTargetOf shape shown r t

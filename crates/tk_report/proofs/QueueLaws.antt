@@ -22,14 +22,16 @@ use Rattle.tk_frames.proofs.Offers.{each-filter}
 use Rattle.tk_report.specs.Queues.{QueuesSend}
 use Rattle.tk_report.specs.Queues.{turn_said, writes_of, says_in, with_says, writing_before}
 use Rattle.tk_report.specs.Queues.{writing_said, waiting_of}
-use Rattle.tk_report.proofs.EachLaws.{each-weaker, each-append, each-behind, each-passes}
+use Rattle.tk_report.proofs.EachLaws.{each-weaker, each-behind, each-passes}
 use Rattle.tk_report.proofs.EachLaws.{filter-none, filter-swap}
 use Rattle.tk_report.proofs.EachLaws.{find-none, find-past, find-filter, count-none, count-all}
 use Rattle.tk_report.proofs.CountLaws.{IsCounted, counted-said, written-range, count_of-unwritten}
+use Rattle.tk_report.proofs.SendingsLaws.{turn_in}
 use Rattle.tk_report.proofs.SayOrder.{IsSaid, all-said, turn-in, Rising, rising-from_order}
 use Rattle.tk_report.proofs.SayOrder.{rising-filter}
 use Rattle.tk_report.proofs.SayOrder.{now-and-later}
-use Rattle.tk_script.proofs.Offers.{behind, sendings-append, sent-late, number-le-turn}
+use Rattle.tk_script.proofs.Offers.{behind, sendings-append, sent-late, number-le-turn, each-append}
+use Rattle.tk_script.proofs.Offers.{same_first, same_rest}
 use Rattle.tk_script.proofs.Offers.{free_after, free_after-append, of_log, sending_behind}
 use Rattle.tk_script.proofs.Offers.{sendings_from-append}
 
@@ -39,9 +41,6 @@ own shape y = turn_said shape y
 
 -- ---- the queue before turn g, where these texts were said
 
-abbrev turn_of : Sending → ℕ
-turn_of y = y.turn
-
 -- of what is sent, some was written in earlier turns, and the rest waits for turn g and those that
 -- follow
 record IsQueue (shape : Shape) (g : ℕ) (done : List Say) (w : Writing) : Type 0 where
@@ -49,7 +48,7 @@ record IsQueue (shape : Shape) (g : ℕ) (done : List Say) (w : Writing) : Type 
   pub queue : List Sending
   pub sent_is : sendings_from shape 0 [] done ≡ past ++ queue
   pub gone : AllByRecursion (λ (s : Sending). s.turn + 1 ≤ g) past
-  pub turns : map turn_of queue ≡ range_with_len g (length queue)
+  pub turns : map turn_in queue ≡ range_with_len g (length queue)
   pub free : max g (free_after shape 0 done) ≡ g + length queue
   pub waiting : w.waiting ≡ map waiting_of queue
 
@@ -79,7 +78,7 @@ queue-said shape g done w y now counted q =
       sent_is = sendings_from-append shape 0 [] done y ∙ ap (λ zs. zs ++ next ∷ []) q.sent_is
           ∙ append_assoc q.past q.queue (next ∷ []);
       gone = q.gone;
-      turns = map-append turn_of q.queue (next ∷ []) ∙ ap (λ ns. ns ++ next.turn ∷ []) q.turns
+      turns = map-append turn_in q.queue (next ∷ []) ∙ ap (λ ns. ns ++ next.turn ∷ []) q.turns
           ∙ ap (λ n. range_with_len g k ++ n ∷ []) turn_is ∙ range-push g k
           ∙ ap (range_with_len g) (sym longer);
       free = ap (max g) (free_after-append shape 0 done y) ∙ omega (arith, turn_is, longer);
@@ -88,12 +87,6 @@ queue-said shape g done w y now counted q =
           ∙ sym (map-append waiting_of q.queue (next ∷ []));
     }
 
-head-same : (a b : ℕ) (xs ys : List ℕ) → a ∷ xs ≡ b ∷ ys → a ≡ b
-head-same a b xs ys e = cc e
-
-tail-same : (a b : ℕ) (xs ys : List ℕ) → a ∷ xs ≡ b ∷ ys → xs ≡ ys
-tail-same a b xs ys e = cc e
-
 -- the turn's write is made
 queue-written : (shape : Shape) (g : ℕ) (done : List Say) (w : Writing) → IsQueue shape g done w →
     IsQueue shape (g + 1) done (after_write w)
@@ -101,7 +94,7 @@ queue-written shape g done w q = written q.past q.queue q.sent_is q.gone q.turns
   where
     written : (past queue : List Sending) → sendings_from shape 0 [] done ≡ past ++ queue →
         AllByRecursion (λ (s : Sending). s.turn + 1 ≤ g) past →
-        map turn_of queue ≡ range_with_len g (length queue) →
+        map turn_in queue ≡ range_with_len g (length queue) →
         max g (free_after shape 0 done) ≡ g + length queue → w.waiting ≡ map waiting_of queue →
         IsQueue shape (g + 1) done (after_write w)
     written past [] all gone turns free waiting =
@@ -116,7 +109,7 @@ queue-written shape g done w q = written q.past q.queue q.sent_is q.gone q.turns
           waiting = ap (drop 1) waiting;
         }
     written past (y ∷ ys) all gone turns free waiting =
-        let first : y.turn ≡ g = head-same y.turn g (map turn_of ys)
+        let first : y.turn ≡ g = same_first y.turn g (map turn_in ys)
         (range_with_len (g + 1) (length ys)) turns in
         record {
           past = past ++ y ∷ [];
@@ -126,7 +119,7 @@ queue-written shape g done w q = written q.past q.queue q.sent_is q.gone q.turns
               (each-weaker (λ (s : Sending). s.turn + 1 ≤ g)
               (λ (s : Sending). s.turn + 1 ≤ g + 1) past (λ s h. omega (arith, h)) gone)
               (omega (arith, first), tt);
-          turns = tail-same y.turn g (map turn_of ys) (range_with_len (g + 1) (length ys)) turns;
+          turns = same_rest y.turn g (map turn_in ys) (range_with_len (g + 1) (length ys)) turns;
           free = omega (arith, free);
           waiting = ap (drop 1) waiting;
         }
@@ -329,7 +322,7 @@ reached S c (suc g) =
 
 -- what waits first is what is sent in the turn
 find-first : (g : ℕ) (queue later : List Sending) →
-    map turn_of queue ≡ range_with_len g (length queue) →
+    map turn_in queue ≡ range_with_len g (length queue) →
     AllByRecursion (λ (s : Sending). g + 1 ≤ s.turn) later →
     option_map waiting_of (find (λ (s : Sending). s.turn == g) (queue ++ later))
     ≡ slice_get (map waiting_of queue) 0
@@ -341,7 +334,7 @@ find-first g [] later turns from =
 find-first g (y ∷ ys) later turns from =
     ap (λ b. option_map waiting_of
     (cond b (Some y) (find (λ (s : Sending). s.turn == g) (ys ++ later))))
-    (eq-eqb y.turn g (head-same y.turn g (map turn_of ys)
+    (eq-eqb y.turn g (same_first y.turn g (map turn_in ys)
     (range_with_len (g + 1) (length ys)) turns))
 
 pub queue_is_sent : (S : Script) (c g : ℕ) → g < turn_count S.shape →
@@ -375,7 +368,7 @@ queue_is_sent S c g within =
     lt-to a b h = grind (arith, tests)
 
 number-first : (g : ℕ) (queue : List Sending) (y : Waiting) →
-    map turn_of queue ≡ range_with_len g (length queue) →
+    map turn_in queue ≡ range_with_len g (length queue) →
     AllByRecursion (λ (s : Sending). s.number ≤ s.turn) queue →
     slice_get (map waiting_of queue) 0 ≡ Some y → y.number ≤ g
 number-first g [] y turns numbers e = absurd (none e)
@@ -383,7 +376,7 @@ number-first g [] y turns numbers e = absurd (none e)
     none : ◌≡◌ {A = Option Waiting} None (Some y) → ⊥
     none h = cc h
 number-first g (s ∷ ss) y turns numbers e =
-    let first = head-same s.turn g (map turn_of ss) (range_with_len (g + 1) (length ss)) turns in
+    let first = same_first s.turn g (map turn_in ss) (range_with_len (g + 1) (length ss)) turns in
     let same : waiting_of s ≡ y = some-same (waiting_of s) y e in
     omega (arith, first, numbers.0, ap (λ (w : Waiting). w.number) same)
   where
@@ -404,13 +397,13 @@ numbers_are_in_range S c g within = λ y first.
     omega (arith, within, low)
 
 turns-from : (g : ℕ) (queue : List Sending) →
-    map turn_of queue ≡ range_with_len g (length queue) →
+    map turn_in queue ≡ range_with_len g (length queue) →
     AllByRecursion (λ (s : Sending). g ≤ s.turn) queue
 turns-from g [] turns = tt
 turns-from g (s ∷ ss) turns =
-    let first = head-same s.turn g (map turn_of ss) (range_with_len (g + 1) (length ss)) turns in
+    let first = same_first s.turn g (map turn_in ss) (range_with_len (g + 1) (length ss)) turns in
     let rest = turns-from (g + 1) ss
-    (tail-same s.turn g (map turn_of ss) (range_with_len (g + 1) (length ss)) turns) in (
+    (same_rest s.turn g (map turn_in ss) (range_with_len (g + 1) (length ss)) turns) in (
       omega (arith, first),
       each-weaker (λ (t : Sending). g + 1 ≤ t.turn)
           (λ (t : Sending). g ≤ t.turn) ss (λ t h. omega (arith, h)) rest,

@@ -25,19 +25,18 @@ use Rattle.tk_schedule.specs.Due.{bad_line}
 use Rattle.tk_schedule.specs.Told as told
 use Rattle.tk_schedule.specs.Told.{Tells}
 use Rattle.tk_schedule.proofs.Offers.{turn_within}
-use Rattle.tk_script.specs.Grammar.{Line, lines_of, item_word, IsItem}
-use Rattle.tk_script.proofs.Offers.{feed_by_test}
-use Rattle.tk_script.proofs.Offers.{IsWord}
+use Rattle.tk_script.specs.Grammar.{Line, lines_of, item_word, IsItem, IsNumber}
+use Rattle.tk_script.proofs.Offers.{feed_by_test, each-append}
 use Rattle.tk_script.proofs.Offers.{no_lines}
-use Rattle.std.proofs.lemmas.Bool.{and_parts as parts}
+use Rattle.std.proofs.lemmas.Bool.{ltb-true, and_parts as parts}
 use Rattle.tk_report.specs.Report.{line, turn_lines, history_lines}
 use Rattle.tk_report.specs.ReportLines.{no_line, kind_said, stops, raw_from, bad_report_line}
 use Rattle.tk_report.specs.Shown.{ShowsHistory}
-use Rattle.tk_report.proofs.EachLaws.{each-append}
 use Rattle.tk_report.proofs.LineCuts.{IsField}
 use Rattle.tk_report.proofs.OneHistoryLaws.{turn_of, IsSmall, is-small, order_fields, order-fields}
-use Rattle.tk_report.proofs.OneHistoryLaws.{reads_fields, reads-fields, below}
-use Rattle.tk_report.proofs.TextLines.{lines_of-line, first-whole, stop-first, first-stops}
+use Rattle.tk_report.proofs.OneHistoryLaws.{reads_fields, reads-fields}
+use Rattle.tk_script.proofs.Offers.{lines_of-line}
+use Rattle.tk_report.proofs.TextLines.{first-whole, stop-first, first-stops}
 use Rattle.tk_report.proofs.KindLaws.{kind_text, IsOwn, own-order, own-reads}
 use Rattle.tk_report.proofs.KindLaws.{said-no_end}
 
@@ -165,7 +164,7 @@ items-short : (n : ℕ) (items : List Item) → n ≤ 64 → list_all (is_within
 items-short n [] small within = tt
 items-short n (Client c ∷ items) small within =
     let both = parts (nat_lt c n) (list_all (is_within n) items) within in
-    let low = below c n both.0 in
+    let low = ltb-true c n both.0 in
     (omega (arith, low, small), items-short n items small both.1)
 items-short n (Publish ∷ items) small within = (tt, items-short n items small within)
 
@@ -193,7 +192,7 @@ epochs-listed front (e ∷ epochs) a at =
     length-push (x ∷ front) e = ap suc (length-push front e) ∙ omega arith
 
 epochs-short : (epochs : List ℕ) (limit : ℕ) → limit < 2 ^ 32 →
-    ((c : ℕ) → c < length epochs → slice_index epochs c ≤ limit) → AllByRecursion IsWord epochs
+    ((c : ℕ) → c < length epochs → slice_index epochs c ≤ limit) → AllByRecursion IsNumber epochs
 epochs-short [] limit small low = tt
 epochs-short (e ∷ epochs) limit small low = (
   omega (arith, low 0 (omega arith), small),
@@ -255,7 +254,7 @@ reads-own shape H g short small legal =
         in
         subst (λ (xs : List ℕ). IsOwn (Reads (phase_of shape g) (tick_of shape g) xs)) (sym is)
         (own-reads (phase_of shape g) (tick_of shape g) e epochs short.phase short.tick
-        (subst (AllByRecursion IsWord) is words)
+        (subst (AllByRecursion IsNumber) is words)
         (subst (λ (xs : List (List ℕ)). AllByRecursion IsField
         (codes "reads" ∷ decimal (phase_of shape g) ∷ decimal (tick_of shape g) ∷ xs))
         (epochs-told shape H g legal ∙ ap (map decimal) is)

@@ -2,12 +2,11 @@
 use Rattle.std.proofs.Common.{◌≡◌, sym, subst, arith}
 use Rattle.std.proofs.Common.{ℕ, ◌+◌, List, [], ◌∷◌, ◌++◌}
 use Rattle.std.specs.List.{cons_option}
-use Rattle.std.proofs.lemmas.List.Elements.{filter_map-append}
 use Rattle.tk_shape.specs.declared.shape.Shape.{Shape}
 use Rattle.tk_frames.specs.declared.entry.Placed.{Placed}
 use Rattle.tk_frames.specs.declared.entry.Entry.{Entry}
 use Rattle.tk_frames.specs.declared.entry.Entry.TheVariants.{Write, Mark}
-use Rattle.tk_frames.specs.Order.{Record, record_at, record_in, records}
+use Rattle.tk_frames.specs.Order.{Record, record_at, records}
 use Rattle.tk_table.specs.Ordered.{AscendFrom, HasBuckets, AreOrdered}
 use Rattle.tk_table.proofs.Offers.{ascend-lower}
 use Rattle.tk_report.proofs.EachLaws.{each-front}
@@ -41,6 +40,3 @@ ordered-front shape R later h =
       ascend = ascend-of_front 1 R later h.ascend;
       within = each-front (HasBuckets shape) R later h.within;
     }
-
-pub records-append : (E F : List Placed) → records (E ++ F) ≡ records E ++ records F
-records-append E F = filter_map-append record_in E F

@@ -6,7 +6,7 @@ use Rattle.std.proofs.Common.{count_by, ◌++◌, append-nil, take-append-drop}
 use Rattle.std.specs.Prelude.{◌==◌, ◌&&◌, ◌||◌, nat_lt, nat_le, slice_index_or}
 use Rattle.std.specs.List.{AllByRecursion, list_all}
 use Rattle.std.proofs.lemmas.Nat.{mul-add-lt}
-use Rattle.std.proofs.lemmas.Bool.{cases_lt}
+use Rattle.std.proofs.lemmas.Bool.{and_parts as parts, cases_lt, leb-true, ltb-true}
 use Rattle.std.proofs.lemmas.Bool.Decides.{nat_tests}
 use Rattle.std.proofs.lemmas.List.Elements.{filter-append}
 use Rattle.std.proofs.lemmas.List.Sums.{sum_by-cons, count_by-le-length}
@@ -28,17 +28,6 @@ pub record IsSaid (shape : Shape) (y : Say) : Type 0 where
   pub tick_high : y.tick ≤ shape.ticks
   pub log_in : y.log < shape.logs
 
-parts : (a b : Bool) → (a && b) ≡ true → (a ≡ true) × (b ≡ true)
-parts true true e = (refl, refl)
-parts true false e = absurd (cc e)
-parts false b e = absurd (cc e)
-
-le-from : (a b : ℕ) → nat_le a b ≡ true → a ≤ b
-le-from a b e = grind (arith, tests)
-
-lt-from : (a b : ℕ) → nat_lt a b ≡ true → a < b
-lt-from a b e = grind (arith, tests)
-
 said-from : (shape : Shape) (y : Say) → is_say shape y ≡ true → IsSaid shape y
 said-from shape y e =
     let p1 = nat_le 1 y.phase in
@@ -54,11 +43,11 @@ said-from shape y e =
     let s2 = parts (p1 && p2) t1 s3.0 in
     let s1 = parts p1 p2 s2.0 in
     record {
-      phase_low = le-from 1 y.phase s1.0;
-      phase_high = le-from y.phase shape.phases s1.1;
-      tick_low = le-from 1 y.tick s2.1;
-      tick_high = le-from y.tick shape.ticks s3.1;
-      log_in = lt-from y.log shape.logs s4.1;
+      phase_low = leb-true 1 y.phase s1.0;
+      phase_high = leb-true y.phase shape.phases s1.1;
+      tick_low = leb-true 1 y.tick s2.1;
+      tick_high = leb-true y.tick shape.ticks s3.1;
+      log_in = ltb-true y.log shape.logs s4.1;
     }
 
 pub all-said : (shape : Shape) (says : List Say) → list_all (is_say shape) says ≡ true →
@@ -93,10 +82,10 @@ said_by-cases a b e =
     as (λ t. nat_lt a.phase b.phase ≡ t →
     (t || ((a.phase == b.phase) && nat_le a.tick b.tick)) ≡ true →
     (a.phase < b.phase) ⊎ ((a.phase ≡ b.phase) × (a.tick ≤ b.tick))) [
-      | true ↦ λ lower h. inl (lt-from a.phase b.phase lower)
+      | true ↦ λ lower h. inl (ltb-true a.phase b.phase lower)
       | false ↦ λ same h.
           let both = parts (a.phase == b.phase) (nat_le a.tick b.tick) h in
-          inr (eqb-true a.phase b.phase both.0, le-from a.tick b.tick both.1)
+          inr (eqb-true a.phase b.phase both.0, leb-true a.tick b.tick both.1)
     ]
     refl e
 
@@ -246,7 +235,7 @@ below-none shape g (y ∷ says) rise =
     count_before shape g (y ∷ says) ≡ cond b 1 0 + count_before shape g says →
     filter (is_now shape g) (take (count_before shape g (y ∷ says)) (y ∷ says)) ≡ []) [
       | true ↦ λ e m.
-          let early = lt-from (turn_said shape y) g e in
+          let early = ltb-true (turn_said shape y) g e in
           let n = count_before shape g says in
           let next : count_before shape g (y ∷ says) ≡ suc n = omega (arith, m) in
           let front = filter (is_now shape g) (take n says) in

@@ -9,18 +9,19 @@ use Rattle.std.specs.List.{range_with_len}
 use Rattle.std.specs.List.Sorted.{IsNonDecreasingBy, IsPartitionPoint}
 use Rattle.std.proofs.lemmas.Bool.{cases_lt}
 use Rattle.std.proofs.lemmas.List.{get_or_default}
-use Rattle.std.proofs.lemmas.List.Elements.{All-nil, All-cons, All-weaker, All-filter}
+use Rattle.std.proofs.lemmas.List.Elements.{All-weaker, All-filter}
 use Rattle.std.proofs.lemmas.List.FromFn.{length-map-range_with_len, get_or-map-range_with_len}
 use Rattle.tk_shape.specs.declared.shape.Shape.{Shape}
 use Rattle.tk_schedule.specs.Schedule.{turn_at}
 use Rattle.tk_script.specs.declared.script.Script.{Script}
 use Rattle.tk_script.specs.declared.say.Say.{Say}
 use Rattle.tk_script.specs.Sent.{Sending, sendings_from, in_run, sent, writer_of}
+use Rattle.tk_script.proofs.Offers.{turns-behind}
 use Rattle.tk_report.specs.Listings.{sent_by}
 
 -- ---- in the order of the turns
 
-abbrev turn_in : Sending → ℕ
+abbrev pub turn_in : Sending → ℕ
 turn_in y = y.turn
 
 -- each is sent no later than those after it
@@ -38,17 +39,6 @@ ascend-filter p (y ∷ ys) h =
       | false ↦ ascend-filter p ys h.1
     ]
 
-turns-after : (shape : Shape) (free : ℕ) (earlier says : List Say) →
-    All (λ (y : Sending). free ≤ y.turn) (sendings_from shape free earlier says)
-unfolding sendings_from
-turns-after shape free earlier [] = All-nil (λ (y : Sending). free ≤ y.turn)
-turns-after shape free earlier (y ∷ says) =
-    let next = max (turn_at shape y.phase y.tick) free + 1 in
-    let later = sendings_from shape next (y ∷ earlier) says in
-    All-cons (λ (z : Sending). free ≤ z.turn) _ later (omega arith)
-    (All-weaker (λ (z : Sending). next ≤ z.turn) (λ (z : Sending). free ≤ z.turn)
-    (λ z h. omega (arith, h)) later (turns-after shape next (y ∷ earlier) says))
-
 sendings-ascend : (shape : Shape) (free : ℕ) (earlier says : List Say) →
     AscendByTurn (sendings_from shape free earlier says)
 unfolding sendings_from
@@ -57,7 +47,7 @@ sendings-ascend shape free earlier (y ∷ says) =
     let turn = max (turn_at shape y.phase y.tick) free in
     let later = sendings_from shape (turn + 1) (y ∷ earlier) says in (
       All-weaker (λ (z : Sending). turn + 1 ≤ z.turn) (λ (z : Sending). turn ≤ z.turn)
-          (λ z h. omega (arith, h)) later (turns-after shape (turn + 1) (y ∷ earlier) says),
+          (λ z h. omega (arith, h)) later (turns-behind shape (turn + 1) (y ∷ earlier) says),
       sendings-ascend shape (turn + 1) (y ∷ earlier) says,
     )
 

@@ -25,7 +25,8 @@ use Rattle.tk_report.proofs.LeavingLaws.{reports-agree}
 use Rattle.tk_report.specs.Serving.{honest, frame_under, replies_under, reader_under, reader_after}
 use Rattle.tk_report.specs.Serving.{read_replied, got_under}
 use Rattle.tk_report.specs.Serving.{HonestReaders, HonestExchange, HonestReport}
-use Rattle.tk_report.proofs.SoundReads.{IsSound, all-sound, text-taken, map-map}
+use Rattle.tk_report.proofs.Lists.{map-map}
+use Rattle.tk_report.proofs.SoundReads.{IsSound, all-sound, text-taken}
 
 -- what honest servers reply to a read gives what is looked up
 answer-told : (S : Script) (b : WordBook) (H : History) (g c : ℕ) (t : Option Target) →

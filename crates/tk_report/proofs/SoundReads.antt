@@ -1,5 +1,5 @@
 -- The reads of a run: what each is over, that it is in range, and what a client takes from replies.
-use Rattle.std.proofs.Common.{◌≡◌, refl, ap, ap₂, sym, subst, ◌∙◌, arith, ℕ, ◌+◌, ◌<◌, List, [], ◌∷◌, ◌++◌}
+use Rattle.std.proofs.Common.{◌≡◌, refl, ap, ap₂, sym, subst, ◌∙◌, arith, ℕ, ◌+◌, ◌<◌, List, [], ◌++◌}
 use Rattle.std.proofs.Common.{length, map, Option, Some, ◌≤◌}
 use Rattle.std.specs.List.{AllByRecursion, range_with_len}
 use Rattle.std.proofs.lemmas.List.{length-map}
@@ -39,18 +39,6 @@ use Rattle.tk_report.specs.Entries.{write_at}
 use Rattle.tk_report.proofs.MarkedLaws.{before-over}
 use Rattle.tk_report.specs.Turns.{placed_before}
 use Rattle.tk_report.proofs.JoiningLaws.{AreBlocks, replies_join}
-
--- ---- lists
-
-pub map-map : {X Y Z : Type 0} (f : Y → Z) (h : X → Y) (xs : List X) →
-    map f (map h xs) ≡ map (λ x. f (h x)) xs
-map-map f h [] = refl
-map-map f h (x ∷ xs) = ap (λ rest. f (h x) ∷ rest) (map-map f h xs)
-
-pub map_same : {X Y : Type 0} (f g : X → Y) → ((x : X) → f x ≡ g x) → (xs : List X) →
-    map f xs ≡ map g xs
-map_same f g same [] = refl
-map_same f g same (x ∷ xs) = ap₂ (λ y ys. y ∷ ys) (same x) (map_same f g same xs)
 
 -- ---- what a read is over
 

@@ -1,5 +1,5 @@
 -- The writes of a legal history can be stored.
-use Rattle.std.proofs.Common.{◌≡◌, refl, sym, subst, arith, tests}
+use Rattle.std.proofs.Common.{◌≡◌, refl, sym, subst, arith}
 use Rattle.std.proofs.Common.{ℕ, zero, suc, ◌+◌, ◌-◌, ◌*◌, ◌<◌, ◌≤◌, true, false, nat_lt}
 use Rattle.std.proofs.Common.{List, [], ◌∷◌, length, count_by, length-append, length-drop, Some}
 use Rattle.std.proofs.Common.{None}
@@ -17,7 +17,7 @@ use Rattle.tk_schedule.specs.Schedule.{order_at, is_within, is_closing, marks_du
 use Rattle.tk_schedule.proofs.Offers.{turn_within}
 use Rattle.tk_script.specs.declared.script.Script.{Script}
 use Rattle.tk_script.specs.Sent.{sent}
-use Rattle.std.proofs.lemmas.Bool.{and_parts as parts}
+use Rattle.std.proofs.lemmas.Bool.{ltb-true, and_parts as parts}
 use Rattle.tk_handle.specs.declared.handle.Handle.{Handle}
 use Rattle.tk_handle.proofs.Offers.{length-key_bytes}
 use Rattle.tk_kernel.specs.Xor.{xor_bytes}
@@ -38,15 +38,14 @@ use Rattle.tk_frames.specs.declared.entry.Entry.{Entry}
 use Rattle.tk_frames.specs.declared.entry.Entry.TheVariants.{Write, Mark}
 use Rattle.tk_frames.specs.Order.{Record, record_at, is_mark_entry, records, before}
 use Rattle.tk_table.specs.Laws.{IsStorable}
-use Rattle.tk_frames.proofs.Offers.{each-both}
+use Rattle.tk_frames.proofs.Offers.{each-both, records-append}
 use Rattle.tk_client.specs.Writes.{write_of}
 use Rattle.tk_report.specs.Queues.{waiting_of}
 use Rattle.tk_report.proofs.TurnEntries.{length-placed_from}
 use Rattle.tk_report.specs.Entries.{write_at, placed_from, placed_after, entries_before, entries}
 use Rattle.tk_report.proofs.RecordLaws.{ArePlacedFrom}
-use Rattle.tk_report.proofs.EachLaws.{each-append, each-weaker, each-front}
-use Rattle.tk_report.proofs.RecordLaws.{records-append}
-use Rattle.tk_script.proofs.Offers.{sent-sealable}
+use Rattle.tk_report.proofs.EachLaws.{each-weaker, each-front}
+use Rattle.tk_script.proofs.Offers.{sent-sealable, each-append}
 use Rattle.tk_report.specs.Delivered.{EpochsStorable}
 use Rattle.tk_script.proofs.Offers.{sent-is}
 use Rattle.tk_report.proofs.WrittenLaws.{entries-placed, before-front}
@@ -130,9 +129,6 @@ length-written S b g c served in_run client =
 
 -- ---- the clients of a legal history
 
-below : (c n : ℕ) → nat_lt c n ≡ true → c < n
-below c n h = grind (arith, tests)
-
 turn-within : (P : Record → Type 0) (write : ℕ → WriteFrame) (p e n : ℕ) (items : List Item) →
     list_all (is_within n) items ≡ true →
     ((q c : ℕ) → c < n → P (record { position = q; write = write c })) →
@@ -141,7 +137,7 @@ unfolding placed_from
 turn-within P write p e n [] within own = tt
 turn-within P write p e n (Client c ∷ items) within own =
     let both = parts (nat_lt c n) (list_all (is_within n) items) within in
-    (own p c (below c n both.0), turn-within P write (p + 1) e n items both.1 own)
+    (own p c (ltb-true c n both.0), turn-within P write (p + 1) e n items both.1 own)
 turn-within P write p e n (Publish ∷ items) within own =
     turn-within P write (p + 1) (e + 1) n items within own
 

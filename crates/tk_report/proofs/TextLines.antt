@@ -1,5 +1,5 @@
 -- The first line of a text, and the line that stands after a history.
-use Rattle.std.proofs.Common.{◌≡◌, ◌≢◌, refl, ap, ◌∙◌, ◌⊎◌, inl, inr, ne_eqb, eqb-true}
+use Rattle.std.proofs.Common.{◌≡◌, ◌≢◌, refl, ap, ◌∙◌, ◌⊎◌, inl, inr, eqb-true}
 use Rattle.std.proofs.Common.{arith}
 use Rattle.std.proofs.Common.{ℕ, true, false, cond, ◌||◌, ◌==◌}
 use Rattle.std.proofs.Common.{List, [], ◌∷◌, ◌++◌, codes, append_assoc}
@@ -11,26 +11,10 @@ use Rattle.std.proofs.lemmas.Bool.{or_right}
 use Rattle.tk_script.specs.Grammar.{Line, lines_of}
 use Rattle.tk_report.specs.Shown.{begins_with}
 use Rattle.tk_report.specs.ReportLines.{stops}
-use Rattle.tk_script.proofs.Offers.{LacksFeed}
+use Rattle.tk_script.proofs.Offers.{LacksFeed, lines_of-other}
+use Rattle.tk_script.proofs.Offers.{same_first, same_rest}
 
 -- ---- the first line
-
-pub lines_of-feed : (bs : List ℕ) → lines_of (0x0A ∷ bs) ≡ [] ∷ lines_of bs
-unfolding lines_of
-lines_of-feed bs = refl
-
-pub lines_of-other : (b : ℕ) (bs : List ℕ) → b ≢ 0x0A →
-    lines_of (b ∷ bs) ≡ onto_first b (lines_of bs)
-unfolding lines_of
-lines_of-other b bs other = rw (ne_eqb b 0x0A other) refl
-
--- a line and its feed, and what follows
-pub lines_of-line : (line rest : List ℕ) → LacksFeed line →
-    lines_of (line ++ 0x0A ∷ rest) ≡ line ∷ lines_of rest
-lines_of-line [] rest lacks = lines_of-feed rest
-lines_of-line (b ∷ line) rest lacks =
-    lines_of-other b (line ++ 0x0A ∷ rest) lacks.0
-    ∙ ap (onto_first b) (lines_of-line line rest lacks.1)
 
 -- a text that begins with a word has a first line that does
 pub record HasFirst (text word : List ℕ) : Type 0 where
@@ -63,12 +47,6 @@ pub record BeginsWith (text line : List ℕ) (behind : List Line) : Type 0 where
   pub cut : (m : Line) (ms : List Line) → behind ≡ m ∷ ms →
       (rest : List ℕ) × (text ≡ line ++ 0x0A ∷ rest) × (lines_of rest ≡ m ∷ ms)
 
-heads : (a b : Line) (p q : List Line) → a ∷ p ≡ b ∷ q → a ≡ b
-heads a b p q e = cc e
-
-tails : (a b : Line) (p q : List Line) → a ∷ p ≡ b ∷ q → p ≡ q
-tails a b p q e = cc e
-
 no-more : (m : Line) (ms : List Line) → [] ≡ m ∷ ms → ⊥
 no-more m ms e = cc e
 
@@ -90,14 +68,14 @@ first-whole (b ∷ bs) line behind e =
         [] ∷ lines_of bs ≡ line ∷ behind → BeginsWith (b ∷ bs) line behind
     at-feed b bs line behind feed same =
         let is : b ≡ 0x0A = eqb-true b 0x0A feed in
-        let empty : [] ≡ line = heads [] line (lines_of bs) behind same in
+        let empty : [] ≡ line = same_first [] line (lines_of bs) behind same in
         record {
           more = b ∷ bs;
           whole = ap (λ (l : List ℕ). l ++ b ∷ bs) empty;
           cut = λ m ms more. (
             bs,
             ap (λ (c : ℕ). c ∷ bs) is ∙ ap (λ (l : List ℕ). l ++ 0x0A ∷ bs) empty,
-            tails [] line (lines_of bs) behind same ∙ more,
+            same_rest [] line (lines_of bs) behind same ∙ more,
           );
         }
 
@@ -107,18 +85,18 @@ first-whole (b ∷ bs) line behind e =
     at-other b bs [] line behind later none same =
         record {
           more = bs;
-          whole = ap (λ (l : List ℕ). l ++ bs) (heads (b ∷ []) line [] behind same);
-          cut = λ m ms more. absurd (no-more m ms (tails (b ∷ []) line [] behind same ∙ more));
+          whole = ap (λ (l : List ℕ). l ++ bs) (same_first (b ∷ []) line [] behind same);
+          cut = λ m ms more. absurd (no-more m ms (same_rest (b ∷ []) line [] behind same ∙ more));
         }
     at-other b bs (l ∷ ls) line behind later some same =
         let first = later l ls some in
-        let is : b ∷ l ≡ line = heads (b ∷ l) line ls behind same in
+        let is : b ∷ l ≡ line = same_first (b ∷ l) line ls behind same in
         record {
           more = first.more;
           whole = ap (λ (xs : List ℕ). b ∷ xs) first.whole
               ∙ ap (λ (xs : List ℕ). xs ++ first.more) is;
           cut = λ m ms more.
-              let rest = first.cut m ms (tails (b ∷ l) line ls behind same ∙ more) in (
+              let rest = first.cut m ms (same_rest (b ∷ l) line ls behind same ∙ more) in (
                 rest.0,
                 ap (λ (xs : List ℕ). b ∷ xs) rest.1 ∙ ap (λ (xs : List ℕ). xs ++ 0x0A ∷ rest.0) is,
                 rest.2,

@@ -1,7 +1,7 @@
 -- What tells a legal history.
 use Rattle.std.proofs.Common.{◌≡◌, refl, ap, sym, ◌∙◌, subst, arith, inl, inr}
 use Rattle.std.proofs.lemmas.Bool.{cases_lt}
-use Rattle.std.proofs.Common.{ℕ, zero, suc, ◌+◌, ◌<◌, ◌≤◌, true, false}
+use Rattle.std.proofs.Common.{ℕ, zero, suc, ◌+◌, ◌<◌, ◌≤◌}
 use Rattle.std.proofs.Common.{List, [], ◌∷◌, ◌++◌, length, count_by, length-append}
 use Rattle.std.specs.Prelude.{slice_index_or}
 use Rattle.std.proofs.lemmas.List.{ext_get_or}
@@ -9,10 +9,9 @@ use Rattle.tk_shape.specs.declared.shape.Shape.{Shape}
 use Rattle.tk_shape.specs.Lengths.{turn_count}
 use Rattle.tk_schedule.specs.declared.item.Item.{Item}
 use Rattle.tk_schedule.specs.declared.item.Item.TheVariants.{Client, Publish}
-use Rattle.tk_schedule.specs.declared.history.TurnOrder.{TurnOrder}
 use Rattle.tk_schedule.specs.declared.history.History.{History}
-use Rattle.tk_schedule.specs.Schedule.{is_closing, order_at, blank_turn, IsTurn, IsLegal}
-use Rattle.tk_schedule.proofs.Offers.{epochs_of_open}
+use Rattle.tk_schedule.specs.Schedule.{order_at, blank_turn, IsLegal}
+use Rattle.tk_schedule.proofs.Offers.{same_epochs, same_turn}
 use Rattle.tk_frames.specs.declared.write_frame.WriteFrame.{WriteFrame}
 use Rattle.tk_frames.specs.declared.entry.Placed.{Placed}
 use Rattle.tk_frames.specs.declared.entry.Entry.{Entry}
@@ -26,17 +25,6 @@ use Rattle.tk_report.specs.Histories.{OrdersAndEpochsTell, EntriesTellOrders, it
 use Rattle.tk_report.specs.Histories.{IsOfTurn, next_mark, TurnsReadOff}
 
 -- ---- orders and epochs
-
-same_turn : (a b : TurnOrder) → a.order ≡ b.order → a.epochs ≡ b.epochs → a ≡ b
-same_turn a b p q = λ i. record { order = p i; epochs = q i }
-
-same_epochs : (shape : Shape) (g : ℕ) (a b : TurnOrder) → IsTurn shape g a → IsTurn shape g b →
-    (is_closing shape g ≡ true → a.epochs ≡ b.epochs) → a.epochs ≡ b.epochs
-same_epochs shape g a b la lb same =
-    elim (is_closing shape g) as (λ c. is_closing shape g ≡ c → a.epochs ≡ b.epochs) [
-      | true ↦ λ e. same e
-      | false ↦ λ e. epochs_of_open shape g a e la ∙ sym (epochs_of_open shape g b e lb)
-    ] refl
 
 pub orders-and_epochs-tell : OrdersAndEpochsTell
 orders-and_epochs-tell shape H K legal also orders epochs =

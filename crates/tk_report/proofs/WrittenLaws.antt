@@ -13,21 +13,21 @@ use Rattle.tk_schedule.specs.declared.history.History.{History}
 use Rattle.tk_schedule.specs.Schedule.{order_at}
 use Rattle.tk_script.specs.declared.script.Script.{Script}
 use Rattle.tk_script.specs.Sent.{sent}
+use Rattle.tk_script.proofs.Offers.{each-append}
 use Rattle.tk_words.specs.Words.{WordBook, BookWords, keyed, drawn, words_of, pair_of, fresh_write}
 use Rattle.tk_frames.specs.declared.write_frame.WriteFrame.{WriteFrame}
 use Rattle.tk_frames.specs.declared.entry.Placed.{Placed}
 use Rattle.tk_frames.specs.Order.{Record, is_mark_entry, is_mark_of, records, up_to_mark, before}
 use Rattle.tk_table.specs.Ordered.{HasBuckets, AreOrdered}
 use Rattle.tk_frames.specs.Lists.{IsIn}
-use Rattle.tk_frames.proofs.Offers.{in_from_contains, in_front, each-in}
+use Rattle.tk_frames.proofs.Offers.{in_from_contains, in_front, each-in, records-append}
 use Rattle.tk_client.specs.declared.waiting.Waiting.{Waiting}
 use Rattle.tk_client.specs.Writes.{write_of}
 use Rattle.tk_report.specs.Queues.{waiting_of}
 use Rattle.tk_report.specs.Entries.{write_at, placed_from, placed_after, entries_before, entries}
 use Rattle.tk_report.proofs.RecordLaws.{ArePlacedFrom}
-use Rattle.tk_report.proofs.EachLaws.{each-append}
 use Rattle.tk_report.proofs.RecordLaws.{records-ascend}
-use Rattle.tk_report.proofs.RecordLaws.{records-append, ordered-front}
+use Rattle.tk_report.proofs.RecordLaws.{ordered-front}
 use Rattle.tk_report.specs.Delivered.{IsWritten, EachIsWritten, EpochsOrdered}
 use Rattle.tk_report.specs.Turns.{placed_in, placed_so_far}
 

@@ -9,6 +9,7 @@ use Rattle.tk_script.specs.declared.script.Script.{Script}
 use Rattle.tk_words.specs.Words.{WordBook, BookWords, words_of}
 use Rattle.tk_frames.specs.declared.write_frame.WriteFrame.{WriteFrame}
 use Rattle.tk_frames.specs.declared.read_frame.ReadFrame.{ReadFrame}
+use Rattle.tk_frames.specs.declared.seeds.Seeds.TheVariants.{Plain}
 use Rattle.tk_frames.specs.Spelling.{placed_frame, read_frame, reply_frame}
 use Rattle.tk_frames.specs.Order.{Record}
 use Rattle.tk_table.specs.Replies.{reply_to}
@@ -17,6 +18,11 @@ use Rattle.tk_report.specs.Entries.{write_at, entries_at}
 use Rattle.tk_report.specs.Report.{target_at, read_over}
 
 -- ---- a read
+
+-- what stands for a read where a list of reads has none
+abbrev pub blank_read : ReadFrame
+blank_read =
+    record { client = 0; turn = 0; epoch = 0; first = []; second = []; seeds = Plain }
 
 unfoldable pub read_pair : Script → BookWords → History → ℕ → ℕ → ℕ × ℕ
 read_pair S w H g c = pair_for w g c (target_at S w H g c)

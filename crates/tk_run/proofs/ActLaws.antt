@@ -1,6 +1,7 @@
 -- What holds of all passes before they act, and after.
 use Rattle.std.proofs.Common.{◌≡◌, ◌∙◌, refl, ap, arith, ℕ, zero, suc, List, [], ◌∷◌, All, Bool, false}
 use Rattle.std.specs.Prelude.{Option, Some, None}
+use Rattle.std.proofs.lemmas.List.Elements.{All-tail}
 use Rattle.atomic_table.specs.Seated.{TableId}
 use Rattle.tk_shape.specs.declared.shape.Shape.{Shape}
 use Rattle.tk_board.specs.Boards.{Known}
@@ -18,9 +19,6 @@ all_by P (x ∷ xs) all = (
   all_by P xs (λ k d low. all (suc k) d (omega (arith, low))),
 )
 
-pub all_rest : {X : Type 0} (P : X → Type 0) (x : X) (xs : List X) → All P (x ∷ xs) → All P xs
-all_rest P x xs all k d low = all (suc k) d (omega (arith, low))
-
 -- anything may lie on any desk
 pub all_free : {X : Type 0} (xs : List X) → AllBy (λ x. Unit {0}) xs
 all_free [] = tt
@@ -37,7 +35,7 @@ still_on shape most board (x ∷ xs) (d ∷ ds) (e ∷ es) (y ∷ ys) done on ze
     ∙ on 0 x (omega arith))
 still_on shape most board (x ∷ xs) (d ∷ ds) (e ∷ es) (y ∷ ys) done on (suc k) a low =
     still_on shape most board xs ds es ys done.1
-    (all_rest (λ (b : Passing). b.reads.board ≡ board) x xs on) k a (omega (arith, low))
+    (All-tail (λ (b : Passing). b.reads.board ≡ board) x xs on) k a (omega (arith, low))
 still_on shape most board _ _ _ _ done on k d low = absurd done
 
 -- where nothing was told the turn closes no phase, and the publisher is as it was

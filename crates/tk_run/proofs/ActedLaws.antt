@@ -10,6 +10,7 @@ use Rattle.tk_frames.specs.Spelling.{write_frame}
 use Rattle.tk_frames.specs.Laws.{IsOneSpelling}
 use Rattle.tk_schedule.specs.declared.history.TurnOrder.{TurnOrder}
 use Rattle.tk_schedule.specs.Schedule.{phases_over}
+use Rattle.tk_script.proofs.Offers.{same_first, same_rest}
 use Rattle.tk_cluster.specs.Refusals.{SpellsWrite}
 use Rattle.tk_cluster.specs.Passes.{Passing, Wrote, Pins, Reads}
 use Rattle.tk_cluster.specs.Tellings.{Telling}
@@ -20,12 +21,6 @@ use Rattle.tk_run.specs.Ran.{ActsOn, EachBy, Turned, PassesAt, Ran, set_on}
 use Rattle.tk_run.specs.Acting.{WroteAndPinned, Acted, AreFrames, frames_on, slips_on}
 
 -- ---- lists and options that are the same
-
-same_first : {A : Type 0} (x y : A) (xs ys : List A) → x ∷ xs ≡ y ∷ ys → x ≡ y
-same_first x y xs ys h = cc h
-
-same_rest : {A : Type 0} (x y : A) (xs ys : List A) → x ∷ xs ≡ y ∷ ys → xs ≡ ys
-same_rest x y xs ys h = cc h
 
 not_longer : {A : Type 0} (x : A) (xs : List A) → x ∷ xs ≡ [] → ⊥
 not_longer x xs h = absurd (cc h)

@@ -13,7 +13,7 @@ use Rattle.tk_run.specs.Rows.{Frame}
 use Rattle.tk_run.specs.Reading.{EachAt}
 use Rattle.tk_run.specs.Answering.{MayAnswer, IsAnswered, AllStand, MayReply, AreGiven, Replies, AllReply, Due, set_of}
 use Rattle.tk_run.specs.Answering.{frame_of}
-use Rattle.tk_run.proofs.Cuts.{map-next, take_none}
+use Rattle.tk_run.proofs.Cuts.{map-next}
 use Rattle.tk_run.proofs.TalkAll.{map-at}
 
 -- the first servers replied, over the entries that the sets stand for
@@ -34,9 +34,7 @@ replied-none due shape stand rs may k d low =
       turn = refl;
       set = refl;
       asked = refl;
-      replies = λ other E stands.
-          (may k d low).unreplied
-          ∙ ap (map (due other E)) (sym (take_none (slice_index_or rs k d).talk.asked.items));
+      replies = λ other E stands. (may k d low).unreplied;
     }
 
 -- the frames of a server

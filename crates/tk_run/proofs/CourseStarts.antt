@@ -1,14 +1,11 @@
 -- A run of threads before a turn.
-use Rattle.std.proofs.Common.{◌≡◌, ℕ, ◌*◌, ◌/◌, ◌<◌, ◌≤◌, List, [], length, refl, sym, ◌∙◌, arith, inl, inr}
-use Rattle.std.proofs.lemmas.Bool.{cases_lt}
-use Rattle.std.proofs.Math.Nat.{mul-le-mul_right}
-use Rattle.std.proofs.lemmas.Nat.{div-add-mod'}
+use Rattle.std.proofs.Common.{◌≡◌, ℕ, ◌<◌, ◌≤◌, List, [], length, refl, sym, ◌∙◌, arith}
+use Rattle.std.proofs.Math.Nat.{div-lt_iff_lt-mul}
 use Rattle.tk_shape.specs.declared.shape.Shape.{Shape}
 use Rattle.tk_shape.specs.Lengths.{turn_count}
 use Rattle.tk_frames.specs.declared.write_frame.WriteFrame.{WriteFrame}
 use Rattle.tk_schedule.specs.declared.history.TurnOrder.{TurnOrder}
 use Rattle.tk_schedule.specs.declared.history.History.{History}
-use Rattle.tk_schedule.specs.Schedule.{phases_over}
 use Rattle.tk_script.specs.declared.script.Script.{Script}
 use Rattle.tk_words.specs.Words.{WordBook, words_of}
 use Rattle.tk_report.specs.Entries.{write_at}
@@ -50,24 +47,7 @@ module _ {S : Script} {b : WordBook} {V : History → Serving} {g : ℕ} {K : Li
   pub course_counted : length group.clients.items ≡ S.shape.clients
   course_counted = (course.clients (filled S.shape K) course_goes).counted
 
--- a phase isn't over before the last of its turns
-pub over_below : (shape : Shape) (g : ℕ) → g < turn_count shape → phases_over shape g < shape.phases
-over_below shape g low = less shape.ticks (g / shape.ticks) shape.phases g below low
-  where
-    below : g / shape.ticks * shape.ticks ≤ g
-    below = omega (arith, div-add-mod' g shape.ticks)
-
-    -- q whole phases of t turns fit into g, which lies within n phases
-    less : (t q n g : ℕ) → q * t ≤ g → g < n * t → q < n
-    less t q n g fits within = elim (cases_lt q n) [
-      | inl is ↦ is
-      | inr isnt ↦
-          let more : n * t ≤ q * t = mul-le-mul_right t isnt in
-          absurd (omega (arith, more, fits, within))
-    ]
-
 pub ran_room : {shape : Shape} {write : ℕ → ℕ → WriteFrame} {K : List TurnOrder} {xs : List Passing}
     {p : Telling} → Ran shape write K xs p → length K < turn_count shape → length p.shown ≤ shape.phases
 ran_room {shape} {write} {K} ran low =
-    let below = over_below shape (length K) low in
-    omega (arith, ran.shown, below)
+    let below = (div-lt_iff_lt-mul shape.in_range.ticks_low).1 low in omega (arith, ran.shown, below)

@@ -23,7 +23,7 @@ use Rattle.tk_report.proofs.Offers.{queues-send}
 use Rattle.tk_cluster.specs.Refusals.{SpellsWrite}
 use Rattle.tk_run.specs.declared.acting.Desk.{Desk}
 use Rattle.tk_run.specs.Acting.{AreFrames, frames_on}
-use Rattle.tk_run.proofs.Changes.{ChangedUpTo, changed-none, changed-next}
+use Rattle.tk_lists.proofs.Offers.{ChangedUpTo, changed-none, changed-next}
 
 -- ---- a client that was told its texts
 

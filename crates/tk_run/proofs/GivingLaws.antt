@@ -11,20 +11,7 @@ use Rattle.tk_io.specs.Content.{gained}
 use Rattle.tk_run.specs.declared.server.Server.{Server}
 use Rattle.tk_run.specs.Servers.{IsServer, AreServers, IsReady, AreReady, nothing_seen}
 use Rattle.tk_io.specs.Tapped.{GainsFront, TapsGain, TapsGainFronts}
-use Rattle.tk_io.proofs.Offers.{gained-nothing}
-use Rattle.tk_run.proofs.Cuts.{take_none}
-use Rattle.tk_run.proofs.Fronts.{fronts-here}
-
-abbrev Tap : Type 0
-Tap = Option (List ℕ)
-
-abbrev AllTaps : Type 0
-AllTaps = ℕ → Tap
-
--- what taps as they were have is a front of whatever they may gain
-pub fronts-none : (n : ℕ) (a : ℕ → List ℕ) (t : AllTaps) → TapsGainFronts n a t t
-fronts-none n a t j low high =
-    (0, sym (ap (gained (t j)) (take_none (a j)) ∙ gained-nothing (t j)))
+use Rattle.tk_io.proofs.Offers.{fronts-here}
 
 -- a server has what another has, and has seen nothing since
 pub record IsGiven (s t : Server) : Type 0 where
@@ -43,7 +30,7 @@ pub record GaveTo (n : ℕ) (from to : List Server) (old new : ℕ → Option (L
   pub others : (j : ℕ) → (j ≡ 0) ⊎ (n < j) → new j ≡ old j
 
 -- one more server gives what it saw
-pub gave-more : {n : ℕ} {from to : List Server} {old mid new : AllTaps} {s : Server} (given : Server) →
+pub gave-more : {n : ℕ} {from to : List Server} {old mid new : ℕ → Option (List ℕ)} {s : Server} (given : Server) →
     GaveTo n from to old mid → n < length to → s ≡ slice_index_or to n s → IsGiven s given →
     new (n + 1) ≡ gained (mid (n + 1)) s.seen.items →
     ((j : ℕ) → j ≢ n + 1 → new j ≡ mid j) →
@@ -71,7 +58,7 @@ gave-more {n} {from} {to} {old} {mid} {new} {s} next gave within here is tap sta
         | inr at ↦
             let same : k ≡ n = omega (arith, below, at) in
             ap (λ (i : ℕ). new (i + 1)) same ∙ tap
-            ∙ ap (λ (x : Tap). gained x s.seen.items) (gave.others (n + 1) (inr (omega arith)))
+            ∙ ap (λ (x : Option (List ℕ)). gained x s.seen.items) (gave.others (n + 1) (inr (omega arith)))
             ∙ ap (λ (i : ℕ). gained (old (i + 1)) s.seen.items) (sym same)
             ∙ ap (λ (x : Server). gained (old (k + 1)) x.seen.items) (sym (was k d same))
       ];
@@ -99,7 +86,7 @@ server_at : (shape : Shape) (Es : ℕ → List Placed) (seen : ℕ → List ℕ)
     (slice_index_or from k d).seen.items ≡ seen (k + 1)
 server_at shape Es seen from are k d within = (are.each k d within).seen
 
-pub gave-servers : {n : ℕ} {from to : List Server} {old new : AllTaps} →
+pub gave-servers : {n : ℕ} {from to : List Server} {old new : ℕ → Option (List ℕ)} →
     GaveTo n from to old new → length to ≤ n →
     (shape : Shape) (Es : ℕ → List Placed) (seen : ℕ → List ℕ) →
     AreServers shape Es seen from → AreServers shape Es nothing_seen to
@@ -111,7 +98,7 @@ gave-servers gave all shape Es seen are =
           (are.each k d (omega (arith, within, gave.counted)));
     }
 
-pub gave-ready : {n : ℕ} {from to : List Server} {old new : AllTaps} →
+pub gave-ready : {n : ℕ} {from to : List Server} {old new : ℕ → Option (List ℕ)} →
     GaveTo n from to old new → length to ≤ n → (shape : Shape) (E : List Placed) →
     AreReady shape E from → AreReady shape E to
 gave-ready gave all shape E are =
@@ -124,7 +111,7 @@ gave-ready gave all shape E are =
     }
 
 -- the tap of a server by its number
-tap_of : {n : ℕ} {from to : List Server} {old new : AllTaps} → GaveTo n from to old new →
+tap_of : {n : ℕ} {from to : List Server} {old new : ℕ → Option (List ℕ)} → GaveTo n from to old new →
     (shape : Shape) (Es : ℕ → List Placed) (seen : ℕ → List ℕ) →
     AreServers shape Es seen from → (d : Server) (j : ℕ) → 1 ≤ j → j ≤ n →
     j ≤ length from → new j ≡ gained (old j) (seen j)
@@ -139,7 +126,7 @@ any_server : (from : List Server) (j : ℕ) → 1 ≤ j → j ≤ length from �
 any_server [] j low high = absurd (omega (arith, low, high))
 any_server (s ∷ from) j low high = s
 
-pub gave-taps : {n : ℕ} {from to : List Server} {old new : AllTaps} →
+pub gave-taps : {n : ℕ} {from to : List Server} {old new : ℕ → Option (List ℕ)} →
     GaveTo n from to old new → length to ≤ n →
     (shape : Shape) (Es : ℕ → List Placed) (seen : ℕ → List ℕ) →
     AreServers shape Es seen from → TapsGain shape.servers seen old new
@@ -149,7 +136,8 @@ gave-taps {n} {from} gave all shape Es seen are j low high =
     (omega (arith, within, all, gave.counted)) within
 
 -- one of them gave a front, and those after it nothing
-pub gave-fronts : {n : ℕ} {from to : List Server} {old mid : AllTaps} {s : Server} (new : AllTaps) →
+pub gave-fronts : {n : ℕ} {from to : List Server} {old mid : ℕ → Option (List ℕ)} {s : Server}
+    (new : ℕ → Option (List ℕ)) →
     GaveTo n from to old mid → n < length to → s ≡ slice_index_or to n s →
     GainsFront (mid (n + 1)) (new (n + 1)) s.seen.items →
     ((j : ℕ) → j ≢ n + 1 → new j ≡ mid j) →

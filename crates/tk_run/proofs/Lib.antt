@@ -10,13 +10,11 @@ pub mod DeskLaws
 pub mod Cuts
 pub mod Placing
 pub mod Entering
-pub mod Fronts
 pub mod RangingLaws
 pub mod MadeLaws
 pub mod NumbersLaws
 pub mod AnswerLaws
 pub mod AskingLaws
-pub mod Changes
 pub mod TakingLaws
 pub mod ResumingLaws
 pub mod PlacingLaws

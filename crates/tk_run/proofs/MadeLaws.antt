@@ -27,7 +27,8 @@ use Rattle.tk_run.specs.Ranged.{Summing, IsSized, in_ranges}
 use Rattle.tk_run.specs.Ranging.{even_ranges, sum_for, over_ranges, reply_by, made_due, bytes_made}
 use Rattle.tk_run.specs.Under.{reply_under, replies_from}
 use Rattle.tk_run.proofs.AnswerLaws.{sum-long}
-use Rattle.tk_run.proofs.UnderLaws.{all-of, each-of, reads-whole}
+use Rattle.tk_report.proofs.Offers.{each-made}
+use Rattle.tk_run.proofs.UnderLaws.{each-of, reads-whole}
 
 -- ---- replies in range
 
@@ -97,7 +98,7 @@ module _ (S : Script) (b : WordBook) (H : History) (shards : ℕ) (sum : Summing
   unfolding replies_from
   made-whole sized serves legal turn_in low =
       let sound = all-sound S b H g c serves legal turn_in low in
-      all-of (IsReply S.shape) (λ (j : ℕ). reply_under S b H V g j c) 1 S.shape.servers
+      each-made (IsReply S.shape) (λ (j : ℕ). reply_under S b H V g j c) 1 S.shape.servers
       (λ j from below.
       made-in_range sum sized shards S.shape (read_over S (words_of S.shape b) H g c) sound.ordered
       sound.storable (read_under S b H V g c j)

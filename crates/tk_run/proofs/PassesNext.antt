@@ -1,8 +1,9 @@
 -- What the passes know after one turn more.
-use Rattle.std.proofs.Common.{◌≡◌, ℕ, zero, suc, ◌+◌, ◌<◌, ◌≤◌, List, [], ◌∷◌, ◌++◌, length, map, Some, slice_get, refl}
+use Rattle.std.proofs.Common.{◌≡◌, ℕ, zero, suc, ◌+◌, ◌<◌, ◌≤◌, List, [], ◌∷◌, ◌++◌, length, map, refl}
 use Rattle.std.proofs.Common.{ap, sym, ◌∙◌, subst, arith, length-append, append_assoc}
 use Rattle.std.specs.Prelude.{slice_index, slice_index_or}
 use Rattle.std.proofs.lemmas.List.{append_cancel_left, length-map}
+use Rattle.std.proofs.lemmas.Option.{slice_get-get_or}
 use mathlib.Core.List.{IsPrefix}
 use Rattle.tk_shape.specs.declared.shape.Shape.{Shape}
 use Rattle.tk_frames.specs.declared.write_frame.WriteFrame.{WriteFrame}
@@ -10,7 +11,7 @@ use Rattle.tk_frames.specs.declared.entry.Placed.{Placed}
 use Rattle.tk_schedule.specs.declared.history.TurnOrder.{TurnOrder}
 use Rattle.tk_schedule.specs.Schedule.{phases_over}
 use Rattle.tk_order.specs.Legality.{of}
-use Rattle.tk_order.proofs.Offers.{of-append}
+use Rattle.tk_order.proofs.Offers.{of-append, prefix_get}
 use Rattle.tk_cluster.specs.declared.set.EpochSet.{EpochSet}
 use Rattle.tk_cluster.specs.Sets.{Stands, Shows}
 use Rattle.tk_cluster.specs.Passes.{Passing, own}
@@ -20,15 +21,6 @@ use Rattle.tk_run.specs.Ran.{EachBy, set_on, PassAt, PassesAt}
 use Rattle.tk_run.proofs.TurnItems.{AtPlaces}
 use Rattle.tk_run.proofs.Steps.{Stepped, entry_on}
 use Rattle.tk_run.proofs.TurnNumbers.{index_mid, epochs_more}
-
--- what stands in a list within its beginning stands in the beginning
-prefix_back : {A : Type 0} (xs ys : List A) (k : ℕ) (x : A) → IsPrefix xs ys → k < length xs →
-    slice_get ys k ≡ Some x → slice_get xs k ≡ Some x
-prefix_back [] ys k x p low h = absurd (omega (arith, low))
-prefix_back (y ∷ xs) [] k x p low h = absurd (cc (p.1))
-prefix_back (y ∷ xs) (z ∷ ys) zero x p low h = cc (p.1, h)
-prefix_back (y ∷ xs) (z ∷ ys) (suc k) x p low h =
-    prefix_back xs ys k x (p.0, cc (p.1)) (omega (arith, low)) h
 
 module _ (shape : Shape) (write : ℕ → ℕ → WriteFrame) (K : List TurnOrder) (p q : Telling)
     (shown : List EpochSet) where
@@ -134,8 +126,9 @@ module _ (shape : Shape) (write : ℕ → ℕ → WriteFrame) (K : List TurnOrde
   all_stand H shows long off (a ∷ xs) (e ∷ ds) (z ∷ zs) h at zero d low =
       let n = (set_on e).number in
       let inside : n < length q.shown = omega (arith, (h.0).greatest, long) in
+      let there = slice_get-get_or q.shown n (set_on e) inside in
       shows n (set_on e)
-      (prefix_back q.shown z.reads.shown n (set_on e) (at.0).shown inside (h.0).shows)
+      (there ∙ sym (prefix_get q.shown z.reads.shown n _ (at.0).shown there) ∙ (h.0).shows)
   all_stand H shows long off (a ∷ xs) (e ∷ ds) (z ∷ zs) h at (suc c) d low =
       all_stand H shows long (off + 1) xs ds zs h.1 at.1 c d (omega (arith, low))
   all_stand H shows long off _ _ _ h at c d low = absurd h

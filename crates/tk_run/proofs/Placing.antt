@@ -1,11 +1,11 @@
 -- Where the writes of a turn stand.
-use Rattle.std.proofs.Common.{◌≡◌, ap, sym, ◌∙◌, arith, ℕ, ◌+◌, ◌-◌, ◌<◌, List, [], ◌∷◌, ◌++◌, length, take}
+use Rattle.std.proofs.Common.{◌≡◌, ap, sym, ◌∙◌, arith, ℕ, ◌+◌, ◌-◌, ◌<◌, List, [], ◌∷◌, ◌++◌, length, take, length-take-le}
 use Rattle.std.specs.Prelude.{slice_index_or, slice_set}
 use Rattle.tk_schedule.specs.declared.item.Item.{Item}
 use Rattle.tk_schedule.specs.declared.item.Item.TheVariants.{Client}
 use Rattle.tk_run.specs.declared.pinned_write.PinnedWrite.{PinnedWrite}
 use Rattle.tk_run.specs.Ran.{placed_clients}
-use Rattle.tk_run.proofs.Cuts.{take_one_more, length-take}
+use Rattle.tk_run.proofs.Cuts.{take_one_more}
 
 -- one more client stands at the place of its write
 pub placed-more : (start c : ℕ) (ds : List PinnedWrite) (d : PinnedWrite) (items : List Item) →
@@ -27,7 +27,7 @@ pub placed-next : (start i : ℕ) (ds : List PinnedWrite) (d : PinnedWrite) (ite
     slice_set so_far (d.position - start - 1) (Client i)
     ≡ placed_clients start 0 (take (i + 1) ds) items
 placed-next start i ds d items so_far low at placed =
-    let counted = length-take ds i (omega (arith, low)) in
+    let counted = length-take-le i ds (omega (arith, low)) in
     let here : i ≡ 0 + length (take i ds) = omega (arith, counted) in
     ap (λ xs. slice_set xs (d.position - start - 1) (Client i)) placed
     ∙ ap (λ k. slice_set (placed_clients start 0 (take i ds) items) (d.position - start - 1)

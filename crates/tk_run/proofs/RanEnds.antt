@@ -14,6 +14,7 @@ use Rattle.tk_schedule.specs.declared.history.TurnOrder.{TurnOrder}
 use Rattle.tk_schedule.specs.Schedule.{IsLegal, phases_over}
 use Rattle.tk_order.specs.Legality.{of}
 use Rattle.tk_order.proofs.Offers.{prefix_self}
+use Rattle.tk_report.proofs.Offers.{phases-next}
 use Rattle.tk_report.specs.Entries.{entries_before}
 use Rattle.tk_cluster.specs.declared.set.EpochSet.{EpochSet}
 use Rattle.tk_cluster.specs.Passes.{Passing, fresh}
@@ -23,7 +24,7 @@ use Rattle.tk_cluster.specs.Closings.{Ended, Apart, AllOnce, by_client, EndsPass
 use Rattle.tk_run.specs.Acting.{IsReady}
 use Rattle.tk_run.specs.Ran.{epochs_in, PassesAt, Ran}
 use Rattle.tk_run.proofs.EntryLists.{same_list}
-use Rattle.tk_run.proofs.TurnNumbers.{over_first, over_next}
+use Rattle.tk_run.proofs.TurnNumbers.{over_first}
 
 -- ---- the opening
 
@@ -78,7 +79,7 @@ module _ {shape : Shape} {write : ℕ → ℕ → WriteFrame} {K : List TurnOrde
       All (IsReady shape (phases_over shape (length K + 1))) xs
   ran_ready low =
       all_ready shape K p (phases_over shape (length K + 1)) 0 xs low
-      (omega (arith, over_next shape (length K))) ran.passes
+      (omega (arith, phases-next shape (length K))) ran.passes
 
   -- ---- the end
 

@@ -9,8 +9,10 @@ use Rattle.tk_frames.specs.InOrder.{mark_count, IsOrder}
 use Rattle.tk_frames.proofs.Offers.{order-rest}
 use Rattle.tk_schedule.specs.declared.history.TurnOrder.{TurnOrder}
 use Rattle.tk_schedule.specs.Schedule.{IsTurn, is_closing, phases_over, marks_due, is_of, is_mark}
+use Rattle.tk_schedule.proofs.Offers.{one_if}
 use Rattle.tk_order.specs.Legality.{of, IsLegal}
 use Rattle.tk_order.proofs.Offers.{of-append, prefix_trans}
+use Rattle.tk_report.proofs.Offers.{phases-next}
 use Rattle.tk_report.specs.Entries.{placed_from, entries_before}
 use Rattle.tk_cluster.specs.declared.set.EpochSet.{EpochSet}
 use Rattle.tk_cluster.specs.Passes.{Passing, MeetsAt}
@@ -24,7 +26,7 @@ use Rattle.tk_run.proofs.Brought.{Brings, one_counted, brings_counted, brings_en
 use Rattle.tk_run.proofs.Steps.{all_closing, all_open}
 use Rattle.tk_run.proofs.PassesNext.{Step, same_length, numbers_counted, numbers_bounded, places_next, passes_next}
 use Rattle.tk_run.proofs.PassesNext.{all_stand}
-use Rattle.tk_run.proofs.TurnNumbers.{one_if, over_next, turns_more, entries_more, entries_counted}
+use Rattle.tk_run.proofs.TurnNumbers.{turns_more, entries_more, entries_counted}
 
 -- what all passes and the publisher have seen of a turn
 pub record Comes (shape : Shape) (K : List TurnOrder) (p q : Telling) (shown : List EpochSet)
@@ -56,7 +58,7 @@ module _ {shape : Shape} {write : ℕ → ℕ → WriteFrame} {K : List TurnOrde
       let g = length K in
       let most = phases_over shape (g + 1) in
       let due : marks_due shape g ≡ 1 = ap one_if is in
-      let next = over_next shape g in
+      let next = phases-next shape g in
       let long : length told.shown ≡ most + 1 =
       ap length tells.shown
       ∙ (length-append p.shown (tells.set ∷ []) ∙ omega (arith, ran.shown, next, due))
@@ -79,7 +81,7 @@ module _ {shape : Shape} {write : ℕ → ℕ → WriteFrame} {K : List TurnOrde
       let g = length K in
       let most = phases_over shape (g + 1) in
       let due : marks_due shape g ≡ 0 = ap one_if is in
-      let next : most ≡ phases_over shape g = over_next shape g ∙ omega (arith, due) in
+      let next : most ≡ phases_over shape g = phases-next shape g ∙ omega (arith, due) in
       let meets : Each (MeetsAt q.seen) acted zs =
       subst (λ ys. Each (MeetsAt q.seen) ys zs) learns met.passes
       in
@@ -124,7 +126,7 @@ module _ {shape : Shape} {write : ℕ → ℕ → WriteFrame} {K : List TurnOrde
           ap length none,
           ran.marked,
           t.comes.marked,
-          over_next shape (length K),
+          phases-next shape (length K),
         );
       }
 

@@ -1,8 +1,9 @@
 -- What servers see, turn after turn, and what taps gain of it.
-use Rattle.std.proofs.Common.{◌≡◌, refl, ap, ap₂, sym, subst, ◌∙◌, arith, ℕ, zero, suc, ◌+◌, ◌-◌, ◌<◌, ◌≤◌, List, [], ◌∷◌}
+use Rattle.std.proofs.Common.{◌≡◌, refl, ap, ap₂, sym, subst, ◌∙◌, arith, ℕ, zero, suc, ◌+◌, ◌-◌, ◌<◌, ◌≤◌, List, []}
 use Rattle.std.proofs.Common.{◌++◌, map, flat_map, append_assoc, append-nil, zero-add, Option}
 use Rattle.std.specs.List.{range_with_len}
 use Rattle.std.proofs.lemmas.Grind.{flat_map-append}
+use Rattle.std.proofs.lemmas.List.Folds.{flat_map-map}
 use Rattle.tk_shape.specs.Lengths.{turn_count}
 use Rattle.tk_schedule.specs.declared.history.History.{History}
 use Rattle.tk_script.specs.declared.script.Script.{Script}
@@ -11,25 +12,10 @@ use Rattle.tk_frames.specs.Spelling.{placed_frame}
 use Rattle.tk_io.specs.Content.{gained}
 use Rattle.tk_report.specs.Entries.{write_at, entries_at}
 use Rattle.tk_report.specs.Exchange.{turn_frames, frames_before, bytes_of}
-use Rattle.tk_report.proofs.Offers.{flat_map-next}
+use Rattle.tk_report.proofs.Offers.{flat_map-next, flat_map-flat_map}
 use Rattle.tk_io.specs.Tapped.{GainsFront, TapsGain, TapsGainFronts}
 use Rattle.tk_io.proofs.Offers.{gained-nothing, taps-same, taps-twice, front-of_first, front-of_second, fronts-of_all}
 use Rattle.tk_run.specs.Turns.{entries_seen, turn_bytes, bytes_before}
-
--- ---- lists
-
--- frames of one each, joined
-bytes_of-map : {X : Type 0} (f : X → List ℕ) (xs : List X) → bytes_of (map f xs) ≡ flat_map f xs
-bytes_of-map f [] = refl
-bytes_of-map f (x ∷ xs) = ap (λ rest. f x ++ rest) (bytes_of-map f xs)
-
--- frames of several each, joined
-bytes_of-flat_map : {X : Type 0} (f : X → List (List ℕ)) (xs : List X) →
-    bytes_of (flat_map f xs) ≡ flat_map (λ x. bytes_of (f x)) xs
-bytes_of-flat_map f [] = refl
-bytes_of-flat_map f (x ∷ xs) =
-    flat_map-append (λ y. y) (f x) (flat_map f xs)
-    ∙ ap (λ rest. bytes_of (f x) ++ rest) (bytes_of-flat_map f xs)
 
 -- what each server's reads give: the frames of each turn's and client's read
 abbrev pub Reads : Type 0
@@ -78,8 +64,8 @@ module _ (S : Script) (b : WordBook) (H : History) (reads : Reads) where
       let placed = entries_at (write_at S w) H g in
       let clients = range_with_len 0 S.shape.clients in
       ap₂ (λ (front back : List ℕ). front ++ back)
-      (sym (bytes_of-map placed_frame placed))
-      (sym (bytes_of-flat_map (reads j g) clients))
+      (sym (flat_map-map (λ y. y) placed_frame placed))
+      (sym (flat_map-flat_map (λ y. y) (reads j g) clients))
       ∙ sym (flat_map-append (λ f. f) (map placed_frame placed) (flat_map (reads j g) clients))
 
   -- ---- taps

@@ -16,7 +16,7 @@ use Rattle.tk_run.specs.declared.closed_run.ClosedRun.{ClosedRun}
 use Rattle.tk_run.specs.Courses.{GoesOn, TapsAfterTurn, TapsAfterRun}
 use Rattle.tk_run.specs.Threads.{CameAboutUnder}
 use Rattle.tk_run.specs.Under.{turn_under}
-use Rattle.tk_run.proofs.GivingLaws.{fronts-none}
+use Rattle.tk_io.proofs.Offers.{fronts-none}
 
 module _ (S : Script) (b : WordBook) (V : History → Serving) {X E : Type 0} (Q : E → Type 0)
     (r : Result X E) (is : IsErrAnd r Q) (old new : ℕ → Option (List ℕ)) where

@@ -1,5 +1,5 @@
 -- What an entry does to a server, and to several.
-use Rattle.std.proofs.Common.{◌≡◌, ℕ, ◌+◌, ◌-◌, ◌<◌, ◌≤◌, ◌∙◌, sym, subst, arith, List, [], ◌∷◌, ◌++◌, length}
+use Rattle.std.proofs.Common.{◌≡◌, ℕ, ◌+◌, ◌<◌, ◌≤◌, ◌∙◌, sym, subst, arith, List, [], ◌∷◌, ◌++◌, length}
 use Rattle.std.specs.Prelude.{slice_index_or}
 use Rattle.tk_shape.specs.declared.shape.Shape.{Shape}
 use Rattle.tk_frames.specs.declared.entry.Placed.{Placed}
@@ -9,7 +9,7 @@ use Rattle.tk_frames.proofs.Offers.{order-push}
 use Rattle.tk_report.specs.Displaced.{displaced_in}
 use Rattle.tk_run.specs.declared.server.Server.{Server}
 use Rattle.tk_run.specs.Servers.{IsServer, AreServers, IsReady, AreReady, MayTake, MayTakeAll, with_more}
-use Rattle.tk_run.proofs.Changes.{ChangedUpTo}
+use Rattle.tk_lists.proofs.Offers.{ChangedUpTo}
 
 -- a server has seen an entry and taken it
 pub record Takes (p : Placed) (old new : Server) : Type 0 where

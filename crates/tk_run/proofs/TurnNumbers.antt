@@ -1,75 +1,21 @@
 -- Numbers of turns, and lists of turns with one more after.
-use Rattle.std.proofs.Common.{◌≡◌, ℕ, zero, suc, ◌+◌, ◌*◌, ◌/◌, ◌%◌, ◌<◌, ◌≤◌, ◌⊎◌, inl, inr, Bool, true, false, cond}
-use Rattle.std.proofs.Common.{List, [], ◌∷◌, ◌++◌, length, refl, ap, sym, ◌∙◌, arith, add-one, suc-mul, ne_eqb}
+use Rattle.std.proofs.Common.{◌≡◌, ℕ, zero, suc, ◌+◌, ◌*◌, ◌/◌, ◌<◌}
+use Rattle.std.proofs.Common.{List, [], ◌∷◌, ◌++◌, length, refl, ap, sym, ◌∙◌, arith, suc-mul}
 use Rattle.std.proofs.Common.{length-append, append-nil}
-use Rattle.std.specs.Prelude.{slice_index, slice_index_or, ◌==◌}
-use Rattle.std.proofs.lemmas.Nat.{div-add-mod', div-mul-add, mod-mul-add}
-use Rattle.std.proofs.Math.Nat.{mod-lt, zero-mul}
+use Rattle.std.specs.Prelude.{slice_index, slice_index_or}
+use Rattle.std.proofs.lemmas.Nat.{div-mul-add}
+use Rattle.std.proofs.Math.Nat.{zero-mul}
 use Rattle.tk_shape.specs.declared.shape.Shape.{Shape}
 use Rattle.tk_frames.specs.declared.write_frame.WriteFrame.{WriteFrame}
 use Rattle.tk_frames.specs.declared.entry.Placed.{Placed}
 use Rattle.tk_schedule.specs.declared.history.TurnOrder.{TurnOrder}
-use Rattle.tk_schedule.specs.Schedule.{blank_turn, IsTurn, is_closing, phases_over, marks_due, order_at}
+use Rattle.tk_schedule.specs.Schedule.{blank_turn, IsTurn, phases_over, order_at}
 use Rattle.tk_report.specs.Entries.{placed_after, entries_before}
 use Rattle.tk_report.specs.Agreement.{SameOrders}
-use Rattle.tk_report.proofs.Offers.{fronts-agree, entries-agree, length-placed_from}
+use Rattle.tk_report.proofs.Offers.{fronts-agree, entries-agree, length-placed_from, phases-next}
 use Rattle.tk_run.specs.Ran.{epochs_in}
 
 -- ---- numbers
-
-abbrev pub one_if : Bool → ℕ
-one_if b = cond b 1 0
-
-one_most : (b : Bool) → one_if b ≤ 1
-one_most b = elim b as (λ x. one_if x ≤ 1) [ true ↦ omega arith | false ↦ omega arith ]
-
-pub marks_most : (shape : Shape) (g : ℕ) → marks_due shape g ≤ 1
-marks_most shape g = one_most (is_closing shape g)
-
-one_more : (q n : ℕ) → (q + 1) * n ≡ q * n + n
-one_more q n = omega (arith, suc-mul q n, ap (λ k. k * n) (add-one q))
-
-below_or_last : (r n : ℕ) → r < n → (r + 1 < n) ⊎ (r + 1 ≡ n)
-below_or_last zero zero h = absurd (omega (arith, h))
-below_or_last zero (suc zero) h = inr refl
-below_or_last zero (suc (suc n)) h = inl (omega arith)
-below_or_last (suc r) zero h = absurd (omega (arith, h))
-below_or_last (suc r) (suc n) h =
-    elim (below_or_last r n (omega (arith, h)))
-    [ inl l ↦ inl (omega (arith, l)) | inr e ↦ inr (omega (arith, e)) ]
-
--- a turn after turn g, in a phase of t turns
-next_in_phase : (t g : ℕ) → 0 < t → (g + 1) / t ≡ g / t + cond ((g + 1) % t == 0) 1 0
-next_in_phase t g some =
-    let split : g / t * t + g % t ≡ g = div-add-mod' g t in
-    let low : g % t < t = mod-lt g some in
-    elim (below_or_last (g % t) t low) [
-      | inl in_phase ↦
-          let whole : g / t * t + (g % t + 1) ≡ g + 1 = omega (arith, split) in
-          let quotient : (g + 1) / t ≡ g / t =
-          ap (λ n. n / t) (sym whole) ∙ div-mul-add (g / t) t (g % t + 1) in_phase
-          in
-          let rest : (g + 1) % t ≡ g % t + 1 =
-          ap (λ n. n % t) (sym whole) ∙ mod-mul-add (g / t) t (g % t + 1) in_phase
-          in
-          quotient ∙ omega (
-            arith,
-            ap one_if (ap (λ n. n == 0) rest ∙ ne_eqb (g % t + 1) 0 (λ e. omega (arith, e))),
-          )
-      | inr last ↦
-          let whole : (g / t + 1) * t + 0 ≡ g + 1 = omega (arith, split, last, one_more (g / t) t) in
-          let quotient : (g + 1) / t ≡ g / t + 1 =
-          ap (λ n. n / t) (sym whole) ∙ div-mul-add (g / t + 1) t 0 some
-          in
-          let rest : (g + 1) % t ≡ 0 =
-          ap (λ n. n % t) (sym whole) ∙ mod-mul-add (g / t + 1) t 0 some
-          in
-          quotient ∙ omega (arith, ap one_if (ap (λ n. n == 0) rest))
-    ]
-
-pub over_next : (shape : Shape) (g : ℕ) →
-    phases_over shape (g + 1) ≡ phases_over shape g + marks_due shape g
-over_next shape g = next_in_phase shape.ticks g shape.in_range.ticks_low
 
 pub over_first : (shape : Shape) → phases_over shape 0 ≡ 0
 over_first shape =
@@ -149,7 +95,7 @@ module _ (write : ℕ → ℕ → WriteFrame) where
         here,
         (turns g (omega arith)).counted,
         entries_counted shape K g (λ k low. turns k (omega (arith, low))),
-        over_next shape g,
+        phases-next shape g,
         ap (phases_over shape) next,
         suc-mul g shape.clients,
       )

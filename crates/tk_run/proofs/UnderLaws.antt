@@ -45,7 +45,7 @@ use Rattle.tk_report.specs.Queues.{said_before, writing_before}
 use Rattle.tk_report.specs.Serving.{Serving, reader_under, read_under}
 use Rattle.tk_report.specs.Serving.{read_replied, target_under}
 use Rattle.tk_report.specs.declared.group.Group.{Group}
-use Rattle.tk_report.proofs.Offers.{flat_map-next, map-map, epoch-most}
+use Rattle.tk_report.proofs.Offers.{flat_map-next, map-map, each-made, epoch-most}
 use Rattle.tk_report.proofs.Offers.{before-front, ordered-front, each-front}
 use Rattle.tk_run.specs.Rows.{Frame, AreRows, AreAdded}
 use Rattle.tk_report.specs.Turns.{placed_before}
@@ -95,14 +95,6 @@ each-of P f a (suc n) all k low high =
           let same : a ≡ k = omega (arith, low, first) in
           subst (λ (i : ℕ). P (f i)) same all.0
     ]
-
-pub all-of : {X : Type 0} (P : X → Type 0) (f : ℕ → X) (a n : ℕ) →
-    ((k : ℕ) → a ≤ k → k < a + n → P (f k)) → AllByRecursion P (map f (range_with_len a n))
-all-of P f a zero each = tt
-all-of P f a (suc n) each = (
-  each a (omega arith) (omega arith),
-  all-of P f (a + 1) n (λ k low high. each k (omega (arith, low)) (omega (arith, high))),
-)
 
 module _ (S : Script) (b : WordBook) (H : History) (V : Serving) where
   -- ---- frames, client by client and server by server
@@ -184,7 +176,7 @@ module _ (S : Script) (b : WordBook) (H : History) (V : Serving) where
   posed-are g i frames serves legal turn_in low are =
       record {
         in_range =
-            all-of (IsRead S.shape) (λ (c : ℕ). read_under S b H V g c (i + 1)) 0 S.shape.clients
+            each-made (IsRead S.shape) (λ (c : ℕ). read_under S b H V g c (i + 1)) 0 S.shape.clients
             (λ c from below.
             each-of (IsRead S.shape) (read_under S b H V g c) 1 S.shape.servers
             (reads-whole g c serves legal turn_in (omega (arith, below))) (i + 1) (omega arith)
@@ -321,7 +313,7 @@ module _ (S : Script) (b : WordBook) (H : History) (V : Serving) where
           AllByRecursion (IsReply S.shape) (replies_from S b H V g S.shape.servers c)
       unfolding replies_from
       replies-whole c serves legal turn_in low =
-          all-of (IsReply S.shape) (λ (j : ℕ). reply_under S b H V g j c) 1 S.shape.servers
+          each-made (IsReply S.shape) (λ (j : ℕ). reply_under S b H V g j c) 1 S.shape.servers
           (λ j from below.
           reply-whole c j low from (omega (arith, below))
           (each-of (IsRead S.shape) (read_under S b H V g c) 1 S.shape.servers

@@ -22,7 +22,7 @@ use Rattle.tk_words.specs.Words.{WordBook, words_of}
 use Rattle.tk_order.proofs.Offers.{marks_under_zero}
 use Rattle.tk_report.specs.Entries.{write_at, placed_from, placed_after, entries_before, entries_at}
 use Rattle.tk_report.specs.Queues.{said_before}
-use Rattle.tk_report.proofs.Offers.{write_at-client}
+use Rattle.tk_report.proofs.Offers.{write_at-client, one-mark}
 use Rattle.tk_cluster.specs.Sets.{Stands}
 use Rattle.tk_cluster.specs.Passes.{Passing}
 use Rattle.tk_cluster.specs.Tellings.{Telling}
@@ -39,7 +39,6 @@ use Rattle.tk_run.specs.Courses.{IsCourse, GoesOn, AreSets, HasWritten, IsInTurn
 use Rattle.tk_run.proofs.ActedLaws.{frames_stay, acted_turned}
 use Rattle.tk_run.proofs.Brought.{brings_within}
 use Rattle.tk_run.proofs.RanNext.{Passed, passed, passed_brings, ran_counted, came_legal, ran_next, sets_stand}
-use Rattle.tk_run.proofs.TurnNumbers.{marks_most}
 use Rattle.tk_run.proofs.GoesOnLaws.{begins_before, begins_entries, begins_turn}
 
 module _ (S : Script) (b : WordBook) where
@@ -158,7 +157,7 @@ module _ (S : Script) (b : WordBook) where
     came_here : (frames : List (List ℕ)) → AreFrames S.shape (writes (length K)) frames →
         length K < turn_count S.shape → Came (length K) K zs q slips frames now
     came_here frames are low =
-        let most = marks_most S.shape (length K) in
+        let most = one-mark S.shape (length K) in
         let turn = now_legal in
         record {
           counted = slips_counted;

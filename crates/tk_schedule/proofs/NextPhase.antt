@@ -9,7 +9,7 @@ use Rattle.std.proofs.Math.Nat.{mod-lt}
 abbrev pub one_if : Bool → ℕ
 one_if b = cond b 1 0
 
-one_more : (q n : ℕ) → (q + 1) * n ≡ q * n + n
+pub one_more : (q n : ℕ) → (q + 1) * n ≡ q * n + n
 one_more q n = omega (arith, suc-mul q n, ap (λ k. k * n) (add-one q))
 
 -- a turn after turn g, in a phase of t turns

@@ -22,7 +22,7 @@ count-append : {X : Type 0} (p : X → Bool) (xs ys : List X) →
     count_by p (xs ++ ys) ≡ count_by p xs + count_by p ys
 count-append p xs ys = sum_by-append (λ y. cond (p y) 1 0) xs ys
 
-no_marks : (a n : ℕ) → count_by is_mark (map Client (range_with_len a n)) ≡ 0
+pub no_marks : (a n : ℕ) → count_by is_mark (map Client (range_with_len a n)) ≡ 0
 no_marks a zero = refl
 no_marks a (suc n) =
     count-cons is_mark (Client a) (map Client (range_with_len (a + 1) n))

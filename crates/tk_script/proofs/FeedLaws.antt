@@ -12,12 +12,11 @@ use Rattle.tk_seal.specs.Texts.{is_allowed, is_printable}
 use Rattle.tk_script.specs.declared.keys.Keys.{Keys}
 use Rattle.tk_script.specs.declared.role.Role.{Role}
 use Rattle.tk_script.specs.declared.say.Say.{Say}
-use Rattle.tk_script.specs.Grammar.{Line, lines_of, fields, format_line, shape_line, kind_line, role_line, say_line}
+use Rattle.tk_script.specs.Grammar.{Line, lines_of, fields, format_line, shape_line, kind_line, role_line, say_line, IsNumber}
 use Rattle.tk_script.specs.SoundScript.{is_role, is_say}
 use Rattle.tk_script.specs.Printing.{text_of, bytes_line}
 use Rattle.tk_script.proofs.LineLaws.{lines_of-feed, lines_of-other}
 use Rattle.tk_script.proofs.NumberLaws.{all_digits}
-use Rattle.tk_script.proofs.FieldLaws.{IsWord}
 use Rattle.tk_script.proofs.ShapeLaws.{numbers_are_words}
 use Rattle.tk_script.proofs.RoleLaws.{role_words}
 use Rattle.tk_script.proofs.SayLaws.{say_words}
@@ -27,7 +26,7 @@ LacksFeed = AllByRecursion (λ b. b ≢ 0x0A)
 
 -- ---- lines
 
-lines_of-line : (line rest : List ℕ) → LacksFeed line →
+pub lines_of-line : (line rest : List ℕ) → LacksFeed line →
     lines_of (line ++ 0x0A ∷ rest) ≡ line ∷ lines_of rest
 lines_of-line [] rest lacks = lines_of-feed 0x0A rest refl
 lines_of-line (b ∷ line) rest lacks =
@@ -45,10 +44,10 @@ lines_of-text_of (l ∷ lines) rest lacks =
 
 -- ---- what has no line feed
 
-pub all-append : {X : Type 0} (P : X → Type 0) (xs ys : List X) → AllByRecursion P xs →
+pub each-append : {X : Type 0} (P : X → Type 0) (xs ys : List X) → AllByRecursion P xs →
     AllByRecursion P ys → AllByRecursion P (xs ++ ys)
-all-append P [] ys p q = q
-all-append P (x ∷ xs) ys p q = (p.0, all-append P xs ys p.1 q)
+each-append P [] ys p q = q
+each-append P (x ∷ xs) ys p q = (p.0, each-append P xs ys p.1 q)
 
 no_feed : (x : ℕ) → not (x == 0x0A) ≡ true → x ≡ 0x0A → ⊥
 no_feed x t e = absurd (cc (t, ap not (eq-eqb x 0x0A e)))
@@ -70,7 +69,7 @@ decimal_lacks n small = feed_by_index (decimal n) (λ k within e.
     let digit = all_digits (decimal n) n (omega (arith, small)) refl k within in
     omega (arith, digit.0, e))
 
-pub decimals_lack : (ns : List ℕ) → AllByRecursion IsWord ns →
+pub decimals_lack : (ns : List ℕ) → AllByRecursion IsNumber ns →
     AllByRecursion LacksFeed (map decimal ns)
 decimals_lack [] words = tt
 decimals_lack (n ∷ ns) words = (decimal_lacks n words.0, decimals_lack ns words.1)
@@ -88,7 +87,7 @@ fields_lack [] lacks = tt
 fields_lack (f ∷ []) lacks = lacks.0
 fields_lack (f ∷ g ∷ fs) lacks =
     let space : 0x20 ≢ 0x0A = λ e. omega (arith, e) in
-    all-append (λ b. b ≢ 0x0A) f (0x20 ∷ fields (g ∷ fs)) lacks.0
+    each-append (λ b. b ≢ 0x0A) f (0x20 ∷ fields (g ∷ fs)) lacks.0
     (space, fields_lack (g ∷ fs) lacks.1)
 
 pub bytes_line_lacks : (word bytes : List ℕ) → LacksFeed word → IsBytes bytes →

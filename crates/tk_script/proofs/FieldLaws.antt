@@ -2,7 +2,7 @@
 use Rattle.std.proofs.Common.{◌≡◌, ℕ, suc, ◌<◌, ◌^◌, List, [], ◌∷◌, ◌++◌, length, map, decimal, refl, ap, sym, ◌∙◌, arith, append_assoc, append-nil}
 use Rattle.std.specs.List.{AllByRecursion}
 use Rattle.tk_script.specs.Fields.{IsFieldEnd, LacksSpace}
-use Rattle.tk_script.specs.Grammar.{fields}
+use Rattle.tk_script.specs.Grammar.{fields, IsNumber}
 use Rattle.tk_script.proofs.ListLaws.{cons_both}
 use Rattle.tk_script.proofs.NumberLaws.{all_digits}
 
@@ -40,11 +40,8 @@ field_is text field rest n behind whole lacks end small last e =
 
 -- ---- a line of numbers
 
-abbrev pub IsWord : ℕ → Type 0
-IsWord n = n < 2 ^ 32
-
-pub words-push : (ns : List ℕ) (n : ℕ) → AllByRecursion IsWord ns → IsWord n →
-    AllByRecursion IsWord (ns ++ n ∷ [])
+pub words-push : (ns : List ℕ) (n : ℕ) → AllByRecursion IsNumber ns → IsNumber n →
+    AllByRecursion IsNumber (ns ++ n ∷ [])
 words-push [] n words small = (small, tt)
 words-push (m ∷ ns) n words small = (words.0, words-push ns n words.1 small)
 
@@ -73,14 +70,14 @@ spaced-push (m ∷ ns) n behind =
 -- whatever numbers the text spells, the ones that are left stand in the rest
 pub record Left (numbers rest ns : List ℕ) : Type 0 where
   pub more : List ℕ
-  pub words : AllByRecursion IsWord more
+  pub words : AllByRecursion IsNumber more
   pub both : ns ≡ numbers ++ more
   pub spelled : rest ≡ spaced more
 
 -- the numbers so far, and the rest of the text
 pub record Read (text numbers rest : List ℕ) : Type 0 where
   pub front : text ≡ spaced numbers ++ rest
-  pub only : (ns : List ℕ) → AllByRecursion IsWord ns → text ≡ spaced ns → Left numbers rest ns
+  pub only : (ns : List ℕ) → AllByRecursion IsNumber ns → text ≡ spaced ns → Left numbers rest ns
 
 -- the rest begins with this number alone
 abbrev pub IsNext : List ℕ → ℕ → List ℕ → Type 0
@@ -88,7 +85,7 @@ IsNext rest n behind = (m : ℕ) (after : List ℕ) → m < 2 ^ 32 → IsFieldEn
     rest ≡ 0x20 ∷ (decimal m ++ after) →
     (n ≡ m) × (behind ≡ after)
 
-more_left : (numbers rest ns : List ℕ) (n : ℕ) (behind more : List ℕ) → AllByRecursion IsWord more →
+more_left : (numbers rest ns : List ℕ) (n : ℕ) (behind more : List ℕ) → AllByRecursion IsNumber more →
     ns ≡ numbers ++ more →
     rest ≡ spaced more → rest ≡ 0x20 ∷ (decimal n ++ behind) → IsNext rest n behind →
     Left (numbers ++ n ∷ []) behind ns
@@ -118,7 +115,7 @@ abbrev pub HasNoNext : List ℕ → Type 0
 HasNoNext rest = (m : ℕ) (after : List ℕ) → m < 2 ^ 32 → IsFieldEnd after →
     rest ≡ 0x20 ∷ (decimal m ++ after) → ⊥
 
-stuck_left : (rest more : List ℕ) → AllByRecursion IsWord more → rest ≡ spaced more →
+stuck_left : (rest more : List ℕ) → AllByRecursion IsNumber more → rest ≡ spaced more →
     0 < length rest → HasNoNext rest → ⊥
 stuck_left rest [] words spelled some none = omega (arith, ap length spelled, some)
 stuck_left rest (m ∷ more) words spelled some none =
@@ -126,7 +123,7 @@ stuck_left rest (m ∷ more) words spelled some none =
 
 pub Read-stuck : (text numbers rest : List ℕ) → Read text numbers rest → 0 < length rest →
     HasNoNext rest →
-    (ns : List ℕ) → AllByRecursion IsWord ns → text ≡ spaced ns → ⊥
+    (ns : List ℕ) → AllByRecursion IsNumber ns → text ≡ spaced ns → ⊥
 Read-stuck text numbers rest r some none ns words spells =
     let left = r.only ns words spells in
     stuck_left rest left.more left.words left.spelled some none
@@ -138,7 +135,7 @@ done_left numbers rest ns (m ∷ more) both spelled none =
     absurd (omega (arith, ap length spelled, none))
 
 pub Read-done : (text numbers rest : List ℕ) → Read text numbers rest → length rest ≡ 0 →
-    (ns : List ℕ) → AllByRecursion IsWord ns → text ≡ spaced ns → numbers ≡ ns
+    (ns : List ℕ) → AllByRecursion IsNumber ns → text ≡ spaced ns → numbers ≡ ns
 Read-done text numbers rest r none ns words spells =
     let left = r.only ns words spells in
     done_left numbers rest ns left.more left.both left.spelled none

@@ -1,6 +1,6 @@
 -- Answers that are given, or aren't.
 use Rattle.std.proofs.Common.{◌≡◌, Bool, true, false, cond, IsTrue, Option, Some, None, Result, Ok, Err, refl, subst}
-use Rattle.std.specs.Prelude.{IsSomeAnd, IfSome, IfOk}
+use Rattle.std.specs.Prelude.{IsSomeAnd, IfSome}
 use Rattle.std.specs.Option.{IfNone}
 use Rattle.tk_script.specs.declared.cause.Cause.{Cause}
 use Rattle.tk_script.specs.Reading.{Verdict, unless, seen_as}
@@ -10,9 +10,6 @@ never o P e h = subst (λ p. IsSomeAnd p P) e h
 
 pub if_some : {A : Type 0} (o : Option A) (P : A → Type 0) (x : A) → o ≡ Some x → IfSome o P → P x
 if_some o P x e h = subst (λ p. IfSome p P) e h
-
-pub some_same : {A : Type 0} (x y : A) → Some x ≡ Some y → x ≡ y
-some_same x y e = cc e
 
 -- ---- results
 
@@ -57,8 +54,3 @@ some-then (Some y) x P e h = subst P (cc e) h
 pub if-none : {A : Type 0} (o : Option A) (P : Type 0) → P → IfNone o P
 if-none None P h = h
 if-none (Some x) P h = tt
-
-pub ok-then : {A E : Type 0} (r : Result A E) (P Q : A → Type 0) → ((x : A) → P x → Q x) →
-    IfOk r P → IfOk r Q
-ok-then (Ok x) P Q then h = then x h
-ok-then (Err e) P Q then h = tt

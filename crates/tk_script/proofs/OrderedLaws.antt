@@ -2,7 +2,7 @@
 use Rattle.std.proofs.Common.{◌≡◌, ◌∙◌, ◌-◌, suc, arith, Some, List, length, [], ◌∷◌, ◌++◌, Bool, true, false, ◌&&◌, IsTrue, refl, ap, sym}
 use Rattle.std.specs.Prelude.{slice_get}
 use Rattle.std.proofs.lemmas.Bool.{and_parts, and_from}
-use Rattle.tk_script.proofs.OptionLaws.{some_same}
+use Rattle.std.proofs.lemmas.Option.{same_Some}
 use Rattle.tk_script.specs.Ordered.{are_ordered, follows}
 
 pub and_true : (a : Bool) → (a && true) ≡ a
@@ -24,7 +24,7 @@ module _ {X : Type 0} (may : X → X → Bool) where
   pub follows-last : (xs : List X) (last x : X) → slice_get xs (length xs - 1) ≡ Some last →
       follows may xs x ≡ may last x
   follows-last [] last x at = absurd (cc at)
-  follows-last (a ∷ []) last x at = ap (λ y. may y x) (some_same a last at)
+  follows-last (a ∷ []) last x at = ap (λ y. may y x) (same_Some a last at)
   follows-last (a ∷ b ∷ xs) last x at =
       let shift : length (a ∷ b ∷ xs) - 1 ≡ suc (length (b ∷ xs) - 1) = omega arith in
       follows-last (b ∷ xs) last x (ap (slice_get (a ∷ b ∷ xs)) (sym shift) ∙ at)

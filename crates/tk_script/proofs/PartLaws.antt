@@ -8,9 +8,9 @@ use Rattle.std.proofs.lemmas.List.Splits.{join_with_byte-slice_split}
 use Rattle.std.proofs.lemmas.Slice.Eq.{bytes_eq-Decides}
 use Rattle.std.proofs.lemmas.Bool.{and_parts, ltb-true, lt-ltb}
 use Rattle.tk_script.specs.Fields.{LacksSpace}
-use Rattle.tk_script.specs.Grammar.{fields}
+use Rattle.tk_script.specs.Grammar.{fields, IsNumber}
 use Rattle.tk_script.specs.Reading.{parts_of, number_if, number_spelled, number_before, numbers_spelled, word_then, numbers_after}
-use Rattle.tk_script.proofs.FieldLaws.{IsWord, LacksSpace-decimal}
+use Rattle.tk_script.proofs.FieldLaws.{LacksSpace-decimal}
 use Rattle.tk_script.proofs.ListLaws.{cons_both}
 use Rattle.tk_script.proofs.NumberLaws.{digits_value-spelled}
 
@@ -34,7 +34,7 @@ one_field (x ∷ xs) lacks =
     rw (ne_eqb x 0x20 (lacks 0 (omega arith)))
     (ap (onto_first x) (one_field xs (rest_lacks x xs lacks)))
 
-pub parts_of-fields : (word : List ℕ) (ns : List ℕ) → LacksSpace word → AllByRecursion IsWord ns →
+pub parts_of-fields : (word : List ℕ) (ns : List ℕ) → LacksSpace word → AllByRecursion IsNumber ns →
     parts_of (fields (word ∷ map decimal ns)) ≡ word ∷ map decimal ns
 parts_of-fields word [] lacks words = one_field word lacks
 parts_of-fields word (n ∷ ns) lacks words =
@@ -72,7 +72,7 @@ pub number_spelled-is : (text : List ℕ) (n : ℕ) → number_spelled text ≡ 
     (n < 2 ^ 32) × (text ≡ decimal n)
 number_spelled-is text n e = number_if-is (digits_value 10 text) n text e
 
-pub numbers_spelled-decimals : (ns : List ℕ) → AllByRecursion IsWord ns →
+pub numbers_spelled-decimals : (ns : List ℕ) → AllByRecursion IsNumber ns →
     numbers_spelled (map decimal ns) ≡ Some ns
 numbers_spelled-decimals [] words = refl
 numbers_spelled-decimals (n ∷ ns) words =
@@ -87,7 +87,7 @@ before_some (Some n) (Some rest) ns e = (n, rest, refl, refl, cc e)
 
 -- texts that spell these numbers
 abbrev pub AreSpelled : List (List ℕ) → List ℕ → Type 0
-AreSpelled ts ns = (ts ≡ map decimal ns) × AllByRecursion IsWord ns
+AreSpelled ts ns = (ts ≡ map decimal ns) × AllByRecursion IsNumber ns
 
 no_numbers : (ns : List ℕ) → Some [] ≡ Some ns → AreSpelled [] ns
 no_numbers [] e = (refl, tt)
@@ -105,13 +105,13 @@ numbers_spelled-are (t ∷ ts) ns e =
 
 -- ---- a word and numbers
 
-word_then-own : (word : List ℕ) (ns : List ℕ) → AllByRecursion IsWord ns →
+word_then-own : (word : List ℕ) (ns : List ℕ) → AllByRecursion IsNumber ns →
     word_then word (word ∷ map decimal ns) ≡ Some ns
 word_then-own word ns words = rw (same_bytes word) (numbers_spelled-decimals ns words)
 
 -- the numbers of the line that they make
 pub numbers_after-fields : (word : List ℕ) (ns : List ℕ) → LacksSpace word →
-    AllByRecursion IsWord ns →
+    AllByRecursion IsNumber ns →
     numbers_after word (fields (word ∷ map decimal ns)) ≡ Some ns
 numbers_after-fields word ns lacks words =
     ap (word_then word) (parts_of-fields word ns lacks words) ∙ word_then-own word ns words
@@ -122,7 +122,7 @@ some_test true o x e = (refl, e)
 some_test false o x e = absurd (cc e)
 
 word_then-is : (word : List ℕ) (ts : List (List ℕ)) (ns : List ℕ) → word_then word ts ≡ Some ns →
-    (ts ≡ word ∷ map decimal ns) × AllByRecursion IsWord ns
+    (ts ≡ word ∷ map decimal ns) × AllByRecursion IsNumber ns
 word_then-is word [] ns e = absurd (cc e)
 word_then-is word (w ∷ ts) ns e =
     let test = some_test (bytes_eq w word) (numbers_spelled ts) ns e in
@@ -131,7 +131,7 @@ word_then-is word (w ∷ ts) ns e =
 
 -- the line of the numbers that it has
 pub numbers_after-are : (word line : List ℕ) (ns : List ℕ) → numbers_after word line ≡ Some ns →
-    (line ≡ fields (word ∷ map decimal ns)) × AllByRecursion IsWord ns
+    (line ≡ fields (word ∷ map decimal ns)) × AllByRecursion IsNumber ns
 numbers_after-are word line ns e =
     let h = word_then-is word (parts_of line) ns e in
     (sym (join_with_byte-slice_split 0x20 line) ∙ ap fields h.0, h.1)
@@ -142,7 +142,7 @@ none_by (Some x) never = absurd (never x refl)
 
 -- a line that no numbers have
 pub numbers_after-none : (word line : List ℕ) →
-    ((ns : List ℕ) → AllByRecursion IsWord ns → line ≡ fields (word ∷ map decimal ns) → ⊥) →
+    ((ns : List ℕ) → AllByRecursion IsNumber ns → line ≡ fields (word ∷ map decimal ns) → ⊥) →
     numbers_after word line ≡ None
 numbers_after-none word line never =
     none_by (numbers_after word line) (λ ns e.
@@ -150,7 +150,7 @@ numbers_after-none word line never =
     never ns h.1 h.0)
 
 pub numbers_after-some : (word line : List ℕ) (ns : List ℕ) → LacksSpace word →
-    AllByRecursion IsWord ns → line ≡ fields (word ∷ map decimal ns) →
+    AllByRecursion IsNumber ns → line ≡ fields (word ∷ map decimal ns) →
     numbers_after word line ≡ Some ns
 numbers_after-some word line ns lacks words e =
     ap (numbers_after word) e ∙ numbers_after-fields word ns lacks words

@@ -8,14 +8,12 @@ use Rattle.std.proofs.lemmas.Bool.{cases_lt}
 use Rattle.hex.specs.Hex.{decode_of}
 use Rattle.hex.proofs.HexLemmas.{decode_of-ok}
 use Rattle.tk_script.specs.Grammar.{SpellsPiece}
+use Rattle.tk_script.proofs.ListLaws.{same_first}
 
 -- ---- one piece
 
-heads : (a b : ℕ) (x y : List ℕ) → a ∷ x ≡ b ∷ y → a ≡ b
-heads a b x y e = cc e
-
 pub apart : (a b : ℕ) (x y : List ℕ) → a < b → a ∷ x ≡ b ∷ y → ⊥
-apart a b x y less e = omega (arith, less, heads a b x y e)
+apart a b x y less e = omega (arith, less, same_first a b x y e)
 
 -- the line that ends a tape is no piece
 pub end_is_no_piece : (bytes : List ℕ) → SpellsPiece (codes "end") bytes → ⊥

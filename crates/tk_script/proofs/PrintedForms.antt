@@ -13,7 +13,7 @@ use Rattle.tk_script.specs.Grammar.{Line, lines_of, item_word, raw_line, IsItem,
 use Rattle.tk_script.specs.Reading.{numbered}
 use Rattle.tk_script.specs.Printing.{lines_of_script, lines_of_turns, printed, printed_turns, printed_tape, tape_behind, HasKeys}
 use Rattle.tk_script.specs.PrintLaws.{PrintsViews, PrintsMirrors, kept_behind_script}
-use Rattle.tk_script.proofs.FeedLaws.{LacksFeed, all-append, feed_by_test, decimal_lacks, decimals_lack, fields_lack, all_lack, lines_of-text_of}
+use Rattle.tk_script.proofs.FeedLaws.{LacksFeed, each-append, feed_by_test, decimal_lacks, decimals_lack, fields_lack, all_lack, lines_of-text_of}
 use Rattle.tk_script.proofs.HistoryLaws.{numbered-are, numbered-lines}
 use Rattle.tk_script.proofs.LineLaws.{lines_of-empty}
 use Rattle.tk_script.proofs.PrintedLaws.{script_lacks, prints_scripts, prints_tapes, tape_alone}
@@ -44,7 +44,7 @@ turns_lack : (turns : List RawKind) → AllByRecursion IsTurn turns →
     AllByRecursion LacksFeed (lines_of_turns turns)
 turns_lack turns are = (
   feed_by_test (codes "history") refl,
-  all-append LacksFeed (map raw_line turns) (codes "end" ∷ [])
+  each-append LacksFeed (map raw_line turns) (codes "end" ∷ [])
       (all_lack raw_line IsTurn turn_lacks turns are) (feed_by_test (codes "end") refl, tt),
 )
 

@@ -16,7 +16,7 @@ use Rattle.tk_script.specs.PrintLaws.{ReadsPrinted, ReadsPrintedTape, PrintsScri
 use Rattle.tk_script.proofs.LineLaws.{lines_of-empty}
 use Rattle.tk_script.proofs.KeyLaws.{keys_spelled}
 use Rattle.tk_script.proofs.ScriptLaws.{tape_of_keyed, tape_of_drawn}
-use Rattle.tk_script.proofs.FeedLaws.{LacksFeed, all-append, feed_by_test, bytes_line_lacks, format_line_lacks, shape_line_lacks, kind_line_lacks, role_line_lacks, say_line_lacks, passing_lack, all_lack, lines_of-text_of}
+use Rattle.tk_script.proofs.FeedLaws.{LacksFeed, each-append, feed_by_test, bytes_line_lacks, format_line_lacks, shape_line_lacks, kind_line_lacks, role_line_lacks, say_line_lacks, passing_lack, all_lack, lines_of-text_of}
 use Rattle.tk_script.proofs.PiecesLaws.{IsPiece, are_pieces, pieces-joined}
 
 -- each line spells its item
@@ -48,7 +48,7 @@ keys_printed (Some keys) has =
 keys_lack : (keys : Option Keys) → HasKeys keys → AllByRecursion LacksFeed (lines_of_keys keys)
 keys_lack None has = tt
 keys_lack (Some keys) has =
-    all-append LacksFeed (map handle_line keys.handles) (map seed_line keys.seeds)
+    each-append LacksFeed (map handle_line keys.handles) (map seed_line keys.seeds)
     (all_lack handle_line HasHandle (λ h own. bytes_line_lacks (codes "handle") (handle_bytes h)
     (feed_by_test (codes "handle") refl) own.bytes) keys.handles has.0)
     (all_lack seed_line HasSeed (λ seed own. bytes_line_lacks (codes "seed") seed
@@ -66,9 +66,9 @@ script_lacks S has =
     S.sound.roles_sound in
     let third = passing_lack say_line (is_say S.shape) (say_line_lacks S.shape) S.says
     S.sound.says_sound in
-    let two = all-append LacksFeed logs keys first (keys_lack S.keys has) in
-    let three = all-append LacksFeed (logs ++ keys) texts two third in
-    let all = all-append LacksFeed (logs ++ keys ++ texts) end three
+    let two = each-append LacksFeed logs keys first (keys_lack S.keys has) in
+    let three = each-append LacksFeed (logs ++ keys) texts two third in
+    let all = each-append LacksFeed (logs ++ keys ++ texts) end three
     (feed_by_test (codes "end") refl, tt) in
     (format_line_lacks S.shape, (shape_line_lacks S.shape, (kind_line_lacks S.keys, all)))
 
@@ -93,7 +93,7 @@ tape_lacks : (bytes : List ℕ) → IsBytes bytes → AllByRecursion LacksFeed (
 tape_lacks bytes are =
     let lines = all_lack piece_line IsPiece (λ p own. bytes_line_lacks (codes "x") p
     (feed_by_test (codes "x") refl) own.are) (pieces 32 bytes) (are_pieces bytes are) in
-    let all = all-append LacksFeed (lines_of_pieces bytes) (codes "end" ∷ []) lines
+    let all = each-append LacksFeed (lines_of_pieces bytes) (codes "end" ∷ []) lines
     (feed_by_test (codes "end") refl, tt) in
     (feed_by_test (codes "tape") refl, all)
 

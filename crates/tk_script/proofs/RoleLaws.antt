@@ -7,11 +7,10 @@ use Rattle.std.proofs.lemmas.Bool.{and_parts}
 use Rattle.tk_shape.specs.declared.shape.Shape.{Shape}
 use Rattle.tk_script.specs.declared.cause.Cause.TheVariants as cause
 use Rattle.tk_script.specs.declared.role.Role.{Role}
-use Rattle.tk_script.specs.Grammar.{Line, role_line}
+use Rattle.tk_script.specs.Grammar.{Line, role_line, IsNumber}
 use Rattle.tk_script.specs.Reading.{Verdict, named, numbers_after, first_from, in_order, read_clients, read_role}
 use Rattle.tk_script.specs.SoundScript.{is_ascending, is_role}
 use Rattle.tk_script.proofs.CauseLaws.{lacks_by_test, role_sound, role_parts, read_clients-role}
-use Rattle.tk_script.proofs.FieldLaws.{IsWord}
 use Rattle.tk_script.proofs.OptionLaws.{ok_if}
 use Rattle.tk_script.proofs.PartLaws.{numbers_after-are, numbers_after-some}
 use Rattle.tk_script.proofs.RowLaws.{IsLineOf}
@@ -19,11 +18,11 @@ use Rattle.tk_script.proofs.RowLaws.{IsLineOf}
 abbrev pub IsRoleLine : Shape → Line → Role → Type 0
 IsRoleLine shape = IsLineOf role_line (is_role shape)
 
-client_is_word : (clients n : ℕ) → clients ≤ 64 → IsTrue (nat_lt n clients) → IsWord n
+client_is_word : (clients n : ℕ) → clients ≤ 64 → IsTrue (nat_lt n clients) → IsNumber n
 client_is_word clients n few low = grind (arith, nat_tests)
 
 clients_are_words : (clients : ℕ) (ns : List ℕ) → clients ≤ 64 →
-    IsTrue (list_all (λ n. nat_lt n clients) ns) → AllByRecursion IsWord ns
+    IsTrue (list_all (λ n. nat_lt n clients) ns) → AllByRecursion IsNumber ns
 clients_are_words clients [] few all = tt
 clients_are_words clients (n ∷ ns) few all =
     let split = and_parts (nat_lt n clients) (list_all (λ k. nat_lt k clients) ns) all in
@@ -31,7 +30,7 @@ clients_are_words clients (n ∷ ns) few all =
 
 -- a role's numbers are words
 pub role_words : (shape : Shape) (role : Role) → IsTrue (is_role shape role) →
-    AllByRecursion IsWord (role.writer ∷ role.followers)
+    AllByRecursion IsNumber (role.writer ∷ role.followers)
 role_words shape role sound =
     let few = shape.in_range.clients_high in
     let writer = nat_lt role.writer shape.clients in

@@ -3,6 +3,7 @@ use Rattle.std.proofs.Common.{◌≡◌, ◌↔◌, ℕ, suc, ◌+◌, ◌-◌, 
 use Rattle.std.specs.Prelude.{nat_le, nat_lt, slice_get, IsNone}
 use Rattle.std.proofs.lemmas.Bool.Decides.{nat_tests}
 use Rattle.std.proofs.lemmas.Bool.{and_parts, and_from, leb-true, le-leb, lt-leb, lt-ltb}
+use Rattle.std.proofs.lemmas.Option.{same_Some}
 use Rattle.tk_shape.proofs.Offers.{between-from}
 use Rattle.tk_shape.specs.declared.shape.Shape.{Shape}
 use Rattle.tk_shape.specs.Limits.{Numbers, is_between}
@@ -34,13 +35,10 @@ in_order_push (a ∷ b ∷ says) y ordered =
     in_order_push (b ∷ says) y split.1
     ∙ ap (λ t. t && are_in_order (b ∷ (says ++ y ∷ []))) (sym split.0)
 
-some_same : (x y : Say) → Some x ≡ Some y → x ≡ y
-some_same x y e = cc e
-
 pub last_when-is : (says : List Say) (last : Say) → slice_get says (length says - 1) ≡ Some last →
     last_when says ≡ (last.phase, last.tick)
 last_when-is [] last at = absurd (cc at)
-last_when-is (a ∷ []) last at = ap (λ (s : Say). (s.phase, s.tick)) (some_same a last at)
+last_when-is (a ∷ []) last at = ap (λ (s : Say). (s.phase, s.tick)) (same_Some a last at)
 last_when-is (a ∷ b ∷ says) last at =
     let shift : length (a ∷ b ∷ says) - 1 ≡ suc (length (b ∷ says) - 1) = omega arith in
     last_when-is (b ∷ says) last (ap (slice_get (a ∷ b ∷ says)) (sym shift) ∙ at)

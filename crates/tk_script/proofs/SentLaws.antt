@@ -2,11 +2,13 @@
 -- in range, and may be sealed.
 use Rattle.std.proofs.Common.{◌≡◌, ◌∙◌, refl, ap, sym, subst, arith}
 use Rattle.std.proofs.Common.{ℕ, ◌+◌, ◌<◌, ◌≤◌, ◌==◌, max, Bool, true, false, cond, ◌&&◌}
-use Rattle.std.proofs.Common.{List, [], ◌∷◌, filter, find, Option, Some, eqb-true, eq-eqb, ne_eqb}
+use Rattle.std.proofs.Common.{List, [], ◌∷◌, filter, find, Some, eqb-true, eq-eqb, ne_eqb}
 use Rattle.std.proofs.Common.{ltb-true}
 use Rattle.std.specs.List.{All}
 use Rattle.std.proofs.lemmas.Bool.{and_parts}
+use Rattle.std.proofs.lemmas.Option.{same_Some}
 use Rattle.std.proofs.lemmas.List.Elements.{All-from_recursion, All-nil, All-cons, All-head, All-tail, All-weaker, All-filter, filter_passes}
+use Rattle.tk_lists.proofs.Offers.{found-passes}
 use Rattle.tk_shape.specs.declared.shape.Shape.{Shape}
 use Rattle.tk_shape.specs.Lengths.{turn_count}
 use Rattle.tk_schedule.specs.Schedule.{turn_at}
@@ -19,26 +21,14 @@ use Rattle.tk_script.proofs.SendingLaws.{of_log, of_log-cons, number-le-turn}
 
 -- ---- what is found in a list
 
-some_inner : {X : Type 0} (a b : X) → ◌≡◌ {A = Option X} (Some a) (Some b) → a ≡ b
-some_inner a b e = cc e
-
 found-each : {X : Type 0} (P : X → Type 0) (test : X → Bool) (xs : List X) (y : X) → All P xs →
     find test xs ≡ Some y → P y
 found-each P test [] y each e = absurd (cc e)
 found-each {X} P test (x ∷ xs) y each e =
     elim (test x) as (λ b. cond b (Some x) (find test xs) ≡ Some y → P y) [
-      | true ↦ λ here. subst P (some_inner x y here) (All-head P x xs each)
+      | true ↦ λ here. subst P (same_Some x y here) (All-head P x xs each)
       | false ↦ λ later. found-each P test xs y (All-tail P x xs each) later
     ] e
-
-found-passes : {X : Type 0} (test : X → Bool) (xs : List X) (y : X) → find test xs ≡ Some y →
-    test y ≡ true
-found-passes test [] y e = absurd (cc e)
-found-passes {X} test (x ∷ xs) y e =
-    elim (test x) as (λ b. test x ≡ b → cond b (Some x) (find test xs) ≡ Some y → test y ≡ true) [
-      | true ↦ λ passes here. ap test (sym (some_inner x y here)) ∙ passes
-      | false ↦ λ fails later. found-passes test xs y later
-    ] refl e
 
 -- ---- one is before the other: in an earlier turn, and in a log with a lower number
 
@@ -93,7 +83,7 @@ numbers-behind shape free earlier (y ∷ says) =
     (numbers-behind shape next (y ∷ earlier) says))
 
 -- and its turn is no earlier than the first that is free before them all
-turns-behind : (shape : Shape) (free : ℕ) (earlier says : List Say) →
+pub turns-behind : (shape : Shape) (free : ℕ) (earlier says : List Say) →
     All (λ (y : Sending). free ≤ y.turn) (sendings_from shape free earlier says)
 unfolding sendings_from
 turns-behind shape free earlier [] = All-nil (λ (y : Sending). free ≤ y.turn)

@@ -9,15 +9,14 @@ use Rattle.tk_shape.specs.Numbers.{numbers_of}
 use Rattle.tk_shape.specs.Limits.{Numbers, Limit, is_between, broken, numbers_in}
 use Rattle.tk_shape.proofs.Offers.{one_shape, none_broken, shape_of}
 use Rattle.tk_script.specs.declared.cause.Cause.TheVariants as cause
-use Rattle.tk_script.specs.Grammar.{Line, fields, shape_line}
+use Rattle.tk_script.specs.Grammar.{Line, fields, shape_line, IsNumber}
 use Rattle.tk_script.specs.Reading.{named, numbers_after, unbroken, read_numbers, read_shape}
 use Rattle.tk_script.proofs.CauseLaws.{lacks_by_test}
-use Rattle.tk_script.proofs.FieldLaws.{IsWord}
 use Rattle.tk_script.proofs.OptionLaws.{ok_same, verdict_if}
 use Rattle.tk_script.proofs.PartLaws.{numbers_after-are, numbers_after-some}
 
 -- a shape's numbers are words
-pub numbers_are_words : (s : Shape) → AllByRecursion IsWord (numbers_of s)
+pub numbers_are_words : (s : Shape) → AllByRecursion IsNumber (numbers_of s)
 numbers_are_words s =
     let r = s.in_range in
     let first = mul-le-mul_right s.depth r.buckets_high in

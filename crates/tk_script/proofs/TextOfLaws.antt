@@ -9,6 +9,7 @@ use Rattle.tk_script.specs.declared.say.Say.{Say}
 use Rattle.tk_script.specs.declared.keys.Keys.{Keys}
 use Rattle.tk_script.specs.Grammar.{Line, fields, format_line, shape_line, kind_line, role_line, say_line}
 use Rattle.tk_script.specs.Printing.{text_of, number_fields, handle_line, seed_line, lines_of_keys, lines_of_pieces, printed, printed_tape}
+use Rattle.tk_script.proofs.FeedLaws.{each-append}
 
 pub text_of-append : (xs ys : List Line) → text_of (xs ++ ys) ≡ text_of xs ++ text_of ys
 text_of-append [] ys = refl
@@ -41,16 +42,11 @@ text_of-next f xs i x old within here before_is new_is =
     ∙ ap (λ ls. old ++ text_of ls) (sym (map-append f (take i xs) (x ∷ [])))
     ∙ ap (λ ys. old ++ text_of (map f ys)) (sym (take_next xs i x within here))
 
-all_push : {X : Type 0} (P : X → Type 0) (xs : List X) (x : X) → AllByRecursion P xs → P x →
-    AllByRecursion P (xs ++ x ∷ [])
-all_push P [] x all here = (here, tt)
-all_push P (y ∷ xs) x all here = (all.0, all_push P xs x all.1 here)
-
 -- what holds of the items so far and of one more
 pub all_next : {X : Type 0} (P : X → Type 0) (xs : List X) (i : ℕ) (x : X) → i < length xs →
     x ≡ get_or xs i x → AllByRecursion P (take i xs) → P x → AllByRecursion P (take (i + 1) xs)
 all_next P xs i x within at all here =
-    rw (take_next xs i x within at) (all_push P (take i xs) x all here)
+    rw (take_next xs i x within at) (each-append P (take i xs) (x ∷ []) all (here, tt))
 
 -- ---- a line of numbers
 

@@ -7,6 +7,7 @@ use Rattle.std.specs.Str.{bytes_eq}
 use Rattle.std.proofs.lemmas.List.{length-map}
 use Rattle.std.proofs.lemmas.List.Splits.{join_with_byte-slice_split}
 use Rattle.std.proofs.lemmas.Slice.Eq.{bytes_eq-Decides}
+use Rattle.std.proofs.lemmas.Option.{same_Some}
 use Rattle.tk_schedule.specs.declared.item.Item.{Item}
 use Rattle.tk_schedule.specs.declared.item.Item.TheVariants.{Client, Publish}
 use Rattle.tk_schedule.specs.declared.raw.RawKind.{RawKind}
@@ -19,7 +20,7 @@ use Rattle.tk_script.proofs.CauseLaws.{differ, lacks_by_test}
 use Rattle.tk_script.proofs.FieldLaws.{LacksSpace-decimal}
 use Rattle.tk_script.proofs.ListLaws.{cons_both}
 use Rattle.tk_script.proofs.NumberLaws.{all_digits}
-use Rattle.tk_script.proofs.OptionLaws.{ok_same, some_same, verdict_if}
+use Rattle.tk_script.proofs.OptionLaws.{ok_same, verdict_if}
 use Rattle.tk_script.proofs.PartLaws.{split_field, one_field, number_spelled-decimal, number_spelled-is, numbers_spelled-decimals, numbers_spelled-are}
 
 -- fields without spaces are the parts of their line
@@ -123,7 +124,7 @@ IsItemText text x = (text ≡ item_word x) × IsItem x
 item_by : (text : List ℕ) (x : Item) (b : Bool) → bytes_eq text (codes "mark") ≡ b →
     cond b (Some Publish) (option_map Client (number_spelled text)) ≡ Some x → IsItemText text x
 item_by text x true same e =
-    subst (IsItemText text) (some_same Publish x e)
+    subst (IsItemText text) (same_Some Publish x e)
     ((bytes_eq-Decides text (codes "mark")).0 same, tt)
 item_by text x false same e =
     let client = some_from (number_spelled text) x e in

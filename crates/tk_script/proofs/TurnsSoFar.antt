@@ -36,15 +36,15 @@ with_turn n (k ∷ ks) x =
 
 -- ---- the end alone is an end
 
-no_end : (k : RawKind) → IsTurn k → is_end k ≡ false
-no_end (Order phase tick items) turn = refl
-no_end (Reads phase tick epochs) turn = refl
-no_end End turn = absurd turn
+pub turn-no_end : (k : RawKind) → IsTurn k → is_end k ≡ false
+turn-no_end (Order phase tick items) turn = refl
+turn-no_end (Reads phase tick epochs) turn = refl
+turn-no_end End turn = absurd turn
 
 one_end : (n m : ℕ) (ks : List RawKind) → AllByRecursion IsTurn ks →
     IsTrue (ends_once (turns_from n ks ++ lined m End))
 one_end n m [] turns = refl
-one_end n m (k ∷ ks) turns = rw (no_end k turns.0) (one_end (n + 1) m ks turns.1)
+one_end n m (k ∷ ks) turns = rw (turn-no_end k turns.0) (one_end (n + 1) m ks turns.1)
 
 more_turns : (ks : List RawKind) (x : RawKind) → AllByRecursion IsTurn ks → IsTurn x →
     AllByRecursion IsTurn (ks ++ x ∷ [])

@@ -9,10 +9,10 @@ use Rattle.std.proofs.lemmas.List.Elements.{All-from_get_or}
 use Rattle.std.proofs.lemmas.Simd.{map-map}
 use Rattle.tk_shape.specs.declared.shape.Shape.{Shape}
 use Rattle.tk_frames.specs.declared.read_frame.ReadFrame.{ReadFrame}
-use Rattle.tk_frames.specs.declared.seeds.Seeds.TheVariants.{Plain}
 use Rattle.tk_frames.specs.declared.entry.Placed.{Placed}
 use Rattle.tk_frames.specs.Spelling.{reply_frame}
 use Rattle.tk_frames.specs.Ranges.{IsRead}
+use Rattle.tk_report.specs.Exchange.{blank_read}
 use Rattle.tk_replica.specs.declared.epoch.Epoch.{Epoch}
 use Rattle.tk_replica.specs.Epochs.{IsEpochOf}
 use Rattle.tk_replica.specs.Replies.{frame_over}
@@ -21,12 +21,13 @@ use Rattle.tk_packets.specs.Frames.{epoch_frame, marks_len}
 use Rattle.std.proofs.lemmas.List.FromFn.{length-map-range_with_len}
 use Rattle.tk_packets.specs.Marks.{mark_byte, mark_bytes}
 use Rattle.tk_packets.specs.Packets.{PacketView, packet}
+use Rattle.tk_schedule.proofs.Offers.{one_more}
 use Rattle.tk_serve.specs.Seats.{Seat, empty_seat, seat_of, AreSeats}
 use Rattle.tk_serve.specs.Told.{reply_told, epoch_bytes, brought, packets_brought}
 use Rattle.tk_serve.specs.Desks.{desk_by}
 use Rattle.tk_serve.specs.Answering.{packet_over, epoch_of, news_of, news_for, MayAnswer}
 use Rattle.tk_serve.proofs.Lists.{map-each}
-use Rattle.tk_serve.proofs.Phases.{one_more, phase-before, phase-past}
+use Rattle.tk_serve.proofs.Phases.{phase-before, phase-past}
 use Rattle.tk_serve.proofs.ToldLaws.{AreReadsOf}
 
 pub frame-told : (shape : Shape) (E : List Placed) (e : ℕ) (epoch : Epoch) (r : ReadFrame) →
@@ -40,9 +41,6 @@ unfolding epoch_bytes
 epoch-told shape E e epoch is =
     ap₂ (λ (n : ℕ) (marks : List ℕ). epoch_frame (record { epoch = n; marks = marks })) is.number
     (ap (mark_bytes (marks_len shape)) is.stands.filter)
-
-blank_read : ReadFrame
-blank_read = record { client = 0; turn = 0; epoch = 0; first = []; second = []; seeds = Plain }
 
 -- the reads over epoch n of a client
 module _ (shape : Shape) (n c : ℕ) (reads : List ReadFrame) (are : AreReadsOf shape c reads) where

@@ -1,15 +1,16 @@
 -- A run, packet after packet.
 use Rattle.std.proofs.Common.{◌≡◌, ℕ, ◌+◌, refl, ap, sym, ◌∙◌, arith, subst, inl, inr}
-use Rattle.std.proofs.Common.{List, [], ◌∷◌, ◌++◌, length, take, Option, Some, None, append-nil, append_assoc, length-append}
+use Rattle.std.proofs.Common.{List, [], ◌∷◌, ◌++◌, length, take, Option, None, append-nil, append_assoc, length-append}
 use Rattle.std.proofs.lemmas.Bool.{cases_lt}
 use Rattle.std.proofs.lemmas.Grind.{flat_map-append}
 use Rattle.std.proofs.lemmas.List.{take-append-le}
 use Rattle.std.proofs.Math.Seq.{take-append_seam}
 use Rattle.tk_io.specs.Content.{before_taking, gained}
+use Rattle.tk_io.proofs.Offers.{before_taking-append, before_taking-nothing}
 use Rattle.tk_io.proofs.Offers.{gained-twice, gained-nothing, front-of_all, front-of_second}
 use Rattle.tk_shape.specs.declared.shape.Shape.{Shape}
 use Rattle.tk_frames.proofs.Offers.{each-push}
-use Rattle.tk_packets.specs.Packets.{PacketView, packet_bytes, packets_bytes, TakesAtMost}
+use Rattle.tk_packets.specs.Packets.{PacketView, packet_bytes, packets_bytes}
 use Rattle.tk_packets.specs.Lines.{Gone, passed, taken, dealt, after_taking, exchanges}
 use Rattle.tk_packets.proofs.Offers.{passed-twice, passed-nothing, front-whole, front-second, taking-order, taking-bytes}
 use Rattle.tk_packets.proofs.Offers.{state_after, exchanges-one}
@@ -67,10 +68,6 @@ bytes-more ps p =
     flat_map-append packet_bytes ps (p ∷ [])
     ∙ ap (λ bytes. packets_bytes ps ++ bytes) (append-nil (packet_bytes p))
 
-taken-then : (a b : List ℕ) (rest : Told) → before_taking (a ++ b) rest ≡ before_taking a (before_taking b rest)
-taken-then a b None = refl
-taken-then a b (Some rest) = ap Some (append_assoc a b rest)
-
 takes-more : (shape : Shape) (ps : List PacketView) (p : PacketView) (left middle rest : Told) →
     Takes shape ps left middle → IsOfClient shape p → IsShort shape p →
     middle ≡ before_taking (packet_bytes p) rest → Takes shape (ps ++ p ∷ []) left rest
@@ -80,7 +77,7 @@ takes-more shape ps p left middle rest takes of short taken =
       short = each-push (IsShort shape) ps p takes.short short;
       taken =
           takes.taken ∙ ap (before_taking (packets_bytes ps)) taken
-          ∙ sym (taken-then (packets_bytes ps) (packet_bytes p) rest)
+          ∙ sym (before_taking-append (packets_bytes ps) (packet_bytes p) rest)
           ∙ ap (λ bytes. before_taking bytes rest) (sym (bytes-more ps p));
     }
 
@@ -101,18 +98,11 @@ goes-more shape ps p goes still_going k before over = elim (cases_lt k (length p
 
 -- ---- courses
 
-nothing-taken : (left : Told) → left ≡ before_taking [] left
-nothing-taken None = refl
-nothing-taken (Some rest) = refl
-
-pub takes-nothing : (most : ℕ) (left : Told) → TakesAtMost most left left
-takes-nothing most left = record { taken = []; front = nothing-taken left; few = omega arith }
-
 pub course-none : (shape : Shape) (left : Told) (gone : Gone) → IsCourse shape [] left left gone gone
 unfolding answered exchanged
 course-none shape left gone =
     record {
-      takes = record { of_clients = tt; short = tt; taken = nothing-taken left };
+      takes = record { of_clients = tt; short = tt; taken = sym (before_taking-nothing left) };
       goes = λ k before over. absurd (omega (arith, before));
       puts = sym (gained-nothing gone.bytes);
       order = sym (passed-nothing gone.past);

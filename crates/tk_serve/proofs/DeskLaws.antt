@@ -6,10 +6,10 @@ use Rattle.std.proofs.lemmas.List.{drop-drop, drop_all, drop-append-le}
 use Rattle.tk_shape.specs.declared.shape.Shape.{Shape}
 use Rattle.tk_frames.specs.declared.write_frame.WriteFrame.{WriteFrame}
 use Rattle.tk_frames.specs.declared.read_frame.ReadFrame.{ReadFrame}
+use Rattle.tk_schedule.proofs.Offers.{one_more}
 use Rattle.tk_serve.specs.Seats.{Seat, seat_with_write, seat_with_read}
 use Rattle.tk_serve.specs.Told.{turns_read}
 use Rattle.tk_serve.specs.Desks.{desk, desk_by, desk_behind, desk_answered}
-use Rattle.tk_serve.proofs.Phases.{one_more}
 
 -- a write more waits
 pub desk-with_write : (shape : Shape) (g n : ℕ) (s : Seat) (w : WriteFrame) → g ≤ length s.writes →

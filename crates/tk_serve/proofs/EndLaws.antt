@@ -1,29 +1,16 @@
 -- How a run ends, from how its next packet does.
 use Rattle.std.proofs.Common.{◌≡◌, ℕ, ◌+◌, ◌⊎◌, refl, sym, ◌∙◌, inl, inr}
-use Rattle.std.proofs.Common.{[], ◌∷◌, ◌++◌, OnOk, OnErr, IfOk, Bool, false, IsTrue, ◌↔◌}
-use Rattle.std.specs.Prelude.{Result, Ok, Err}
+use Rattle.std.proofs.Common.{[], ◌∷◌, ◌++◌, Bool, false, IsTrue, ◌↔◌}
 use Rattle.tk_shape.specs.declared.shape.Shape.{Shape}
 use Rattle.tk_packets.specs.Lines.{Gone}
+use Rattle.tk_packets.proofs.Offers.{takes-nothing}
 use Rattle.tk_serve.specs.declared.server.Server.{Server}
 use Rattle.tk_serve.specs.Seats.{empty_seats}
 use Rattle.tk_serve.specs.Steps.{seats_after}
 use Rattle.tk_serve.specs.Setup.{longest_frame}
 use Rattle.tk_serve.specs.Courses.{Told, IsGoing, StopsBehind, RanFront}
 use Rattle.tk_serve.specs.Nexts.{TakesNextFront}
-use Rattle.tk_serve.proofs.CourseLaws.{IsRunning, takes-nothing, course-whole, course-front}
-
--- a fact of what a call answers follows from another
-pub on_ok-map : {X Y : Type 0} {P Q : Type 0} (r : Result X Y) → (P → Q) → OnOk r P → OnOk r Q
-on_ok-map (Ok x) f h = f h
-on_ok-map (Err e) f h = tt
-
-pub on_err-map : {X Y : Type 0} {P Q : Type 0} (r : Result X Y) → (P → Q) → OnErr r P → OnErr r Q
-on_err-map (Ok x) f h = tt
-on_err-map (Err e) f h = f h
-
-pub on_err-holds : {X Y : Type 0} {P : Type 0} (r : Result X Y) → P → OnErr r P
-on_err-holds (Ok x) h = tt
-on_err-holds (Err e) h = h
+use Rattle.tk_serve.proofs.CourseLaws.{IsRunning, course-whole, course-front}
 
 module _ (shape : Shape) (count : ℕ) (s : Server) (left middle : Told) (gone now : Gone)
     (runs : IsRunning shape count s left middle gone now) where
@@ -47,11 +34,6 @@ module _ (shape : Shape) (count : ℕ) (s : Server) (left middle : Told) (gone n
         takes = takes-nothing (8 + longest_frame shape) rest;
         over = λ _. refl;
       }
-
--- what holds of a call's value holds of more
-pub if_ok-map : {X Y : Type 0} {P Q : X → Type 0} (r : Result X Y) → ((x : X) → P x → Q x) → IfOk r P → IfOk r Q
-if_ok-map (Ok x) f h = f x h
-if_ok-map (Err e) f h = tt
 
 -- ---- a server in the course of a run, by what its calls answer
 

@@ -7,15 +7,15 @@ use Rattle.std.proofs.Math.Nat.{mul-suc, mul-zero, mul-le-mul_left}
 use Rattle.std.specs.List.{range_with_len}
 use Rattle.std.proofs.lemmas.List.FromFn.{map-range_with_len_more, get_or-map-range_with_len}
 use Rattle.std.proofs.lemmas.List.FromFn.{length-map-range_with_len}
-use Rattle.std.proofs.lemmas.List.Sums.{sum_by-cons}
 use Rattle.tk_shape.specs.declared.shape.Shape.{Shape}
 use Rattle.tk_shape.specs.Lengths.{turn_count}
 use Rattle.tk_schedule.specs.declared.item.Item.{Item}
 use Rattle.tk_schedule.specs.declared.item.Item.TheVariants.{Client, Publish}
 use Rattle.tk_schedule.specs.declared.history.History.{History}
-use Rattle.tk_schedule.specs.Schedule.{is_closing, is_mark, marks_due, phases_over, order_at, serial_turn}
+use Rattle.tk_schedule.specs.Schedule.{is_closing, marks_due, phases_over, order_at, serial_turn}
 use Rattle.tk_schedule.specs.Schedule.{serial_history, blank_turn}
 use Rattle.tk_schedule.proofs.Offers.{serial-IsLegal}
+use Rattle.tk_schedule.proofs.Offers.{no_marks}
 use Rattle.tk_frames.specs.declared.write_frame.WriteFrame.{WriteFrame}
 use Rattle.tk_frames.specs.declared.entry.Placed.{Placed}
 use Rattle.tk_frames.specs.declared.entry.Entry.TheVariants.{Write, Mark}
@@ -65,13 +65,6 @@ order-serial shape g low =
     ap (λ t. t.order)
     (get_or-map-range_with_len (serial_turn shape) 0 (turn_count shape) g g blank_turn low (zero-add g))
 
--- the clients' items have no mark
-clients-unmarked : (a n : ℕ) → count_by is_mark (map Client (range_with_len a n)) ≡ 0
-clients-unmarked a zero = refl
-clients-unmarked a (suc n) =
-    let items = map Client (range_with_len (a + 1) n) in
-    omega (arith, sum_by-cons (λ y. cond (is_mark y) 1 0) (Client a) items, clients-unmarked (a + 1) n)
-
 -- ---- the writes of a turn, one by one
 
 pub writes-none : (E : List Placed) (write : ℕ → WriteFrame) → with_writes E write 0 ≡ E
@@ -99,7 +92,7 @@ pub writes-marks : (E : List Placed) (write : ℕ → WriteFrame) (i : ℕ) →
 writes-marks E write i =
     let items = map Client (range_with_len 0 i) in
     let none : mark_count (placed_after write E items) ≡ 0 =
-    marks-placed_from write (length E + 1) (count_by is_mark_entry E + 1) items ∙ clients-unmarked 0 i
+    marks-placed_from write (length E + 1) (count_by is_mark_entry E + 1) items ∙ no_marks 0 i
     in
     omega (arith, marks-append E (placed_after write E items), none)
 

@@ -1,12 +1,12 @@
 -- What becomes of the next packet, from the calls that take it and put what goes out.
-use Rattle.std.proofs.Common.{◌≡◌, ℕ, ◌+◌, ◌-◌, ◌≤◌, List, length, take, ap, ap₂, ◌∙◌, subst, arith, false, Some}
+use Rattle.std.proofs.Common.{◌≡◌, ℕ, ◌+◌, ◌-◌, ◌≤◌, List, length, take, ap, ap₂, ◌∙◌, subst, false, Some}
 use Rattle.std.specs.Prelude.{Result, Ok, Err, OnOk}
 use Rattle.std.specs.Result.{is_err}
 use Rattle.tk_io.specs.Content.{before_taking, gained}
 use Rattle.tk_shape.specs.declared.shape.Shape.{Shape}
-use Rattle.tk_packets.specs.Packets.{PacketView, packet_bytes, packets_bytes, TakesAtMost}
+use Rattle.tk_packets.specs.Packets.{PacketView, packet_bytes, packets_bytes}
 use Rattle.tk_packets.specs.Lines.{Gone, passed, dealt, after_taking, HasPut, HasPutFront}
-use Rattle.tk_packets.proofs.Offers.{dealt-bytes, dealt-order, dealt-bytes_front, dealt-order_front}
+use Rattle.tk_packets.proofs.Offers.{takes-packet, dealt-bytes, dealt-order, dealt-bytes_front, dealt-order_front}
 use Rattle.tk_serve.specs.declared.server.Server.{Server}
 use Rattle.tk_serve.specs.Seats.{Seat}
 use Rattle.tk_serve.specs.Steps.{Step, step, step_on}
@@ -14,19 +14,12 @@ use Rattle.tk_serve.specs.Stands.{Stands}
 use Rattle.tk_serve.specs.Courses.{Told, IsShort, StopsBehind}
 use Rattle.tk_serve.specs.Nexts.{TakesNext, TakesNextFront}
 
-length-packet : (p : PacketView) → length (packet_bytes p) ≡ 8 + length p.bytes
-unfolding packet_bytes
-length-packet p = omega arith
-
 -- a packet came of so many bytes at most, and nothing is put
 pub stops-behind : (most : ℕ) (p : PacketView) (left rest : Told) (gone now : Gone) →
     left ≡ before_taking (packet_bytes p) rest → length p.bytes ≤ most → now ≡ after_taking (Some p) gone →
     StopsBehind (8 + most) left rest gone now
 stops-behind most p left rest gone now comes short took =
-    let takes : TakesAtMost (8 + most) left rest =
-    record { taken = packet_bytes p; front = comes; few = omega (arith, length-packet p, short) }
-    in
-    record { takes = takes; last = Some p; took = took }
+    record { takes = takes-packet most p left rest comes short; last = Some p; took = took }
 
 -- a packet of a client came, and its bytes were taken as a frame of the client
 pub record IsTakenOf (shape : Shape) (p : PacketView) (client : ℕ) (frame : List ℕ) (left rest : Told)

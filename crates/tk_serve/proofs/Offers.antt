@@ -3,7 +3,8 @@
 -- the least of some numbers
 pub use Rattle.tk_serve.proofs.Least.{least-top, least-below, least-above}
 -- turns and phases
-pub use Rattle.tk_serve.proofs.Phases.{phase-before, phase-past, one_more, closing-last, phases-step, phases-stay}
+pub use Rattle.tk_schedule.proofs.Offers.{one_more}
+pub use Rattle.tk_serve.proofs.Phases.{phase-before, phase-past, closing-last, phases-step, phases-stay}
 -- what each of some numbers gives
 pub use Rattle.tk_serve.proofs.Lists.{flat_map-one}
 -- what is told over entries that agree up to an epoch

@@ -1,11 +1,9 @@
 -- The turns of phases of t turns each.
-use Rattle.std.proofs.Common.{◌≡◌, ℕ, ◌+◌, ◌*◌, ◌/◌, ◌%◌, ◌<◌, ◌≤◌, ap, ◌∙◌, arith, inl, inr, suc-mul, add-one}
+use Rattle.std.proofs.Common.{◌≡◌, ℕ, ◌+◌, ◌*◌, ◌/◌, ◌%◌, ◌<◌, ◌≤◌, ap, ◌∙◌, arith, inl, inr}
 use Rattle.std.proofs.lemmas.Bool.{cases_lt}
 use Rattle.std.proofs.lemmas.Nat.{div-add-mod', mod-mul-add}
 use Rattle.std.proofs.Math.Nat.{div-lt_iff_lt-mul, div-mul-le_self, mul-le-mul_right, lt-div-mul-add}
-
-pub one_more : (q n : ℕ) → (q + 1) * n ≡ q * n + n
-one_more q n = omega (arith, suc-mul q n, ap (λ k. k * n) (add-one q))
+use Rattle.tk_schedule.proofs.Offers.{one_more}
 
 -- a turn before the end of phase n is in one of the first n phases
 pub phase-before : (t n g : ℕ) → 0 < t → g < n * t → g / t < n

@@ -14,18 +14,19 @@ use Rattle.std.proofs.lemmas.List.Concat.{flat_map_single}
 use Rattle.tk_shape.specs.declared.shape.Shape.{Shape}
 use Rattle.tk_schedule.specs.Schedule.{is_closing, phase_of}
 use Rattle.tk_frames.specs.declared.read_frame.ReadFrame.{ReadFrame}
-use Rattle.tk_frames.specs.declared.seeds.Seeds.TheVariants.{Plain}
 use Rattle.tk_frames.specs.declared.entry.Placed.{Placed}
 use Rattle.tk_frames.specs.Order.{before}
 use Rattle.tk_frames.specs.Spelling.{reply_frame}
 use Rattle.tk_table.specs.Replies.{reply_to}
+use Rattle.tk_report.specs.Exchange.{blank_read}
 use Rattle.tk_replica.specs.Epochs.{filter_of}
 use Rattle.tk_packets.specs.Frames.{epoch_frame, marks_len}
 use Rattle.tk_packets.specs.Marks.{mark_bytes}
+use Rattle.tk_schedule.proofs.Offers.{one_more}
 use Rattle.tk_serve.specs.Seats.{IsReadOf}
 use Rattle.tk_serve.specs.Told.{reply_told, epoch_bytes, closing_told, told_of, turns_read, told_in, brought}
 use Rattle.tk_serve.proofs.Lists.{flat_map-each}
-use Rattle.tk_serve.proofs.Phases.{one_more, phase-before, phase-past, phase-closed, last-closes, last-phase}
+use Rattle.tk_serve.proofs.Phases.{phase-before, phase-past, phase-closed, last-closes, last-phase}
 
 -- ---- what is told over entries that begin with others
 
@@ -105,9 +106,6 @@ told-same_at shape n m E F c g r same more is low when =
     (reply-same shape n E F r same (omega (arith, over, phase)))
     (ap (closing_told shape F m) is.at ∙ closing-same shape n m E F g same more when
     ∙ sym (ap (closing_told shape E n) is.at))
-
-blank_read : ReadFrame
-blank_read = record { client = 0; turn = 0; epoch = 0; first = []; second = []; seeds = Plain }
 
 -- the first k reads are told the same
 told-same : (shape : Shape) (n m : ℕ) (E F : List Placed) (c : ℕ) (reads : List ReadFrame) (k : ℕ) →

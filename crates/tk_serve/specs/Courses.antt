@@ -1,6 +1,7 @@
 -- What a server took and put, until it ended.
 use Rattle.std.specs.Prelude.{◌≡◌, ℕ, ◌+◌, ◌^◌, ◌≤◌, ◌<◌, ◌⊎◌, List, ◌++◌, length, take, Option, Some}
 use Rattle.std.specs.List.{AllByRecursion}
+pub use Rattle.tk_io.specs.Content.{Told}
 use Rattle.tk_io.specs.Content.{before_taking, emptied, gained}
 use Rattle.tk_shape.specs.declared.shape.Shape.{Shape}
 use Rattle.tk_packets.specs.Packets.{PacketView, packet_bytes, packets_bytes, EndsWithin, ComesLong, TakesAtMost}
@@ -8,10 +9,6 @@ use Rattle.tk_packets.specs.Lines.{Passing, Gone, passed, taken, after_taking, e
 use Rattle.tk_serve.specs.Seats.{Seat, empty_seats}
 use Rattle.tk_serve.specs.Steps.{IsOfClient, step_on, answers, seats_after, IsOver}
 use Rattle.tk_serve.specs.Setup.{setup, setup_len, longest_frame}
-
--- what a line has left, where it tells it
-abbrev pub Told : Type 0
-Told = Option (List ℕ)
 
 -- a packet is no longer than a client's longest frame
 abbrev pub IsShort : Shape → PacketView → Type 0

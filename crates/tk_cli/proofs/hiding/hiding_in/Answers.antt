@@ -8,7 +8,8 @@ use Rattle.tk_cli.specs.Errors.{book_status, history_status}
 use Rattle.tk_cli.specs.Inputs.{Refuses, bad_history_line, difference, shapes_refusal}
 use Rattle.tk_cli.specs.Inputs.{history_refusal, server_refusal}
 use Rattle.tk_cli.proofs.ErrorLaws.{err_then}
-use Rattle.tk_cli.proofs.HidingLaws.{kept-whole, told-legal}
+use Rattle.tk_cli.proofs.HidingLaws.{told-legal}
+use Rattle.tk_cli.proofs.LiftLaws.{kept-whole}
 use Rattle.tk_cli.proofs.InputLaws.{whole-not_refused, book-refuses, history-refuses, server-refuses}
 use Rattle.tk_cli.proofs.hiding.hiding_in.Goals as goal
 

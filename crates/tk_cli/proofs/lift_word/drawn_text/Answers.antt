@@ -3,24 +3,26 @@ use Rattle.std.proofs.Common.{◌≡◌, ◌∙◌, ◌++◌, ap, sym, subst, �
 use Rattle.std.specs.Prelude.{Err}
 use Rattle.tk_words.specs.Lifting.{lifted_tape}
 use Rattle.tk_script.specs.Printing.{printed, printed_tape}
+use Rattle.tk_script.specs.declared.form.Form.TheVariants as form
 use Rattle.tk_cli.specs.declared.request.Request.TheVariants.{Lift}
 use Rattle.tk_cli.specs.declared.status.Status.{Status}
 use Rattle.tk_cli.specs.Errors.{book_status, lift_status}
 use Rattle.tk_cli.specs.Inputs.{Refuses}
 use Rattle.tk_cli.proofs.ErrorLaws.{err_then}
 use Rattle.tk_cli.proofs.InputLaws.{book-refuses}
-use Rattle.tk_cli.proofs.LiftLaws.{has-tape, kept-whole, lift-refuses, drawn-answer}
+use Rattle.tk_cli.proofs.HidingLaws.{drawn-tape}
+use Rattle.tk_cli.proofs.LiftLaws.{kept-whole, lift-refuses, drawn-answer}
 use Rattle.tk_cli.proofs.lift_word.drawn_text.Goals as goal
 
 pub tape_in-requires : goal.tape_in-requires
-tape_in-requires c = has-tape c.args.input c.requires.spelled.bytes c.requires.spelled.spelled c.requires.drawn
+tape_in-requires c = drawn-tape form.Run c.requires.spelled.bytes c.args.input c.requires.spelled.spelled c.requires.drawn
 
 pub lift_tape-requires : goal.lift_tape-requires
 lift_tape-requires c =
     let input = c.args.input in
     ap length c.in_ok-tape.ensures.kept
     ∙ kept-whole input.first.shape input.tape
-    (has-tape input c.requires.spelled.bytes c.requires.spelled.spelled c.requires.drawn)
+    (drawn-tape form.Run c.requires.spelled.bytes input c.requires.spelled.spelled c.requires.drawn)
     c.in_ok-tape.ensures.whole
 
 pub returns-in_err-tape-clause-refused : goal.returns-in_err-tape-clause-refused
@@ -38,7 +40,7 @@ returns-in_err-lifted-clause-refused c =
     err_then (λ (s : Status). s ≡ lift_status e) (Refuses Lift input) c.from_residual-in_err-lifted.result
     c.from_residual-in_err-lifted.ensures.1 (λ s is. subst (Refuses Lift input) (sym is)
     (lift-refuses e input
-    (has-tape input c.requires.spelled.bytes c.requires.spelled.spelled c.requires.drawn)
+    (drawn-tape form.Run c.requires.spelled.bytes input c.requires.spelled.spelled c.requires.drawn)
     c.in_ok-tape.ensures.whole (λ want tells. (c.in_err-lifted.ensures.wide want).0 (ap Err tells))))
 
 pub returns-clause-answer : goal.returns-clause-answer
@@ -46,7 +48,7 @@ returns-clause-answer c =
     let input = c.args.input in
     let T = c.in_ok-script.script in
     drawn-answer input T _ c.requires.drawn
-    (has-tape input c.requires.spelled.bytes c.requires.spelled.spelled c.requires.drawn)
+    (drawn-tape form.Run c.requires.spelled.bytes input c.requires.spelled.spelled c.requires.drawn)
     c.in_ok-tape.ensures.whole c.in_ok-lifted.ensures.fits c.in_ok-script.ensures
     (c.in_ok-print_tape.ensures.ok
     ∙ ap (λ (xs : List ℕ). xs ++ printed_tape c.in_ok-lifted.lifted)

@@ -6,7 +6,8 @@ use Rattle.tk_kernel.specs.Chosen.{has_bit}
 use Rattle.tk_bloom.specs.Filters.{marks_of, positions_of}
 use Rattle.tk_bloom.specs.Windows.{Kept}
 use Rattle.tk_member.specs.Epochs.{filter_of}
-use Rattle.tk_member.proofs.Marked.{passing-below, passing-few, marks-are}
+use Rattle.tk_report.proofs.Offers.{passing-below}
+use Rattle.tk_member.proofs.Marked.{passing-few, marks-are}
 use Rattle.tk_member.proofs.marks.filter_of.Goals as goal
 
 pub restore-requires-clause-few : goal.restore-requires-clause-few

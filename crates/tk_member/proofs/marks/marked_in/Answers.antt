@@ -1,7 +1,7 @@
 -- A position that is marked comes behind the earlier ones, and another changes nothing.
 use Rattle.std.proofs.Common.{◌∙◌, sym, ap, List, ℕ, [], ◌∷◌, ◌++◌, Vec, Global}
 use Rattle.tk_kernel.specs.Chosen.{has_bit}
-use Rattle.tk_member.proofs.Marked.{passes-next, fails-next}
+use Rattle.tk_report.proofs.Offers.{passes-next, fails-next}
 use Rattle.tk_member.proofs.marks.marked_in.Goals as goal
 use Rattle.tk_member.proofs.marks.marked_in.Goals.{then-bit+in_ok-push, else-bit}
 

@@ -7,7 +7,7 @@ use Rattle.tk_client.specs.declared.got.Got.{Got}
 use Rattle.tk_client.specs.Reader.{got_in}
 use Rattle.tk_packets.specs.Packets.{PacketView}
 use Rattle.tk_member.specs.News.{news_of, news_from}
-use Rattle.tk_member.proofs.Marked.{flat_map-next}
+use Rattle.tk_report.proofs.Offers.{flat_map-next}
 use Rattle.tk_member.proofs.telling.tell_news.Goals as goal
 
 pub logs-preserved : goal.logs-preserved

@@ -6,9 +6,10 @@ use Rattle.std.specs.List.{range_with_len, flat_map}
 use Rattle.tk_shape.specs.Lengths.{vector_len}
 use Rattle.tk_frames.specs.declared.read_frame.ReadFrame.{ReadFrame}
 use Rattle.tk_frames.specs.Spelling.{asked_frame}
+use Rattle.tk_report.specs.Exchange.{blank_read}
 use Rattle.tk_relay.specs.Halves.{halves_bytes}
 use Rattle.tk_relay.specs.Pads.{masked}
-use Rattle.tk_relay.specs.Bundles.{IsAlong, blank_read, frame_of, vectors_of}
+use Rattle.tk_relay.specs.Bundles.{IsAlong, frame_of, vectors_of}
 use Rattle.tk_relay.proofs.Bundling.{front-appended, vectors-appended, bundle-appended, bytes_for}
 use Rattle.tk_relay.proofs.Bundling.{room-first, room-next}
 use Rattle.tk_relay.proofs.bundles.bundle.Goals as goal

@@ -4,8 +4,7 @@ use Rattle.tk_schedule.specs.Schedule.{serial_history}
 use Rattle.tk_words.specs.Words.{keyed}
 use Rattle.tk_report.specs.Exchange.{bytes_of}
 use Rattle.tk_relay.specs.Relayed.{relayed_exchange}
-use Rattle.tk_relay.proofs.Fronts.{fronts-none}
-use Rattle.tk_relay.proofs.Results.{on_err}
+use Rattle.tk_io.proofs.Offers.{fronts-none, on_err}
 use Rattle.tk_relay.proofs.relaying.relayed.Goals as goal
 
 pub returns-in_err-blank-clause-err : goal.returns-in_err-blank-clause-err

@@ -10,10 +10,9 @@ use Rattle.tk_report.specs.Exchange.{bytes_of}
 use Rattle.tk_report.specs.Outcomes.{IsLeftBy}
 use Rattle.tk_io.specs.Tapped.{TapsGain, TapsGainFronts}
 use Rattle.tk_relay.specs.Relayed.{relayed_exchange}
-use Rattle.tk_relay.proofs.Fronts.{fronts-none}
+use Rattle.tk_io.proofs.Offers.{fronts-none, on_err}
 use Rattle.tk_relay.proofs.EndedLaws.{closed-order, run-ended, all-given}
 use Rattle.tk_relay.proofs.OrderedLaws.{ordered-once}
-use Rattle.tk_relay.proofs.Results.{on_err}
 use Rattle.tk_relay.proofs.WrittenLaws.{run-first}
 use Rattle.tk_relay.proofs.relaying.relayed_over.Goals as goal
 

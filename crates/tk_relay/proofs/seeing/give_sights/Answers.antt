@@ -3,8 +3,7 @@ use Rattle.std.proofs.Common.{◌≡◌, ◌+◌, ◌-◌, ◌<◌, ap, ◌∙�
 use Rattle.std.specs.Prelude.{slice_index_or}
 use Rattle.std.proofs.lemmas.List.{get_or_default}
 use Rattle.tk_io.specs.Tapped.{GainsFront}
-use Rattle.tk_relay.proofs.Fronts.{fronts-here, kept-here}
-use Rattle.tk_relay.proofs.Results.{on_err}
+use Rattle.tk_io.proofs.Offers.{fronts-here, kept-here, on_err}
 use Rattle.tk_relay.proofs.seeing.give_sights.Goals as goal
 
 pub returns-in_err-put-clause-err : goal.returns-in_err-put-clause-err

@@ -10,9 +10,10 @@ use Rattle.tk_client.specs.Asked.{asked}
 use Rattle.tk_client.specs.Client.{target_over}
 use Rattle.tk_report.specs.Turns.{placed_before}
 use Rattle.tk_relay.specs.Relayed.{frames_read}
-use Rattle.tk_relay.proofs.AskedTurns.{wrote-shape, wrote-closed, epoch-most, client-asks, client-opens}
+use Rattle.tk_report.proofs.Offers.{epoch-most}
+use Rattle.tk_relay.proofs.AskedTurns.{wrote-shape, wrote-closed, client-asks, client-opens}
 use Rattle.tk_relay.proofs.AskedTurns.{reads-in_range}
-use Rattle.tk_relay.proofs.Results.{always}
+use Rattle.tk_io.proofs.Offers.{always}
 use Rattle.tk_relay.proofs.sending.ask.Goals as goal
 
 pub read_frames-requires-clause-one_shape : goal.read_frames-requires-clause-one_shape

@@ -9,7 +9,7 @@ use Rattle.tk_relay.specs.Halves.{HasHalves}
 use Rattle.tk_relay.specs.Parts.{halves_of}
 use Rattle.tk_relay.specs.Serving.{first_asked, second_asked, reply_to_asked}
 use Rattle.tk_relay.proofs.Aside.{asked-counted, place-server, place-shape}
-use Rattle.tk_relay.proofs.Lists.{each-push}
+use Rattle.tk_frames.proofs.Offers.{each-push}
 use Rattle.tk_relay.proofs.ServedParts.{first-counted, second-counted, first-at, second-at, sum-long, reply-at, made-more}
 use Rattle.tk_relay.proofs.serving.replies_with.Goals as goal
 

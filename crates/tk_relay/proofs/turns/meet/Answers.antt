@@ -7,9 +7,9 @@ use Rattle.tk_report.specs.Clients.{AreClients, client_before}
 use Rattle.tk_relay.specs.Relayed.{relayed_turn}
 use Rattle.tk_relay.specs.Reads.{IsReplied, sight_seen}
 use Rattle.tk_relay.specs.Running.{AreRelayed, client_wrote}
-use Rattle.tk_relay.proofs.Lists.{map-same}
+use Rattle.tk_report.proofs.Offers.{map-range}
 use Rattle.tk_relay.proofs.RelayedReads.{all-replied}
-use Rattle.tk_relay.proofs.Results.{always}
+use Rattle.tk_io.proofs.Offers.{always}
 use Rattle.tk_relay.proofs.SeenTurns.{seen-turn}
 use Rattle.tk_relay.proofs.turns.meet.Goals as goal
 
@@ -64,7 +64,7 @@ returns-clause-sights g c =
     (sym c.as_slice-reads.ensures.value) c.in_ok-relayed.ensures.reads
     in
     subst (λ (xs : List (List ℕ)). IfOk c.sights_of.result (λ sights. sights.items ≡ xs))
-    (map-same (sight_seen entries reads) (relayed_turn S book seeds H turn) 1 S.shape.servers
+    (map-range (sight_seen entries reads) (relayed_turn S book seeds H turn) 1 S.shape.servers
     (λ j low high. seen-turn S book seeds H turn j entries reads low (omega (arith, high)) are
     (c.as_slice-entries.ensures.value ∙ c.in_ok-set.ensures.seen)))
     c.sights_of.ensures

@@ -2,7 +2,7 @@
 use Rattle.std.proofs.Common.{◌≡◌, ◌∙◌, arith, refl, subst, le_trans}
 use Rattle.tk_shape.specs.Lengths.{turn_count}
 use Rattle.tk_relay.specs.Running.{IsRunBefore}
-use Rattle.tk_relay.proofs.Results.{on_err}
+use Rattle.tk_io.proofs.Offers.{on_err}
 use Rattle.tk_relay.proofs.SeenTurns.{taps-first, taps-next, taps-all, fronts-next}
 use Rattle.tk_relay.proofs.turns.take_all_turns.Goals as goal
 

@@ -1,8 +1,8 @@
 -- What the taps gain of a turn: all that the servers saw in it, or fronts.
 use Rattle.std.proofs.Common.{◌∙◌, arith}
+use Rattle.tk_io.proofs.Offers.{fronts-none, on_err}
 use Rattle.tk_relay.specs.Relayed.{relayed_turn}
-use Rattle.tk_relay.proofs.Fronts.{fronts-none, sights-counted, sights-gain, sights-fronts, sights-keep}
-use Rattle.tk_relay.proofs.Results.{on_err}
+use Rattle.tk_relay.proofs.SightTaps.{sights-counted, sights-gain, sights-fronts, sights-keep}
 use Rattle.tk_relay.proofs.turns.take_turn.Goals as goal
 
 pub give_sights-requires : goal.give_sights-requires

@@ -2,7 +2,8 @@
 use Rattle.std.proofs.Common.{◌≡◌, ◌∙◌, ℕ, ap, sym, subst, length, arith}
 use Rattle.tk_client.specs.Looking.{new_follower}
 use Rattle.tk_report.specs.Report.{follows_of}
-use Rattle.tk_report.proofs.ClientsLaws.{AreSoFar, none-yet, one-next, length-next}
+use Rattle.tk_lists.proofs.Offers.{length-next}
+use Rattle.tk_report.proofs.ClientsLaws.{AreSoFar, none-yet, one-next}
 use Rattle.tk_report.proofs.opening.open_followers.Goals as goal
 
 pub loop-number-init : goal.loop-number-init

@@ -3,13 +3,14 @@ use Rattle.std.proofs.Common.{◌≡◌, ◌∙◌, ap, sym, subst, List, ℕ, B
 use Rattle.std.proofs.Common.{Option, None, refl}
 use Rattle.std.specs.Prelude.{not}
 use Rattle.std.specs.Str.{bytes_eq}
+use Rattle.std.proofs.lemmas.Bool.{true≢false}
 use Rattle.std.proofs.lemmas.Slice.Eq.{bytes_eq-Decides}
 use Rattle.tk_schedule.specs.declared.raw.RawLine.{RawLine}
 use Rattle.tk_schedule.specs.Due.{bad_line}
 use Rattle.tk_schedule.specs.Told.{Tells, Names}
 use Rattle.tk_script.specs.Grammar.{lines_of}
 use Rattle.tk_report.specs.ReportLines.{bad_report_line}
-use Rattle.tk_report.proofs.OptionLaws.{ok-then}
+use Rattle.std.proofs.lemmas.Result.{IfOk-weaker}
 use Rattle.tk_report.proofs.RawLaws.{bad-none, bad-first, bad-behind, shows-first, shows-some}
 use Rattle.tk_report.proofs.RawLaws.{shown-told}
 use Rattle.tk_report.proofs.parsing.parse_history.Goals as goal
@@ -43,9 +44,6 @@ report-line line word same is other at =
     turn true e = refl
     turn false e = cc e
 
-differ : (b : Bool) → b ≡ true → b ≡ false → ⊥
-differ b p q = cc (p, q)
-
 pub returns-then-ne-clause-only : goal.returns-then-ne-clause-only
 returns-then-ne-clause-only c = λ h shows.
     let first = c.in-Some.first.now in
@@ -55,7 +53,7 @@ returns-then-ne-clause-only c = λ h shows.
     let is = (shows-first c.args.shape.now c.args.bytes.now h first (lines_of c.in-Some.rest.now)
     shows c.in-Some.ensures.line).0
     in
-    differ (bytes_eq first (codes "report")) ((bytes_eq-Decides first (codes "report")).1 is) other
+    true≢false (sym ((bytes_eq-Decides first (codes "report")).1 is) ∙ other)
 
 pub returns-then-ne-clause-bad : goal.returns-then-ne-clause-bad
 returns-then-ne-clause-bad c =
@@ -75,7 +73,7 @@ returns-clause-shown c =
     c.as_slice.ensures
     in
     let is = (bytes_eq-Decides first (codes "report")).0 same in
-    ok-then c.from_raw.result _ _
+    IfOk-weaker c.from_raw.result _ _
     (λ h tells. shown-told shape c.args.bytes.now first rest h c.in-Some.ensures.line is
     (subst (λ (raw : List RawLine). Tells shape raw h) c.in_ok-raw.ensures tells))
     c.from_raw.ensures.told

@@ -6,7 +6,8 @@ use Rattle.tk_run.specs.declared.talking.Talk.{Talk}
 use Rattle.tk_run.specs.Rows.{AreRows}
 use Rattle.tk_run.specs.Courses.{GoesOn, AreTalks, AreSights, HasTalked, talk_seen}
 use Rattle.tk_run.specs.Ranging.{over_ranges}
-use Rattle.tk_run.proofs.ErrorLaws.{always, ok-then}
+use Rattle.tk_io.proofs.Offers.{always}
+use Rattle.std.proofs.lemmas.Result.{IfOk-weaker}
 use Rattle.tk_run.proofs.GoesOnLaws.{filled}
 use Rattle.tk_run.proofs.SightLaws.{some_goes_on, have_talked, sights_seen, read_course}
 use Rattle.tk_run.proofs.course.play_turn.Goals as goal
@@ -44,7 +45,7 @@ returns-clause-sights g c =
     let written = c.in_ok-slips.ensures.written in
     let bytes = c.as_slice.result.now in
     let talks = c.as_slice-2.result.now in
-    ok-then c.sights_from.result
+    IfOk-weaker c.sights_from.result
     (λ v. AreRows S.shape.servers (λ i. bytes ++ flat_map (talk_seen i) talks) v.items)
     (λ v. (H : History) → GoesOn S.shape c.write_turn.new.course.turns.items H →
     AreSights S book H (V H) c.args.turn v.items)

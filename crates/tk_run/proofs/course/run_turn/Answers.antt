@@ -3,7 +3,7 @@ use Rattle.std.proofs.Common.{arith, refl, sym, subst, ap, length}
 use Rattle.tk_schedule.specs.declared.history.History.{History}
 use Rattle.tk_run.specs.Courses.{GoesOn, AreSights}
 use Rattle.tk_run.proofs.CourseStarts.{course_goes}
-use Rattle.tk_run.proofs.GivingLaws.{fronts-none}
+use Rattle.tk_io.proofs.Offers.{fronts-none}
 use Rattle.tk_run.proofs.GoesOnLaws.{filled}
 use Rattle.tk_run.proofs.SightLaws.{some_goes_on}
 use Rattle.tk_run.proofs.Stopping.{turn_stopped}

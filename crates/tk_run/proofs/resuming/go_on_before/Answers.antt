@@ -5,7 +5,8 @@ use Rattle.std.proofs.lemmas.Result.{IfErr-weaker, on_ok_weaker}
 use Rattle.tk_run.specs.declared.resume_error.ResumeError.TheVariants as resume
 use Rattle.tk_run.specs.Keeping.{OneRefuses}
 use Rattle.tk_run.specs.Servers.{IsServer, AreReady, AreServers, alike, nothing_seen}
-use Rattle.tk_run.proofs.ErrorLaws.{always, no-memory}
+use Rattle.tk_io.proofs.Offers.{always}
+use Rattle.tk_run.proofs.ErrorLaws.{no-memory}
 use Rattle.tk_run.proofs.resuming.go_on_before.Goals as goal
 
 pub go_on_all-requires : goal.go_on_all-requires

@@ -1,6 +1,6 @@
 -- A shelf gives back what lies on it last, the checkpoint of what was written.
 use Rattle.std.proofs.Common.{◌*◌, ℕ, subst, sym}
-use Rattle.tk_io.proofs.Offers.{fronts-of_all}
+use Rattle.tk_io.proofs.Offers.{fronts-of_all, fronts-none, on_err}
 use Rattle.tk_shape.specs.declared.shape.Shape.{Shape}
 use Rattle.tk_schedule.specs.Schedule.{IsLegal, serial_history}
 use Rattle.tk_schedule.specs.declared.history.History.{History}
@@ -10,8 +10,6 @@ use Rattle.tk_report.specs.Outcomes.{HasEnded, IsLeftBy}
 use Rattle.tk_report.specs.Turns.{placed_before}
 use Rattle.tk_run.specs.Keeping.{IsAccepted, saved_before}
 use Rattle.tk_run.proofs.EndLaws.{own, own-given, own-gain, own-fronts, own-end}
-use Rattle.tk_run.proofs.ErrorLaws.{on_err}
-use Rattle.tk_run.proofs.GivingLaws.{fronts-none}
 use Rattle.tk_run.proofs.KeepingLaws.{last-given}
 use Rattle.tk_run.proofs.serially.resumed.Goals as goal
 

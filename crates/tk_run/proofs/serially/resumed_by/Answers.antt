@@ -14,8 +14,8 @@ use Rattle.tk_report.specs.Turns.{placed_before}
 use Rattle.tk_run.specs.declared.resume_error.ResumeError.TheVariants as resume
 use Rattle.tk_run.specs.Keeping.{AreAccepted, BeginFrom, HasRefused, HaveAccepted, IsEndUnder}
 use Rattle.tk_run.specs.Keeping.{begun_anew, held_now, saved_before}
-use Rattle.tk_run.proofs.ErrorLaws.{no-memory, on_err, passed-on}
-use Rattle.tk_run.proofs.GivingLaws.{fronts-none}
+use Rattle.tk_io.proofs.Offers.{fronts-none, on_err}
+use Rattle.tk_run.proofs.ErrorLaws.{no-memory, passed-on}
 use Rattle.tk_run.proofs.KeepingLaws.{due-in, kept-since}
 use Rattle.tk_run.proofs.serially.resumed_by.Goals as goal
 

@@ -5,7 +5,8 @@ use Rattle.tk_words.specs.Words.{words_of}
 use Rattle.tk_run.specs.declared.resume_error.ResumeError.TheVariants as resume
 use Rattle.tk_run.specs.Keeping.{held_now, turn_due}
 use Rattle.tk_run.specs.Servers.{nothing_seen}
-use Rattle.tk_run.proofs.ErrorLaws.{on_err, passed-on}
+use Rattle.tk_io.proofs.Offers.{on_err}
+use Rattle.tk_run.proofs.ErrorLaws.{passed-on}
 use Rattle.tk_run.proofs.serially.run_turns.Goals as goal
 
 pub displaced-displaced-requires : goal.displaced-displaced-requires

@@ -1,7 +1,7 @@
 -- Nothing is due, so that the run is that of servers that hold what was written.
 use Rattle.std.proofs.Common.{◌+◌, ℕ, arith, subst}
 use Rattle.tk_io.specs.Tapped.{TapsGain, TapsGainFronts}
-use Rattle.tk_io.proofs.Offers.{fronts-of_all}
+use Rattle.tk_io.proofs.Offers.{fronts-of_all, fronts-none, on_err}
 use Rattle.tk_shape.specs.declared.shape.Shape.{Shape}
 use Rattle.tk_shape.specs.Lengths.{turn_count}
 use Rattle.tk_schedule.specs.Schedule.{serial_history}
@@ -10,8 +10,6 @@ use Rattle.tk_words.specs.Words.{IsBook, words_of}
 use Rattle.tk_report.specs.Exchange.{exchange, bytes_of}
 use Rattle.tk_report.specs.Outcomes.{IsLeftBy}
 use Rattle.tk_run.proofs.EndLaws.{own, own-gain, own-fronts, own-end}
-use Rattle.tk_run.proofs.ErrorLaws.{on_err}
-use Rattle.tk_run.proofs.GivingLaws.{fronts-none}
 use Rattle.tk_run.proofs.serially.serial.Goals as goal
 
 pub returns-in_err-history-clause-err : goal.returns-in_err-history-clause-err

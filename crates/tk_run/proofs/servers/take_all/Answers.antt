@@ -1,6 +1,6 @@
 -- Each server takes the entry, and no other changes meanwhile.
 use Rattle.std.proofs.Common.{arith}
-use Rattle.tk_run.proofs.Changes.{changed-none, changed-next}
+use Rattle.tk_lists.proofs.Offers.{changed-none, changed-next}
 use Rattle.tk_run.proofs.TakingLaws.{Takes, all_take, all_hold, one_may_take}
 use Rattle.tk_run.proofs.servers.take_all.Goals as goal
 

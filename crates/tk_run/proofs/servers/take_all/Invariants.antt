@@ -1,5 +1,5 @@
 -- The servers so far have taken the entry, and the others not.
-use Rattle.tk_run.proofs.Changes.{ChangedUpTo}
+use Rattle.tk_lists.proofs.Offers.{ChangedUpTo}
 use Rattle.tk_run.proofs.TakingLaws.{Takes}
 use Rattle.tk_run.proofs.servers.take_all.Given as goal
 

@@ -1,10 +1,20 @@
 -- A tap that fails has a front of what its server saw.
-use Rattle.std.proofs.Common.{◌≡◌, ◌+◌, ◌-◌, ◌<◌, ap, ◌∙◌, arith, length, [], ℕ, subst}
-use Rattle.std.specs.Prelude.{slice_index_or}
+use Rattle.std.proofs.Common.{◌≡◌, ◌+◌, ◌-◌, ◌<◌, ap, ◌∙◌, arith, length, List, [], ℕ, subst}
+use Rattle.std.specs.Prelude.{slice_index_or, Option, Result, Ok, Err}
+use Rattle.std.specs.Result.{IsErr}
 use Rattle.std.proofs.lemmas.List.{get_or_default}
-use Rattle.tk_io.specs.Tapped.{GainsFront}
-use Rattle.tk_run.proofs.Fronts.{fronts-here, kept-here, failed}
+use Rattle.tk_io.specs.Tapped.{GainsFront, TapsGainFronts, TapsKeepBut}
+use Rattle.tk_io.proofs.Offers.{fronts-here, kept-here}
+use Rattle.tk_run.specs.Threads.{TapsAfter}
 use Rattle.tk_run.proofs.tap_bytes.give_sights.Goals as goal
+
+-- an error with fronts
+failed : {X E : Type 0} (r : Result X E) (n : ℕ) (bytes : ℕ → List ℕ)
+    (old new : ℕ → Option (List ℕ)) → IsErr r → TapsGainFronts n bytes old new →
+    TapsKeepBut n old new → TapsAfter r n bytes old new
+failed (Ok x) n bytes old new is fronts keep = absurd (cc is)
+failed (Err d) n bytes old new is fronts keep =
+    record { ok = tt; err = fronts; others = keep }
 
 pub returns-in_err-put-clause-taps : goal.returns-in_err-put-clause-taps
 returns-in_err-put-clause-taps g c =

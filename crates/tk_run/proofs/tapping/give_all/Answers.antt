@@ -2,7 +2,7 @@
 use Rattle.std.proofs.Common.{◌≡◌, ◌<◌, ◌∙◌, ap, length, length-set, arith}
 use Rattle.std.specs.Prelude.{slice_index_or}
 use Rattle.tk_run.specs.declared.server.Server.{Server}
-use Rattle.tk_run.proofs.ErrorLaws.{on_err}
+use Rattle.tk_io.proofs.Offers.{on_err}
 use Rattle.tk_run.proofs.GivingLaws.{gave-more, gave-ready, gave-servers, gave-taps, gave-fronts}
 use Rattle.tk_run.proofs.tapping.give_all.Goals as goal
 

@@ -2,7 +2,7 @@
 use Rattle.std.proofs.Common.{◌∙◌, ap, arith, length, sym, subst}
 use Rattle.tk_run.specs.Rows.{AreRows}
 use Rattle.tk_run.specs.Under.{posed, replied_under}
-use Rattle.tk_run.proofs.ErrorLaws.{always}
+use Rattle.tk_io.proofs.Offers.{always}
 use Rattle.tk_run.proofs.PlacingLaws.{servers-order}
 use Rattle.tk_run.proofs.turn_reads.read_turn.Goals as goal
 

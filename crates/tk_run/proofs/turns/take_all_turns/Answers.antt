@@ -12,7 +12,8 @@ use Rattle.tk_run.specs.Keeping.{AreAccepted, AreGiven, begun_anew, held_now, is
 use Rattle.tk_run.specs.Keeping.{saved_before, turn_due}
 use Rattle.tk_run.specs.Servers.{alike, nothing_seen}
 use Rattle.tk_run.specs.Under.{IsRunning, IsRunUnder}
-use Rattle.tk_run.proofs.ErrorLaws.{on_err, passed-on}
+use Rattle.tk_io.proofs.Offers.{on_err}
+use Rattle.tk_run.proofs.ErrorLaws.{passed-on}
 use Rattle.tk_run.proofs.HoldingLaws.{run-due, run-last, run-next, run-with, serves-anew}
 use Rattle.tk_run.proofs.KeepingLaws.{came-if-kept, is-due, not-due, kept-since, kept-still, kept-then}
 use Rattle.tk_run.proofs.KeepingLaws.{none-before, refused-when-due, still-before}

@@ -6,8 +6,7 @@ use Rattle.tk_report.specs.Entries.{entries_at, write_at}
 use Rattle.tk_report.specs.Turns.{placed_before}
 use Rattle.tk_run.specs.Servers.{AreReady, AreServers, nothing_seen, with_more}
 use Rattle.tk_run.specs.Under.{turn_under}
-use Rattle.tk_run.proofs.ErrorLaws.{on_err}
-use Rattle.tk_run.proofs.GivingLaws.{fronts-none}
+use Rattle.tk_io.proofs.Offers.{fronts-none, on_err}
 use Rattle.tk_run.proofs.turns.take_turn.Goals as goal
 
 pub give_all-requires : goal.give_all-requires

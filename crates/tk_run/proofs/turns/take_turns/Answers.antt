@@ -5,8 +5,8 @@ use Rattle.tk_report.specs.Exchange.{bytes_of}
 use Rattle.tk_report.specs.Serving.{exchange_under}
 use Rattle.tk_run.specs.declared.resume_error.ResumeError.TheVariants as resume
 use Rattle.tk_run.specs.Keeping.{begun_anew, saved_before, turn_due}
-use Rattle.tk_run.proofs.ErrorLaws.{on_err, passed-on}
-use Rattle.tk_run.proofs.GivingLaws.{fronts-none}
+use Rattle.tk_io.proofs.Offers.{fronts-none, on_err}
+use Rattle.tk_run.proofs.ErrorLaws.{passed-on}
 use Rattle.tk_run.proofs.KeepingLaws.{kept-since}
 use Rattle.tk_run.proofs.turns.take_turns.Goals as goal
 

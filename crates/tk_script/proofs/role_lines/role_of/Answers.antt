@@ -2,10 +2,9 @@
 use Rattle.std.proofs.Common.{◌≡◌, ◌∙◌, ◌∷◌, codes, map, decimal, Some, ap, sym, subst, refl}
 use Rattle.std.specs.Prelude.{IfOk}
 use Rattle.std.specs.List.{AllByRecursion}
-use Rattle.tk_script.specs.Grammar.{fields}
+use Rattle.tk_script.specs.Grammar.{fields, IsNumber}
 use Rattle.tk_script.specs.Reading.{named, read_clients}
 use Rattle.tk_script.proofs.CauseLaws.{lacks_by_test}
-use Rattle.tk_script.proofs.FieldLaws.{IsWord}
 use Rattle.tk_script.proofs.OptionLaws.{never, if_some}
 use Rattle.tk_script.proofs.PartLaws.{numbers_after-none, numbers_after-some}
 use Rattle.tk_script.proofs.role_lines.role_of.Goals as goal
@@ -23,7 +22,7 @@ returns c =
     (λ v. c.args.line.now ≡ fields (codes "log" ∷ map decimal v.items)) c.in-Some.numbers
     c.in-Some.is c.in_ok-numbers.ensures.found
     in
-    let words = if_some c.in_ok-numbers.field-0 (λ v. AllByRecursion IsWord v.items)
+    let words = if_some c.in_ok-numbers.field-0 (λ v. AllByRecursion IsNumber v.items)
     c.in-Some.numbers c.in-Some.is c.in_ok-numbers.ensures.words
     in
     let numbers = numbers_after-some (codes "log") c.args.line.now c.in-Some.numbers.items

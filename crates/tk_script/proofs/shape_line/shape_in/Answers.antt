@@ -1,10 +1,9 @@
 -- A shape's line is the word and its numbers.
 use Rattle.std.proofs.Common.{◌≡◌, ◌∙◌, ◌∷◌, codes, map, decimal, Some, ap, sym, subst, refl}
 use Rattle.std.specs.List.{AllByRecursion}
-use Rattle.tk_script.specs.Grammar.{fields}
+use Rattle.tk_script.specs.Grammar.{fields, IsNumber}
 use Rattle.tk_script.specs.Reading.{IsRead, named, read_numbers}
 use Rattle.tk_script.proofs.CauseLaws.{lacks_by_test}
-use Rattle.tk_script.proofs.FieldLaws.{IsWord}
 use Rattle.tk_script.proofs.OptionLaws.{never, if_some}
 use Rattle.tk_script.proofs.PartLaws.{numbers_after-none, numbers_after-some}
 use Rattle.tk_script.proofs.shape_line.shape_in.Goals as goal
@@ -21,7 +20,7 @@ returns c =
     (λ v. c.args.line.now ≡ fields (codes "shape" ∷ map decimal v.items)) c.in-Some.numbers
     c.in-Some.is c.in_ok-numbers.ensures.found
     in
-    let words = if_some c.in_ok-numbers.field-0 (λ v. AllByRecursion IsWord v.items)
+    let words = if_some c.in_ok-numbers.field-0 (λ v. AllByRecursion IsNumber v.items)
     c.in-Some.numbers c.in-Some.is c.in_ok-numbers.ensures.words
     in
     let numbers = numbers_after-some (codes "shape") c.args.line.now c.in-Some.numbers.items

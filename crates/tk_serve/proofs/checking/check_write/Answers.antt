@@ -1,12 +1,12 @@
 -- A frame's own fault comes first, then what is due.
 use Rattle.std.proofs.Common.{Some, None}
-use Rattle.tk_serve.proofs.EndLaws.{if_ok-map}
+use Rattle.std.proofs.lemmas.Result.{IfOk-weaker}
 use Rattle.tk_serve.proofs.CheckLaws.{write-refused, write-placed, write-taken}
 use Rattle.tk_serve.proofs.checking.check_write.Goals as goal
 
 pub returns-in-Err : goal.returns-in-Err
 returns-in-Err c =
-    if_ok-map c.refused.result
+    IfOk-weaker c.refused.result _ _
     (λ x. write-refused c.args.shape.now c.args.due.now c.args.frame.now c.in-Err.error x c.in-Err.ensures.refused)
     c.refused.ensures
 

@@ -1,11 +1,12 @@
 -- The first packet set the server up, and the run went on from there.
 use Rattle.std.proofs.Common.{◌≡◌, ℕ, ◌≤◌, ◌∙◌, length, ap, subst, rules, inl, inr, Some}
+use Rattle.std.proofs.lemmas.Result.{on_ok_weaker, on_err_weaker}
+use Rattle.tk_io.proofs.Offers.{on_err}
 use Rattle.tk_io.specs.Content.{Rose, before_taking}
 use Rattle.tk_shape.specs.declared.shape.Shape.{Shape}
 use Rattle.tk_packets.specs.Packets.{packet_bytes, spelling}
 use Rattle.tk_packets.specs.Lines.{Gone, after_taking}
 use Rattle.tk_serve.specs.Courses.{Told, after_setup, SetUpThen, RanDone, RanCut, RanLong, RanPeer, RanRead, RanFront}
-use Rattle.tk_serve.proofs.EndLaws.{on_ok-map, on_err-map, on_err-holds}
 use Rattle.tk_serve.proofs.FirstLaws.{set-up-then, rose-after}
 use Rattle.tk_serve.proofs.NextLaws.{stops-behind}
 use Rattle.tk_serve.proofs.serving.serve.Goals as goal
@@ -32,14 +33,14 @@ returns g c =
     in
     record {
       done =
-          on_ok-map c.serve_clients.result (λ ran. inr (then (λ shape m gn. RanDone shape m rest gn new) ran))
+          on_ok_weaker c.serve_clients.result (λ ran. inr (then (λ shape m gn. RanDone shape m rest gn new) ran))
           c.serve_clients.ensures.done;
       setup = λ is. absurd (c.serve_clients.ensures.setup is);
       cut = λ is. inr (then (λ shape m gn. RanCut shape m rest gn new) (c.serve_clients.ensures.cut is));
       long = λ is. inr (then (λ shape m gn. RanLong shape m rest gn new) (c.serve_clients.ensures.long is));
       peer = λ is. then (λ shape m gn. RanPeer shape m rest gn new) (c.serve_clients.ensures.peer is);
       front =
-          on_err-map c.serve_clients.result (λ ran. inr (then (λ shape m gn. RanFront shape m rest gn new) ran))
+          on_err_weaker c.serve_clients.result (λ ran. inr (then (λ shape m gn. RanFront shape m rest gn new) ran))
           c.serve_clients.ensures.front;
       whole = λ is. inr (then (λ shape m gn. RanRead shape m rest gn new) (c.serve_clients.ensures.whole is));
       read = λ is. rose-after _ _ _ c.take_packet.ensures.counts (c.serve_clients.ensures.read is);
@@ -70,4 +71,4 @@ returns-in_err-server-clause-front g c =
     let gone = g.L.Line.gone c.args.line.now in
     let now = g.L.Line.gone c.take_packet.new.self in
     let took : now ≡ after_taking (Some first) gone = search rules in
-    on_err-holds c.from_residual.result (inl (stops-behind 52 first left rest gone now comes short took))
+    on_err _ c.from_residual.result (inl (stops-behind 52 first left rest gone now comes short took))

@@ -1,11 +1,11 @@
 -- The mark is the next entry where the turn closes its phase.
 use Rattle.std.proofs.Common.{◌≡◌, ◌+◌, sym, subst, true, false, arith, OnOk, [], ◌∷◌, ◌++◌}
+use Rattle.std.proofs.lemmas.Result.{on_ok_weaker}
 use Rattle.tk_schedule.specs.Schedule.{is_closing}
 use Rattle.tk_frames.specs.declared.entry.Entry.TheVariants.{Mark}
 use Rattle.tk_replica.specs.Replica.{StandsFor}
 use Rattle.tk_report.specs.Turns.{next_placed}
 use Rattle.tk_serve.specs.Desks.{MayComeNext, turn_writes}
-use Rattle.tk_serve.proofs.EndLaws.{on_ok-map}
 use Rattle.tk_serve.proofs.TurnLaws.{last-small, mark-comes, mark-stands, open-stands}
 use Rattle.tk_serve.proofs.turns.apply_mark.Goals as goal
 
@@ -29,7 +29,7 @@ returns-clause-stands c = λ write stands.
     let shape = c.args.shape.now in
     let all = turn_writes shape write c.args.turn in
     let closes : is_closing shape c.args.turn ≡ true = cc in
-    on_ok-map c.apply.result
+    on_ok_weaker c.apply.result
     (mark-stands shape write c.args.turn c.args.state.now c.apply.new.state c.requires.turn closes stands)
     (subst (λ n. OnOk c.apply.result (StandsFor shape (all ++ next_placed all (Mark (n + 1)) ∷ []) c.apply.new.state))
     c.last-epoch.ensures (c.apply.ensures.stands shape all stands))

@@ -5,7 +5,8 @@ use Rattle.std.proofs.lemmas.List.{get_or_default}
 use Rattle.tk_shape.specs.Lengths.{turn_count}
 use Rattle.tk_frames.specs.declared.read_frame.ReadFrame.{ReadFrame}
 use Rattle.tk_words.specs.CellLaws.{place_within}
-use Rattle.tk_privacy.specs.Hiding.{cell_with, blank_read, read_in}
+use Rattle.tk_report.specs.Exchange.{blank_read}
+use Rattle.tk_privacy.specs.Hiding.{cell_with, read_in}
 use Rattle.tk_privacy.proofs.hiding.Hiding.push_read.Goals as goal
 
 pub bounds-self-place : goal.bounds-self-place

@@ -9,9 +9,10 @@ use Rattle.tk_frames.specs.declared.read_frame.ReadFrame.{ReadFrame}
 use Rattle.tk_frames.specs.Spelling.{read_frame}
 use Rattle.tk_frames.specs.Ranges.{AreTold}
 use Rattle.tk_words.specs.CellLaws.{place_within}
-use Rattle.tk_privacy.specs.Hiding.{blank_read, read_in}
+use Rattle.tk_privacy.specs.Hiding.{read_in}
 use Rattle.tk_privacy.specs.Views.{frame_in}
 use Rattle.tk_report.proofs.Offers.{flat_map-next}
+use Rattle.tk_report.specs.Exchange.{blank_read}
 use Rattle.tk_privacy.proofs.watching.Seen.ask.Goals as goal
 
 pub bounds-reads-place : goal.bounds-reads-place

@@ -2,6 +2,7 @@
 use Rattle.std.proofs.Common.{◌≡◌, ◌+◌, ◌∙◌, ◌++◌, ◌∷◌, [], refl, ap, sym, arith, append-nil}
 use Rattle.std.specs.Prelude.{slice_set}
 use Rattle.std.proofs.lemmas.List.{get_or_read}
+use Rattle.std.proofs.lemmas.Result.{on_ok_weaker}
 use Rattle.tk_schedule.specs.Schedule.{phases_over}
 use Rattle.tk_serve.specs.Seats.{with_read, turns_written, newest}
 use Rattle.tk_serve.specs.Desks.{DeskView, desk, empty_desk}
@@ -9,7 +10,6 @@ use Rattle.tk_serve.specs.Stands.{desk_at}
 use Rattle.tk_serve.proofs.SeatLaws.{read-turns}
 use Rattle.tk_serve.proofs.StandsLaws.{stands-with_read, stands-with_waiting}
 use Rattle.tk_serve.proofs.TakeLaws.{stands-as}
-use Rattle.tk_serve.proofs.EndLaws.{on_ok-map}
 use Rattle.tk_serve.proofs.GainLaws.{read-tells, read-waits}
 use Rattle.tk_serve.proofs.TellLaws.{read-low, read-next, read-there, read-past}
 use Rattle.tk_serve.proofs.server.Server.take_read.Goals as goal
@@ -20,7 +20,7 @@ returns-then-read-last-clause-told c = λ shape seats is.
     let r = c.args.read in
     let last = c.last.ensures in
     let past = read-past shape seats s is r c.requires.due (omega (arith, last)) in
-    on_ok-map c.put_read.result
+    on_ok_weaker c.put_read.result
     (λ _. sym (ap (λ ps. c.args.out.now.items ++ ps)
     (read-waits shape seats r.client r is.are (read-low shape seats s is r c.requires.due) past)
     ∙ append-nil c.args.out.now.items))
@@ -48,7 +48,7 @@ returns-then-read-last-clause-stands c = λ shape seats is.
     let at : c.index_mut.result.now ≡ desk_at s r.client =
     get_or_read s.desks.items _ _ c.requires.due.low c.index_mut.ensures.value empty_desk
     in
-    on_ok-map c.put_read.result
+    on_ok_weaker c.put_read.result
     (λ put. stands-as shape (with_read seats r.client r) g (newest shape seats)
     (turns_written shape (with_read seats r.client r)) (newest shape (with_read seats r.client r)) _
     (sym turns) (ap (phases_over shape) (sym turns))

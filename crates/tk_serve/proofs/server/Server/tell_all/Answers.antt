@@ -3,12 +3,12 @@ use Rattle.std.proofs.Common.{◌≡◌, ◌+◌, ◌*◌, ◌^◌, ◌<◌, ◌
 use Rattle.std.proofs.Common.{take}
 use Rattle.std.specs.Prelude.{All}
 use Rattle.std.proofs.lemmas.List.{with_items_is, length-map}
+use Rattle.std.proofs.lemmas.Result.{on_ok_weaker}
 use Rattle.tk_shape.specs.declared.shape.Shape.{Shape}
 use Rattle.tk_replica.specs.Epochs.{IsEpochOf}
 use Rattle.tk_serve.specs.Seats.{placed_to}
 use Rattle.tk_serve.specs.Desks.{DeskView, desk_answered}
 use Rattle.tk_serve.specs.Answering.{MayAnswer, news_for}
-use Rattle.tk_serve.proofs.EndLaws.{on_ok-map}
 use Rattle.tk_serve.proofs.StandsLaws.{desks-clients, stands-next_epoch}
 use Rattle.tk_serve.proofs.TellLaws.{last-is, tell-small, tell-reads, tell-told}
 use Rattle.tk_serve.proofs.server.Server.tell_all.Goals as goal
@@ -47,7 +47,7 @@ pub returns-clause-stands : goal.returns-clause-stands
 returns-clause-stands c = λ shape seats g n is more.
     let s = c.args.self.now in
     let same : c.as_mut_slice.result.now ≡ s.desks.items = search rules in
-    on_ok-map c.tell_desks.result
+    on_ok_weaker c.tell_desks.result
     (λ desks.
     let answered = desks ∙ ap (map (desk_answered s.shape.ticks)) same in
     let long : length c.tell_desks.new.desks ≡ (s.desks).len =
@@ -67,7 +67,7 @@ returns-clause-told c = λ shape seats g n is more.
     subst (λ e. IsEpochOf shape (placed_to shape seats g) e epoch) (c.last.ensures ∙ last-is shape seats g n s is more)
     (c.epoch-epoch.ensures.stands shape (placed_to shape seats g) is.state_is)
     in
-    on_ok-map c.tell_desks.result
+    on_ok_weaker c.tell_desks.result
     (λ told. told ∙ ap (λ ps. c.args.out.now.items ++ ps)
     (ap (news_for s.shape epoch 0) same ∙ tell-told shape seats g n s is more epoch kept))
     c.tell_desks.ensures.told
