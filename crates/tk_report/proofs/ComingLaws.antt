@@ -3,7 +3,7 @@ use Rattle.std.proofs.Common.{◌≡◌, refl, ap, ap₂, sym, ◌∙◌, subst,
 use Rattle.std.proofs.Common.{◌<◌, ◌≤◌}
 use Rattle.std.proofs.Common.{List, [], ◌∷◌, ◌++◌, length, take, cond}
 use Rattle.std.proofs.Common.{count_by, get_or, length-append, zero-mul, suc-mul, add-one}
-use Rattle.std.proofs.Common.{append-nil, append_assoc}
+use Rattle.std.proofs.Common.{append_assoc}
 use Rattle.std.proofs.lemmas.List.{take_more, take_all}
 use Rattle.std.proofs.lemmas.List.Sums.{sum_by-cons, sum_by-append, count_by-le-length}
 use Rattle.std.proofs.Math.Nat.{mul-le-mul_right, mul_comm, div-lt_iff_lt-mul}
@@ -251,28 +251,11 @@ module _ (S : Script) (w : BookWords) (H : History) (g : ℕ) where
       ∙ ap₂ (λ (n k : ℕ). some ++ record { position = n; entry = entry_due write k x } ∷ [])
       at counted
 
-  -- and with those of the turns before
-  pub so_far-more : (i : ℕ) (d : Item) → i < length (order_at H g) →
-      placed_so_far S w H g (i + 1)
-      ≡ placed_so_far S w H g i
-      ++ next_placed (placed_so_far S w H g i)
-      (entry_due (write_at S w g) (mark_count (placed_so_far S w H g i) + 1)
-      (get_or (order_at H g) i d))
-      ∷ []
-  so_far-more i d within =
-      ap (λ (ps : List Placed). placed_before S w H g ++ ps) (in-more i d within)
-      ∙ sym (append_assoc (placed_before S w H g) (placed_in S w H g i) _)
-
   -- before any item there are none
   pub in-none : placed_in S w H g 0 ≡ []
   unfolding placed_in placed_from
   in-none =
       ap (placed_after (write_at S w g) (placed_before S w H g)) (take-none (order_at H g))
-
-  pub so_far-none : placed_before S w H g ≡ placed_so_far S w H g 0
-  so_far-none =
-      sym (ap (λ (ps : List Placed). placed_before S w H g ++ ps) in-none
-      ∙ append-nil (placed_before S w H g))
 
   -- past the last item there are no more
   pub in-past : (i : ℕ) → length (order_at H g) ≤ i →

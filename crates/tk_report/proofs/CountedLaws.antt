@@ -1,183 +1,114 @@
--- The count of an order's displaced writes, when it is opened and takes one more entry.
+-- The count of a run's entries, when one more comes.
 use Rattle.std.proofs.Common.{◌≡◌, ◌∙◌, ℕ, ◌+◌, ◌^◌, ◌<◌, ◌≤◌, refl, ap, sym, subst, arith}
 use Rattle.std.proofs.Common.{Bool, true, false, cond, List, [], ◌∷◌, ◌++◌, length, length-append}
-use Rattle.std.proofs.Common.{take, count_by, map}
 use Rattle.std.specs.Prelude.{All, ◌↔◌}
 use Rattle.std.proofs.lemmas.List.Elements.{All-weaker}
-use Rattle.std.proofs.lemmas.List.{length-take}
 use Rattle.tk_shape.specs.declared.shape.Shape.{Shape}
-use Rattle.tk_shape.specs.Lengths.{turn_count}
-use Rattle.tk_schedule.specs.declared.history.History.{History}
-use Rattle.tk_schedule.specs.Schedule.{IsLegal, order_at}
-use Rattle.tk_script.specs.declared.script.Script.{Script}
-use Rattle.tk_words.specs.Words.{BookWords}
 use Rattle.tk_frames.specs.declared.write_frame.WriteFrame.{WriteFrame}
 use Rattle.tk_frames.specs.declared.entry.Placed.{Placed as AtPlace}
 use Rattle.tk_frames.specs.declared.entry.Entry.TheVariants.{Write, Mark}
-use Rattle.tk_frames.specs.Order.{Record, is_mark_entry, records}
+use Rattle.tk_frames.specs.InOrder.{IsNext}
+use Rattle.tk_frames.specs.Order.{Record, records}
+use Rattle.tk_frames.specs.Ranges.{IsEntry, IsWrite}
 use Rattle.tk_frames.proofs.Offers.{record_of, records-write, records-mark}
-use Rattle.tk_frames.proofs.Offers.{length-writes_and_marks, turn_count_small}
+use Rattle.tk_frames.proofs.Offers.{length-writes_and_marks, order-push}
 use Rattle.tk_table.specs.declared.table.Put.{Put}
 use Rattle.tk_table.specs.declared.table.Put.TheVariants.{Placed, Displaced}
 use Rattle.tk_table.specs.Ordered.{AreOrdered}
 use Rattle.tk_table.specs.Stands.{Kept, TableStandsFor, IsWrite as IsRecord}
 use Rattle.tk_table.specs.Table.{is_displaced}
+use Rattle.tk_table.proofs.Offers.{order-writes}
 use Rattle.tk_report.specs.declared.count.Count.{Count}
-use Rattle.tk_report.specs.Blanks.{HasPair, blanked, blank_records}
-use Rattle.tk_report.specs.Counts.{HasCounted}
+use Rattle.tk_report.specs.Counts.{HasCounted, MayCount}
 use Rattle.tk_report.specs.Displaced.{displaced_on}
-use Rattle.tk_report.specs.Entries.{entries_before, write_at}
-use Rattle.tk_report.specs.Turns.{placed_before, placed_in, placed_so_far, next_placed}
-use Rattle.tk_report.proofs.BlankLaws.{push-blanked, displaced-blanked, ordered-blanked}
-use Rattle.tk_report.proofs.ComingLaws.{in-past, so_far-none, so_far-all}
 use Rattle.tk_report.proofs.DisplacedLaws.{displaced-more, displaced-few}
-use Rattle.tk_report.proofs.RecordLaws.{ordered-front}
-use Rattle.tk_report.proofs.StorableLaws.{entries-few, one-mark}
-use Rattle.tk_report.proofs.TurnEntries.{length-placed_from}
+use Rattle.tk_report.proofs.OrderCounts.{next-few}
 
--- ---- there are few entries
+-- ---- it may come
 
--- a turn has at most 65
-pub so_far-few : (S : Script) (w : BookWords) (H : History) (g i : ℕ) → IsLegal S.shape H →
-    g < turn_count S.shape → length (placed_so_far S w H g i) + 1 < 2 ^ 32
-unfolding placed_in
-so_far-few S w H g i legal low =
-    let E = placed_before S w H g in
-    let items = take i (order_at H g) in
-    let write = write_at S w in
+-- there are few enough displaced writes to count one more
+pub count-room : (p : AtPlace) (c : Count) → MayCount p c → c.displaced + 1 < 2 ^ 32
+count-room p c may =
     omega (
       arith,
-      length-append E (placed_in S w H g i),
-      length-placed_from (write g) (length E + 1) (count_by is_mark_entry E + 1) items,
-      length-take i (order_at H g),
-      (legal.each_turn g low).counted,
-      one-mark S.shape g,
-      S.shape.in_range.clients_high,
-      entries-few S.shape write H g legal (omega (arith, low)),
-      turn_count_small S.shape,
+      may.counted.displaced,
+      displaced-few may.shape [] [] (records may.E),
+      length-writes_and_marks may.E,
+      next-few may.shape may.E p may.next,
     )
 
--- so that their writes can be counted
-pub count-room : (shape : Shape) (E : List AtPlace) (c : Count) → HasCounted shape E c →
-    length E + 1 < 2 ^ 32 → c.displaced + 1 < 2 ^ 32
-count-room shape E c counted few =
-    omega (
-      arith,
-      counted.displaced,
-      displaced-few shape [] [] (records E),
-      length-writes_and_marks E,
-      few,
-    )
+-- it comes behind those in the table
+pub next-above : (p : AtPlace) (c : Count) → MayCount p c → All (λ k. k < p.position) c.table.positions
+next-above p c may =
+    All-weaker (λ k. k ≤ c.entries) (λ k. k < p.position)
+    (λ k low. omega (arith, low, may.counted.entries, may.next.at)) c.table.positions
+    may.counted.latest
 
--- ---- one more entry
+-- a write is in range
+pub next-write : (p : AtPlace) (c : Count) (w : WriteFrame) → MayCount p c → p.entry ≡ Write w →
+    IsWrite c.table.shape w
+next-write p c w may at =
+    subst (λ (shape : Shape). IsWrite shape w) (sym may.counted.same)
+    (subst (IsEntry may.shape) at may.next.in_range.entry)
 
--- what a write makes of a table and of the count
-abbrev Counts : Kept → Kept → ℕ → ℕ → ℕ → ℕ × ℕ → List ℕ → Type 0
-Counts old new was is position pair block =
+-- ---- it comes
+
+-- what a table makes of a write, and what becomes of the write
+abbrev Stands : Kept → Kept → ℕ → ℕ × ℕ → List ℕ → Type 0
+Stands old new position pair block =
     (R : List Record) (r : Record) → TableStandsFor old R → AreOrdered old.shape R →
-    IsRecord r position pair block →
-    TableStandsFor new (R ++ r ∷ []) × (is ≡ was + cond (is_displaced old.shape R r) 1 0)
+    IsRecord r position pair block → TableStandsFor new (R ++ r ∷ [])
+
+abbrev Displaces : Kept → Put → ℕ → ℕ × ℕ → List ℕ → Type 0
+Displaces old put position pair block =
+    (R : List Record) (r : Record) → TableStandsFor old R → AreOrdered old.shape R →
+    IsRecord r position pair block → (put ≡ Displaced) ↔ (is_displaced old.shape R r ≡ true)
 
 -- a write is counted
-pub counted-write : (shape : Shape) (E : List AtPlace) (old new : Count) (w : WriteFrame)
-    (pair : ℕ × ℕ) → HasCounted shape E old → HasPair w pair →
-    AreOrdered shape (records (E ++ next_placed E (Write w) ∷ [])) →
-    new.entries ≡ old.entries + 1 → new.table.shape ≡ old.table.shape →
-    new.block.items ≡ old.block.items →
-    All (λ p. p ≤ old.entries + 1) new.table.positions →
-    Counts old.table new.table old.displaced new.displaced (old.entries + 1) pair
-    old.block.items →
-    HasCounted shape (E ++ next_placed E (Write w) ∷ []) new
-counted-write shape E old new w pair counted goes ordered entries same block latest takes =
-    let p = next_placed E (Write w) in
-    let r = record_of p w in
+pub counted-write : (shape : Shape) (E : List AtPlace) (c : Count) (t : Kept) (n : ℕ) (put : Put)
+    (p : AtPlace) (w : WriteFrame) → HasCounted shape E c → IsNext shape E p → p.entry ≡ Write w →
+    t.shape ≡ c.table.shape → All (λ k. k ≤ p.position) t.positions →
+    Stands c.table t p.position (w.first, w.second) w.block →
+    Displaces c.table put p.position (w.first, w.second) w.block →
+    ((d : Bool) → (put ≡ Displaced) ↔ (d ≡ true) → n ≡ c.displaced + cond d 1 0) →
+    HasCounted shape (E ++ p ∷ []) (record { table = t; entries = p.position; displaced = n })
+counted-write shape E c t n put p w is next at same latest stands displaces adds =
     let R = records E in
-    let b = blanked shape in
-    let writes : R ++ r ∷ [] ≡ records (E ++ p ∷ []) = sym (records-write E p w refl) in
-    let blanks : blank_records shape E ++ b r ∷ [] ≡ blank_records shape (E ++ p ∷ []) =
-    push-blanked shape R r ∙ ap (map b) writes
-    in
-    let at : length E + 1 ≡ old.entries + 1 = omega (arith, counted.entries) in
-    let before = ordered-front shape R (r ∷ []) (subst (AreOrdered shape) (sym writes) ordered) in
-    let took = takes (blank_records shape E) (b r) counted.table
-    (subst (λ (sh : Shape). AreOrdered sh (blank_records shape E)) (sym counted.same)
-    (ordered-blanked shape R before))
-    (record {
-      position = at;
-      first = goes.first;
-      second = goes.second;
-      block = sym counted.blank;
-    })
-    in
+    let r = record_of p w in
+    let writes : R ++ r ∷ [] ≡ records (E ++ p ∷ []) = sym (records-write E p w at) in
+    let ordered = subst (λ (sh : Shape). AreOrdered sh R) (sym is.same) (order-writes shape E is.order) in
+    let here : IsRecord r p.position (w.first, w.second) w.block =
+    record { position = refl; first = refl; second = refl; block = refl } in
     record {
-      same = same ∙ counted.same;
-      blank = block ∙ counted.blank;
-      table = subst (TableStandsFor new.table) blanks took.0;
-      latest = subst (λ (n : ℕ). All (λ p. p ≤ n) new.table.positions) (sym entries) latest;
-      entries = entries ∙ sym at ∙ sym (length-append E (p ∷ []));
+      order = order-push shape E p is.order next;
+      same = same ∙ is.same;
+      table = subst (TableStandsFor t) writes (stands R r is.table ordered here);
+      latest = latest;
+      entries = next.at ∙ sym (length-append E (p ∷ []));
       displaced =
-          took.1
-          ∙ ap (λ (n : ℕ). n + cond (is_displaced old.table.shape (blank_records shape E) (b r)) 1 0)
-          counted.displaced
-          ∙ ap (λ (sh : Shape). displaced_on shape [] [] R
-          + cond (is_displaced sh (blank_records shape E) (b r)) 1 0) counted.same
-          ∙ ap (λ (t : Bool). displaced_on shape [] [] R + cond t 1 0) (displaced-blanked shape R r)
+          adds (is_displaced c.table.shape R r) (displaces R r is.table ordered here)
+          ∙ ap (λ (sh : Shape). c.displaced + cond (is_displaced sh R r) 1 0) is.same
+          ∙ ap (λ (k : ℕ). k + cond (is_displaced shape R r) 1 0) is.displaced
           ∙ sym (displaced-more shape R r)
           ∙ ap (displaced_on shape [] []) writes;
     }
 
--- what came before comes before the next
-pub latest-below : (n : ℕ) (positions : List ℕ) → All (λ p. p ≤ n) positions →
-    All (λ p. p ≤ n + 1) positions
-latest-below n positions latest =
-    All-weaker (λ p. p ≤ n) (λ p. p ≤ n + 1) (λ p low. omega (arith, low)) positions latest
-
 -- a mark changes no count
-pub counted-mark : (shape : Shape) (E : List AtPlace) (c : Count) (e : ℕ) →
-    HasCounted shape E c →
-    HasCounted shape (E ++ next_placed E (Mark e) ∷ []) (record c { entries = c.entries + 1 })
-counted-mark shape E c e counted =
-    let p = next_placed E (Mark e) in
-    let none : records E ≡ records (E ++ p ∷ []) = sym (records-mark E p e refl) in
+pub counted-mark : (shape : Shape) (E : List AtPlace) (c : Count) (p : AtPlace) (e : ℕ) →
+    HasCounted shape E c → IsNext shape E p → p.entry ≡ Mark e →
+    HasCounted shape (E ++ p ∷ []) (record c { entries = p.position })
+counted-mark shape E c p e is next at =
+    let none : records E ≡ records (E ++ p ∷ []) = sym (records-mark E p e at) in
     record {
-      same = counted.same;
-      blank = counted.blank;
-      table = subst (λ (R : List Record).
-          TableStandsFor c.table (map (blanked shape) R)) none counted.table;
-      latest = latest-below c.entries c.table.positions counted.latest;
-      entries = omega (arith, counted.entries, length-append E (p ∷ []));
-      displaced = counted.displaced ∙ ap (displaced_on shape [] []) none;
+      order = order-push shape E p is.order next;
+      same = is.same;
+      table = subst (TableStandsFor c.table) none is.table;
+      latest =
+          All-weaker (λ k. k ≤ c.entries) (λ k. k ≤ p.position)
+          (λ k low. omega (arith, low, is.entries, next.at)) c.table.positions is.latest;
+      entries = next.at ∙ sym (length-append E (p ∷ []));
+      displaced = is.displaced ∙ ap (displaced_on shape [] []) none;
     }
-
--- ---- the entries of a turn
-
-pub counted-same : (shape : Shape) (E F : List AtPlace) (c : Count) → E ≡ F →
-    HasCounted shape E c → HasCounted shape F c
-counted-same shape E F c same is = subst (λ (ps : List AtPlace). HasCounted shape ps c) same is
-
-module _ (S : Script) (w : BookWords) (H : History) (g : ℕ) where
-  -- before any item
-  pub counted-none : (c : Count) → HasCounted S.shape (placed_before S w H g) c →
-      HasCounted S.shape (placed_so_far S w H g 0) c
-  counted-none c is =
-      counted-same S.shape (placed_before S w H g) (placed_so_far S w H g 0) c
-      (so_far-none S w H g) is
-
-  -- and of all
-  pub counted-all : (i : ℕ) (c : Count) → length (order_at H g) ≤ i →
-      HasCounted S.shape (placed_so_far S w H g i) c →
-      HasCounted S.shape (placed_before S w H (g + 1)) c
-  counted-all i c past is =
-      counted-same S.shape (placed_so_far S w H g i) (placed_before S w H (g + 1)) c
-      (ap (λ (ps : List AtPlace). placed_before S w H g ++ ps) (in-past S w H g i past)
-      ∙ so_far-all S w H g) is
-
--- ---- the first turn
-
-pub counted-first : (S : Script) (w : BookWords) (H : History) (c : Count) →
-    HasCounted S.shape [] c → HasCounted S.shape (placed_before S w H 0) c
-unfolding entries_before
-counted-first S w H c is = is
 
 -- ---- what became of a write
 

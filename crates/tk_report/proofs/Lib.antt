@@ -40,10 +40,8 @@ pub mod DisplacedLaws
 pub mod SaidLaws
 pub mod CountedLaws
 pub mod OrderCounts
-pub mod BlankLaws
 pub mod ListingLaws
 pub mod SendingsLaws
-pub mod PairLaws
 pub mod examples
 pub mod LiftedLaws
 pub mod JoiningLaws

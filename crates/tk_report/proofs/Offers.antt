@@ -45,7 +45,7 @@ pub use Rattle.tk_report.proofs.LedgerLaws.{keeps-first}
 pub use Rattle.tk_report.proofs.WritingLaws.{after-none, after-next, after-item, after-all}
 pub use Rattle.tk_report.proofs.WritingLaws.{client-below}
 pub use Rattle.tk_report.proofs.ComingLaws.{IsDue, item-due, in-none, in-past}
-pub use Rattle.tk_report.proofs.ComingLaws.{so_far-none, so_far-all, turn-done}
+pub use Rattle.tk_report.proofs.ComingLaws.{turn-done}
 pub use Rattle.tk_report.proofs.ListTests.{list_all-at}
 -- what clients know before a run, and in it
 pub use Rattle.tk_report.proofs.ClientsLaws.{clients-first, clients-know, group-first}

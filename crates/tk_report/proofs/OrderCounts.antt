@@ -89,37 +89,6 @@ next-few shape E p next =
     in
     omega (arith, next.at, next.in_range.position_high, writes, shape.in_range.phases_high)
 
--- ---- the next entry of an order is counted
-
-pub may-count : (p : AtPlace) (c : Count) → MayCountNext p c → MayCount c
-may-count p c may =
-    record {
-      shape = may.shape;
-      E = may.E;
-      counted = may.counted;
-      few = next-few may.shape may.E p may.next;
-    }
-
--- its buckets, where it is a write
-pub next-pair : (p : AtPlace) (c : Count) (w : WriteFrame) → MayCountNext p c →
-    p.entry ≡ Write w → IsPair c.table.shape (w.first, w.second)
-next-pair p c w may at =
-    let is : IsWrite may.shape w = subst (IsEntry may.shape) at may.next.in_range.entry in
-    subst (λ (shape : Shape). IsPair shape (w.first, w.second)) (sym may.counted.same)
-    (is.first, is.second)
-
-abbrev at_place : ℕ → Entry → AtPlace
-at_place position entry = record { position = position; entry = entry }
-
-pub placed-next : (shape : Shape) (E : List AtPlace) (p : AtPlace) (entry : Entry) →
-    IsNext shape E p → p.entry ≡ entry → next_placed E entry ≡ p
-placed-next shape E p entry next at =
-    ap₂ at_place (sym next.at) (sym at)
-
-pub writes-next : (shape : Shape) (E : List AtPlace) (p : AtPlace) → IsOrder shape E →
-    IsNext shape E p → AreOrdered shape (records (E ++ p ∷ []))
-writes-next shape E p order next = order-writes shape (E ++ p ∷ []) (order-push shape E p order next)
-
 -- ---- the entries of an order, one after the other
 
 pub front-none : (E : List AtPlace) → [] ≡ take 0 E
@@ -134,11 +103,6 @@ module _ (shape : Shape) (E : List AtPlace) (order : IsOrder shape E) (i : ℕ) 
       subst (λ (q : AtPlace). IsNext shape (take i E) q) (sym at)
       (subst (λ (n : ℕ). IsNextAt shape (n + 1) (mark_count (take i E) + 1) (slice_index_or E i p))
       (sym long) (order-entry shape E i p order low))
-
-  pub front-ordered : IsOrder shape (take i E)
-  front-ordered =
-      order-front shape (take i E) (drop i E)
-      (subst (IsOrder shape) (sym (take-append-drop i E)) order)
 
   pub front-more : take i E ++ p ∷ [] ≡ take (i + 1) E
   front-more =

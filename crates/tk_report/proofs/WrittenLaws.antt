@@ -1,6 +1,6 @@
 -- The writes of a run: what each is, and where it stands.
 use Rattle.std.proofs.Common.{◌≡◌, refl, ap, ap₂, sym, ◌∙◌, subst, arith, true, false, cond}
-use Rattle.std.proofs.Common.{ℕ, zero, suc, ◌+◌, ◌<◌, zero-add, count_by, take}
+use Rattle.std.proofs.Common.{ℕ, zero, suc, ◌+◌, ◌<◌, zero-add, count_by}
 use Rattle.std.proofs.Common.{List, [], ◌∷◌, ◌++◌, length, Option, Some, None}
 use Rattle.std.specs.List.{AllByRecursion}
 use Rattle.std.specs.Option.{option_map}
@@ -29,7 +29,6 @@ use Rattle.tk_report.proofs.RecordLaws.{ArePlacedFrom}
 use Rattle.tk_report.proofs.RecordLaws.{records-ascend}
 use Rattle.tk_report.proofs.RecordLaws.{ordered-front}
 use Rattle.tk_report.specs.Delivered.{IsWritten, EachIsWritten, EpochsOrdered}
-use Rattle.tk_report.specs.Turns.{placed_in, placed_so_far}
 
 -- ---- what each write is
 
@@ -142,27 +141,6 @@ entries-placed write H (suc g) =
     let marks = count_by is_mark_entry E + 1 in
     placed-behind 1 E (placed_after (write g) E (order_at H g)) (entries-placed write H g)
     (placed_from-placed (write g) (length E + 1) marks (order_at H g))
-
--- the writes of the first items of a turn, after those of the turns before, are in order
-pub so_far-ordered : (S : Script) (b : WordBook) (H : History) (g i : ℕ) →
-    AreOrdered S.shape (records (placed_so_far S (words_of S.shape b) H g i))
-unfolding placed_in
-so_far-ordered S b H g i =
-    let write = write_at S (words_of S.shape b) in
-    let items = take i (order_at H g) in
-    let E = entries_before write H g in
-    let F = placed_after (write g) E items in
-    let marks = count_by is_mark_entry E + 1 in
-    record {
-      ascend = records-ascend 1 (E ++ F)
-          (placed-behind 1 E F (entries-placed write H g)
-          (placed_from-placed (write g) (length E + 1) marks items));
-      within = subst (AllByRecursion (HasBuckets S.shape)) (sym (records-append E F))
-          (each-append (HasBuckets S.shape) (records E) (records F)
-          (turns-own (HasBuckets S.shape) write H g (λ k q c _. write_at-buckets S b k q c))
-          (turn-own (HasBuckets S.shape) (write g) (length E + 1) marks items
-          (λ q c. write_at-buckets S b g q c)));
-    }
 
 -- ---- the writes before a mark
 

@@ -19,8 +19,6 @@ pub mod Folds
 pub mod Displaced
 pub mod Counts
 pub mod Listings
-pub mod Rooms
-pub mod Blanks
 pub mod Lifted
 pub mod Serving
 pub mod Anew

@@ -3,7 +3,9 @@ ghost use Rattle.tk_shape.specs.Lengths.{turn_count};
 ghost use Rattle.tk_schedule.specs.declared.history.History.{History};
 ghost use Rattle.tk_words.specs.Words.{WordBook, words_of};
 ghost use Rattle.tk_report.specs.Clients.{AreClientsAtEnd, joined};
+ghost use Rattle.tk_report.specs.Entries.{entries};
 ghost use Rattle.tk_report.specs.Folds.{IsFoldBefore};
+ghost use Rattle.tk_report.specs.Ledgers.{Keeps};
 
 use crate::group::Group;
 use crate::ledger::Ledger;
@@ -27,10 +29,13 @@ pub(crate) struct Fold {
 
 /// A history gone through to its end.
 pub(crate) fn fold_all<D: Draws>(alloc: Global, plan: &Plan<D>) -> Result<Fold, Memory>
-    ensures { let S = plan.now.script.now in
+    ensures clients { let S = plan.now.script.now in
         let words = words_of S.shape (D.book plan.now.draws.now) in
         IfOk result (λ fold. AreClientsAtEnd S words plan.now.history.now
         (joined fold.group.clients.items fold.followers.items)) }
+    ensures ledger { let S = plan.now.script.now in
+        let words = words_of S.shape (D.book plan.now.draws.now) in
+        IfOk result (λ fold. Keeps S.shape (entries S words plan.now.history.now) fold.ledger) }
 {
     let mut fold = open_fold(alloc, plan.script)?;
     'turns: for turn in 0..plan.script.shape.turns() {

@@ -1,30 +1,26 @@
-ghost use Rattle.std.specs.Prelude.{◌≡◌, ◌+◌, ◌≤◌, ◌<◌, ◌++◌, ◌∷◌, [], List, All, IfOk, OnOk};
+ghost use Rattle.std.specs.Prelude.{◌≡◌, ◌+◌, ◌≤◌, ◌++◌, [], List, IfOk, OnOk};
 ghost use Rattle.tk_shape.specs.declared.shape.Shape.{Shape};
-ghost use Rattle.tk_frames.specs.Order.{Record, before};
-ghost use Rattle.tk_frames.specs.Ranges.{IsWrite};
+ghost use Rattle.tk_frames.specs.Order.{before};
 ghost use Rattle.tk_frames.specs.declared.entry.Placed.{Placed};
-ghost use Rattle.tk_table.specs.Ordered.{AreOrdered};
-ghost use Rattle.tk_table.specs.Stands.{TableStandsFor, IsWrite as IsRecord};
-ghost use Rattle.tk_report.specs.Ledgers.{Keeps, IsLeftBy, IsTakenOf, IsOfShape};
-ghost use Rattle.tk_table.specs.Shown.{pushed};
+ghost use Rattle.tk_report.specs.Displaced.{displaced_in};
+ghost use Rattle.tk_report.specs.Ledgers.{Keeps, IsLeftBy, IsTakenOf};
 ghost use Rattle.tk_report.specs.declared.marked.Marked.{Marked};
 
+use crate::count::Count;
 use crate::marked::Marked;
 use crate::taking::Takes;
 use std::alloc::Global;
 use std::mem;
 use tk_bloom::Window;
-use tk_frames::{Entry, Placed, WriteFrame};
+use tk_frames::{Entry, Placed};
 use tk_shape::{Memory, Shape};
-use tk_table::Table;
 
 /// What the entries of a run leave for its reads: the table and the window of the latest writes, and
-/// what they were at the last mark and at the one before it.
+/// what they were at the last mark and at the one before it. It knows how many writes were displaced.
 #[derive(Drop)]
 pub struct Ledger {
-    pub(crate) table: Table,
+    pub(crate) count: Count,
     pub(crate) window: Window,
-    pub(crate) entries: u64,
     pub(crate) last: u32,
     pub(crate) newest: Marked,
     pub(crate) older: Marked,
@@ -35,14 +31,13 @@ impl Ledger {
     pub fn open(alloc: Global, shape: &Shape) -> Result<Ledger, Memory>
         ensures { IfOk result (Keeps shape.now []) }
     {
-        let mut table = Table::open(alloc, shape)?;
+        let mut count = Count::open(alloc, shape)?;
         let window = Window::open(alloc, shape.filter_bits, shape.hits, shape.retained)?;
-        let newest = Marked::of(alloc, &mut table, &window)?;
-        let older = Marked::of(alloc, &mut table, &window)?;
+        let newest = Marked::of(alloc, &mut count.table, &window)?;
+        let older = Marked::of(alloc, &mut count.table, &window)?;
         Ok(Ledger {
-            table,
+            count,
             window,
-            entries: 0,
             last: 0,
             newest,
             older,
@@ -63,45 +58,27 @@ impl Ledger {
         }
     }
 
-    /// Takes a write.
-    fn put(&mut self, position: u64, write: &WriteFrame)
-        requires same { IsOfShape self.old.table self.old.window }
-        requires in_range { IsWrite self.old.table.shape write.now }
-        requires first { 1 ≤ position }
-        requires above { All (λ p. p < position) self.old.table.positions }
-        ensures rest { self.new ≡ record self.old {
-          table = self.new.table;
-          window = pushed self.old.window write.now.hits;
-          entries = position;
-        } }
-        ensures table_shape { self.new.table.shape ≡ self.old.table.shape }
-        ensures latest { All (λ p. p ≤ position) self.new.table.positions }
-        ensures table { (R : List Record) (w : Record)
-            → TableStandsFor self.old.table R → AreOrdered self.old.table.shape R
-            → IsRecord w position (write.now.first, write.now.second) write.now.block
-            → TableStandsFor self.new.table (R ++ w ∷ []) }
+    /// How many writes were displaced when they came.
+    pub(crate) fn displaced(&self) -> u32
+        ensures { (shape : Shape) (E : List Placed) → Keeps shape E self.now
+            → result ≡ displaced_in shape E }
     {
-        let pair = (write.first, write.second);
-        self.table.put(position, pair, write.block.as_slice());
-        self.window.push(write.hits.as_slice());
-        self.entries = position;
+        self.count.displaced
     }
 
     /// Takes a mark.
-    fn mark(&mut self, alloc: Global, position: u64, number: u32) -> Result<(), Memory>
+    fn mark(&mut self, alloc: Global, number: u32) -> Result<(), Memory>
         ensures { OnOk result ((marked : Marked)
-            × IsTakenOf self.old.table self.old.window marked
+            × IsTakenOf self.old.count.table self.old.window marked
             × (self.new ≡ record self.old {
-              entries = position;
               last = number;
               newest = marked;
               older = self.old.newest;
             })) }
     {
-        let marked = Marked::of(alloc, &mut self.table, &self.window)?;
+        let marked = Marked::of(alloc, &mut self.count.table, &self.window)?;
         self.older = mem::replace(&mut self.newest, marked);
         self.last = number;
-        self.entries = position;
         Ok(())
     }
 }
@@ -110,18 +87,19 @@ impl Takes for Ledger {
     ghost took = { λ was shape E F is. Keeps shape (E ++ F) is };
 
     fn taken(&self) -> u64 {
-        self.entries
+        self.count.entries
     }
 
     fn take(&mut self, alloc: Global, placed: &Placed) -> Result<(), Memory> {
+        self.count.take(placed);
         match &placed.entry {
             Entry::Write(write) => {
-                self.put(placed.position, write);
+                self.window.push(write.hits.as_slice());
                 Ok(())
             }
-            Entry::Mark(number) => self.mark(alloc, placed.position, *number),
+            Entry::Mark(number) => self.mark(alloc, *number),
         }
     }
 
-    ghost in_order = { λ was shape E F is keeps. keeps.order };
+    ghost in_order = { λ was shape E F is keeps. keeps.count.order };
 }

@@ -14,7 +14,7 @@ invariant_of-told g c =
     let fold = c.in_ok-fold.fold in
     record {
       sound = ends-leave S words H (joined fold.group.clients.items fold.followers.items)
-          c.in_ok-fold.ensures c.requires.legal;
+          c.in_ok-fold.ensures.clients c.requires.legal;
     }
 
 pub returns-clause-ok : goal.returns-clause-ok
@@ -25,5 +25,5 @@ returns-clause-ok g c =
     let fold = c.in_ok-fold.fold in
     subst (λ (text : List ℕ). OnOk c.print_told.result
     (c.print_told.new.out.items ≡ c.args.out.now.items ++ text))
-    (ends-text S words H (joined fold.group.clients.items fold.followers.items) c.in_ok-fold.ensures)
+    (ends-text S words H (joined fold.group.clients.items fold.followers.items) c.in_ok-fold.ensures.clients)
     c.print_told.ensures.ok

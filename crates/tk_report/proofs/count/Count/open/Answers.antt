@@ -1,5 +1,5 @@
 -- Nothing was counted yet.
-use Rattle.std.proofs.Common.{◌≡◌, ◌∙◌, ◌-◌, ◌≤◌, [], map, refl, ap, sym, subst, rules}
+use Rattle.std.proofs.Common.{◌≡◌, ◌∙◌, ◌-◌, ◌≤◌, [], map, refl, ap, sym, subst}
 use Rattle.std.specs.Prelude.{All}
 use Rattle.std.proofs.Math.Seq.{drop-nil}
 use Rattle.std.proofs.lemmas.List.Elements.{All-nil}
@@ -15,8 +15,8 @@ returns c =
     stands.positions ∙ ap (map position_of) (drop-nil (0 - table.shape.retained))
     in
     record {
+      order = tt;
       same = c.in_ok-open.ensures.shape;
-      blank = search rules;
       table = stands;
       latest = subst (All (λ p. p ≤ 0)) (sym none) (All-nil (λ p. p ≤ 0));
       entries = refl;
