@@ -1,6 +1,6 @@
 //! The word `resume`: the report of an input's serial run in which the servers begin anew at an epoch, from what server 1
 //! had then.
-ghost use Rattle.std.specs.Prelude.{◌≡◌, ◌≤◌, IfOk, IfErr, OnOk, OnErr};
+ghost use Rattle.std.specs.Prelude.{◌≡◌, ◌≤◌, ◌*◌, ◌++◌, ◌∷◌, [], IfOk, IfErr, OnOk, OnErr};
 ghost use Rattle.tk_io.specs.Content.{Rose};
 ghost use Rattle.tk_io.specs.Tapped.{TapsGain, TapsGainFronts, TapsKeepBut};
 ghost use Rattle.tk_schedule.specs.Schedule.{serial_history};
@@ -8,6 +8,7 @@ ghost use Rattle.tk_words.specs.Words.{words_of};
 ghost use Rattle.tk_words.specs.Book.{shape_of, words_in};
 ghost use Rattle.tk_report.specs.Exchange.{exchange, bytes_of};
 ghost use Rattle.tk_report.specs.Outcomes.{IsLeftBy};
+ghost use Rattle.tk_run.specs.Keeping.{saved_before};
 ghost use Rattle.tk_cli.specs.Endings.{Ends};
 ghost use Rattle.tk_cli.specs.Outside.{outside};
 
@@ -18,7 +19,7 @@ use crate::telling::tell_left;
 use std::alloc::Global;
 use tk_io::{Sink, Source, Taps};
 use tk_report::{Outcome, ends};
-use tk_run::{RunError, resumed};
+use tk_run::{RunError, Shelf, resumed_on};
 use tk_script::{Form, Script};
 use tk_words::Book;
 
@@ -43,21 +44,27 @@ pub(crate) fn run_resumed<S: Source, K: Sink, T: Taps>(
     if let Err(status) = epoch_in(&script.shape, epoch) {
         return Ended::without(status);
     }
-    let left = resumed_by(alloc, &script, &book, taps, epoch);
+    let left = resumed_by(alloc, &script, &book, taps, epoch, &mut Shelf::new(alloc));
     ends();
     tell_left(alloc, left, sink)
 }
 
-/// What the run of a script by the words of a book leaves that begins anew at an epoch.
+/// What the run of a script by the words of a book leaves that begins anew at an epoch, from the checkpoint that it lays
+/// on a shelf.
 fn resumed_by<T: Taps>(
     alloc: Global,
     script: &Script,
     book: &Book,
     taps: &mut T,
     epoch: u32,
+    shelf: &mut Shelf,
 ) -> Result<Outcome, RunError>
     requires one_shape { shape_of book.now ≡ script.now.shape }
     requires within { epoch ≤ script.now.shape.phases }
+    ensures kept { let S = script.now in
+        let at = saved_before S (words_in book.now) (serial_history S.shape) in
+        OnOk result (shelf.new.list.items
+        ≡ shelf.old.list.items ++ at (epoch * S.shape.ticks) ∷ []) }
     ensures left { let words = words_of script.now.shape (words_in book.now) in
         IfOk result (IsLeftBy script.now words (serial_history script.now.shape)) }
     ensures ok { let history = serial_history script.now.shape in
@@ -74,7 +81,7 @@ fn resumed_by<T: Taps>(
     ensures counts { T.faults taps.old ≤ T.faults taps.new }
 {
     match book {
-        Book::Keyed(draws) => resumed(alloc, script, draws, taps, epoch),
-        Book::Drawn(draws) => resumed(alloc, script, draws, taps, epoch),
+        Book::Keyed(draws) => resumed_on(alloc, script, draws, taps, epoch, shelf),
+        Book::Drawn(draws) => resumed_on(alloc, script, draws, taps, epoch, shelf),
     }
 }

@@ -45,6 +45,6 @@ pub use keeper::{Keeper, Shelf};
 pub use laws::{checkpoints_accepted, servers_ranged};
 pub use resume_error::ResumeError;
 pub use run_error::RunError;
-pub use serially::{resumed, resumed_by, serial};
+pub use serially::{resumed, resumed_by, resumed_on, serial};
 pub use sums::{OwnSums, Sums};
 pub use threaded::{threads, threads_by};

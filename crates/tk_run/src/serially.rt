@@ -88,8 +88,41 @@ pub fn resumed<D: Draws, T: Taps>(
         → Rose (T.faults taps.old) (T.faults taps.new)) }
     ensures counts { T.faults taps.old ≤ T.faults taps.new }
 {
+    resumed_on(alloc, script, draws, taps, epoch, &mut Shelf::new(alloc))
+}
+
+/// The same, where the checkpoint is laid on this shelf, behind what lies there.
+pub fn resumed_on<D: Draws, T: Taps>(
+    alloc: Global,
+    script: &Script,
+    draws: &D,
+    taps: &mut T,
+    epoch: u32,
+    shelf: &mut Shelf,
+) -> Result<Outcome, RunError>
+    requires one_shape { D.shape draws.now ≡ script.now.shape }
+    requires within { epoch ≤ script.now.shape.phases }
+    ensures kept { let S = script.now in
+        let at = saved_before S (D.book draws.now) (serial_history S.shape) in
+        OnOk result (shelf.new.list.items
+        ≡ shelf.old.list.items ++ at (epoch * S.shape.ticks) ∷ []) }
+    ensures left { let words = words_of script.now.shape (D.book draws.now) in
+        IfOk result (IsLeftBy script.now words (serial_history script.now.shape)) }
+    ensures ok { let history = serial_history script.now.shape in
+        OnOk result (TapsGain script.now.shape.servers
+        (λ j. bytes_of (exchange script.now (D.book draws.now) history j))
+        (T.tap taps.old) (T.tap taps.new)) }
+    ensures err { let history = serial_history script.now.shape in
+        OnErr result (TapsGainFronts script.now.shape.servers
+        (λ j. bytes_of (exchange script.now (D.book draws.now) history j))
+        (T.tap taps.old) (T.tap taps.new)) }
+    ensures others { TapsKeepBut script.now.shape.servers (T.tap taps.old) (T.tap taps.new) }
+    ensures rose { IfErr result (λ e. e ≡ RunError.Taps
+        → Rose (T.faults taps.old) (T.faults taps.new)) }
+    ensures counts { T.faults taps.old ≤ T.faults taps.new }
+{
     let history = History::serial(alloc, &script.shape)?;
-    match resumed_by(alloc, script, draws, taps, epoch, &mut Shelf::new(alloc)) {
+    match resumed_by(alloc, script, draws, taps, epoch, shelf) {
         Ok(end) => Ok(Outcome::of(script, history, end.clients, end.displaced)?),
         Err(e) => Err(run_error(e)),
     }

@@ -11,14 +11,14 @@ use Rattle.tk_cli.proofs.resume_word.resumed_by.Goals as goal
 pub returns-in-Keyed-clause-err : goal.returns-in-Keyed-clause-err
 returns-in-Keyed-clause-err g c =
     let S = c.args.script.now in
-    subst (λ (b : WordBook). OnErr c.resumed.result (TapsGainFronts S.shape.servers
+    subst (λ (b : WordBook). OnErr c.resumed_on.result (TapsGainFronts S.shape.servers
     (λ (j : ℕ). bytes_of (exchange S b (serial_history S.shape) j)) (g.T.Taps.tap c.args.taps.now)
-    (g.T.Taps.tap c.resumed.new.taps))) (sym (ap words_in c.in-Keyed.is)) c.resumed.ensures.err
+    (g.T.Taps.tap c.resumed_on.new.taps))) (sym (ap words_in c.in-Keyed.is)) c.resumed_on.ensures.err
 
 pub returns-in-Drawn-clause-err : goal.returns-in-Drawn-clause-err
 returns-in-Drawn-clause-err g c =
     let S = c.args.script.now in
-    subst (λ (b : WordBook). OnErr c.resumed-in-Drawn.result (TapsGainFronts S.shape.servers
+    subst (λ (b : WordBook). OnErr c.resumed_on-in-Drawn.result (TapsGainFronts S.shape.servers
     (λ (j : ℕ). bytes_of (exchange S b (serial_history S.shape) j)) (g.T.Taps.tap c.args.taps.now)
-    (g.T.Taps.tap c.resumed-in-Drawn.new.taps))) (sym (ap words_in c.in-Drawn.is))
-    c.resumed-in-Drawn.ensures.err
+    (g.T.Taps.tap c.resumed_on-in-Drawn.new.taps))) (sym (ap words_in c.in-Drawn.is))
+    c.resumed_on-in-Drawn.ensures.err

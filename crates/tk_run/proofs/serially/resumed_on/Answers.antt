@@ -11,7 +11,7 @@ use Rattle.tk_report.specs.Turns.{placed_before}
 use Rattle.tk_run.specs.Keeping.{IsAccepted, saved_before}
 use Rattle.tk_run.proofs.EndLaws.{own, own-given, own-gain, own-fronts, own-end}
 use Rattle.tk_run.proofs.KeepingLaws.{last-given}
-use Rattle.tk_run.proofs.serially.resumed.Goals as goal
+use Rattle.tk_run.proofs.serially.resumed_on.Goals as goal
 
 pub returns-in_err-history-clause-err : goal.returns-in_err-history-clause-err
 returns-in_err-history-clause-err g c =
