@@ -2,3 +2,5 @@
 pub use Rattle.tk_answer.proofs.Runs.{run_of_slice}
 -- How many bytes a run has, and how many blocks.
 pub use Rattle.tk_answer.proofs.Runs.{bytes-in_run, blocks-in_run}
+-- Rows are as long as the vectors whose bytes they have.
+pub use Rattle.tk_answer.proofs.ManySums.{rows_reach}

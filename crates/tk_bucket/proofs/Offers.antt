@@ -4,3 +4,5 @@
 pub use Rattle.tk_bucket.proofs.Tables.{bucket_at-table_in, slot_at-table_in}
 -- Sizes that pass a test are those of a table.
 pub use Rattle.tk_bucket.proofs.InSizes.{in_sizes}
+-- The blocks of the table that bytes stand for.
+pub use Rattle.tk_bucket.proofs.Tables.{blocks_of-table_in}

@@ -10,9 +10,8 @@ use Rattle.tk_shape.specs.Lengths.{width}
 use Rattle.tk_kernel.proofs.Offers.{concat-pieces, all_pieces-append}
 use Rattle.tk_frames.specs.Spelling.{be32, be64}
 use Rattle.tk_frames.specs.Fields.{number_at, long_at, numbers}
-use Rattle.tk_frames.proofs.Offers.{IsBytes, IsBytes-drop}
-use Rattle.tk_frames.proofs.BigEndian.{number-join, long-join, numbers-join, length-numbers}
-use Rattle.tk_bucket.proofs.Tables.{blocks_of-table_in}
+use Rattle.tk_frames.proofs.Offers.{IsBytes, IsBytes-drop, number-join, long-join, numbers-join, length-numbers}
+use Rattle.tk_bucket.proofs.Offers.{blocks_of-table_in}
 use Rattle.tk_bloom.specs.Windows.{pushes_in}
 use Rattle.tk_table.specs.Restoring.{table_spelled}
 use Rattle.tk_checkpoint.specs.Saved.{spelling, window_bytes, table_bytes, head_len, entry_len, table_len}

@@ -13,7 +13,7 @@ use Rattle.tk_frames.specs.Lists.{IsIn}
 use Rattle.tk_frames.specs.Slots.{slot_from}
 use Rattle.tk_table.specs.Table.{Slot, empty_slot}
 use Rattle.tk_table.specs.Restoring.{AreAscending, AreSound, IsNewEntry, slots_spelled, slot_number}
-use Rattle.tk_table.proofs.Spelled.{length-slots_spelled, slot_spelled}
+use Rattle.tk_table.proofs.Offers.{length-slots_spelled, slot_spelled}
 use Rattle.tk_checkpoint.specs.declared.error.RestoreError.TheVariants as refusal
 use Rattle.tk_checkpoint.specs.Sound.{Check, check, first_refusal, is_zeros, lies_in, has_slot, is_new_entry, is_sound_slot, slot_checks_of}
 use Rattle.tk_checkpoint.specs.Finding.{flags}

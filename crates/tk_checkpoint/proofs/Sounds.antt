@@ -7,7 +7,7 @@ use Rattle.std.proofs.lemmas.Bool.{ltb-true, and_parts}
 use Rattle.std.proofs.lemmas.List.{length-drop}
 use Rattle.tk_shape.specs.declared.shape.Shape.{Shape}
 use Rattle.tk_frames.specs.Fields.{long_at, numbers}
-use Rattle.tk_frames.proofs.BigEndian.{length-numbers}
+use Rattle.tk_frames.proofs.Offers.{length-numbers}
 use Rattle.tk_table.specs.Restoring.{AreAscending, AreSound}
 use Rattle.tk_checkpoint.specs.declared.error.RestoreError.{RestoreError}
 use Rattle.tk_checkpoint.specs.declared.error.RestoreError.TheVariants as refusal

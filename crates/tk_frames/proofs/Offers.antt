@@ -31,3 +31,9 @@ pub use Rattle.tk_frames.proofs.Members.{in_filter, from_filter, in_filter_map, 
 pub use Rattle.tk_frames.proofs.Members.{in_flat_map, from_flat_map, nothing_in}
 -- Bytes, and parts of them.
 pub use Rattle.tk_frames.proofs.BigEndian.{IsBytes, IsBytes-drop, IsBytes-take}
+-- Numbers joined from their bytes, and again their bytes.
+pub use Rattle.tk_frames.proofs.BigEndian.{number-join, long-join, numbers-join, length-numbers}
+pub use Rattle.tk_frames.proofs.BigEndian.{numbers-again, length-be32s}
+-- What passes the checks of a write and of a read, what is found in their spelling, and how long it is.
+pub use Rattle.tk_frames.proofs.Frames.{write_passes, write_found, write-again, length-write_frame}
+pub use Rattle.tk_frames.proofs.ReadLaws.{read_passes, read_found, length-read_frame}

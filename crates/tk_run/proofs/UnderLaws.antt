@@ -28,7 +28,7 @@ use Rattle.tk_table.proofs.Offers.{order-writes}
 use Rattle.tk_replica.specs.declared.epoch.Epoch.{Epoch}
 use Rattle.tk_replica.specs.Epochs.{IsEpochOf}
 use Rattle.tk_replica.specs.Replies.{reply_for}
-use Rattle.tk_checkpoint.proofs.Ranges.{order-fitting, fitting-storable}
+use Rattle.tk_checkpoint.proofs.Offers.{order-fitting, fitting-storable}
 use Rattle.tk_client.specs.declared.target.Target.{Target}
 use Rattle.tk_client.specs.Asked.{asked, frame_with, shown_by}
 use Rattle.tk_client.specs.Client.{ClientState, after_replies, opened, target_over}

@@ -9,9 +9,7 @@ use Rattle.tk_frames.specs.declared.fault.FrameError.TheVariants as fault
 use Rattle.tk_frames.specs.Faults.{Check, first_fault, hit_check, write_checks, any_read_checks}
 use Rattle.tk_frames.specs.Faults.{read_checks_of, read_checks}
 use Rattle.tk_frames.specs.Fields.{numbers, write_in, read_in}
-use Rattle.tk_frames.proofs.Offers.{IsBytes}
-use Rattle.tk_frames.proofs.Frames.{write_found}
-use Rattle.tk_frames.proofs.ReadLaws.{read_found}
+use Rattle.tk_frames.proofs.Offers.{IsBytes, write_found, read_found}
 use Rattle.tk_serve.specs.declared.due.Due.{Due}
 use Rattle.tk_serve.specs.declared.refusal.Refusal.{Refusal}
 use Rattle.tk_serve.specs.Seats.{IsWriteOf, IsReadOf}

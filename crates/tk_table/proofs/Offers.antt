@@ -14,3 +14,5 @@ pub use Rattle.tk_table.proofs.Ordering.{order-writes}
 pub use Rattle.tk_table.proofs.Pushes.{pushes-none, pushes-more}
 -- A slot of a bucket is one of the row of all slots.
 pub use Rattle.tk_table.proofs.Spelled.{slot_in_row}
+-- A row of slots as it is spelled, and each slot of it.
+pub use Rattle.tk_table.proofs.Spelled.{length-slots_spelled, slot_spelled}

@@ -1,7 +1,7 @@
 -- The chunks are those of the vectors' rows.
 use Rattle.std.proofs.Common.{◌∙◌, ℕ, Vec, Global, ap, map}
 use Rattle.tk_kernel.specs.Chosen.{chosen_sum}
-use Rattle.tk_answer.proofs.ManySums.{rows_reach}
+use Rattle.tk_answer.proofs.Offers.{rows_reach}
 use Rattle.tk_batch.proofs.Joining.{joined-all}
 use Rattle.tk_batch.proofs.all.answer_some.Goals as goal
 
