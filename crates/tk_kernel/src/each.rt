@@ -6,6 +6,7 @@ ghost use Rattle.tk_kernel.specs.Chosen.{chosen_from};
 ghost use Rattle.tk_kernel.specs.Pieces.{all_pieces};
 ghost use Rattle.tk_kernel.specs.Xor.{xor_bytes, xor_all};
 
+use crate::aligned::at_sixteen;
 use crate::columns::{Pass, Tables, add_pass};
 use crate::words::{MOST, WORD};
 use crate::xor_choose;
@@ -95,11 +96,11 @@ fn add_chosen(sum: &mut [u8], size: usize, blocks: &[u8], vector: &[u8], first: 
 }
 
 // Goes over the blocks once for all vectors, 64 blocks at a time, or as many as are left.
-fn add_by_tables(
+fn add_by_tables<'b>(
     sums: &mut [Vec<u8>],
     size: usize,
-    blocks: &[u8],
-    vectors: &[Vec<u8>],
+    blocks: &'b [u8],
+    vectors: &'b [Vec<u8>],
     first: usize,
 )
     requires some { 0 < size }
@@ -118,12 +119,17 @@ fn add_by_tables(
         (slice_index_or vectors.now k e).items)) }
 {
     let count = blocks.len() / size / 8;
+    let mut of_64 = at_sixteen([[u8x64::splat(0); 16]; 16]);
+    let mut of_32 = at_sixteen([[u8x32::splat(0); 16]; 16]);
+    let mut of_16 = at_sixteen([[u8x16::splat(0); 16]; 16]);
+    let mut of_8 = at_sixteen([[u8x8::splat(0); 16]; 16]);
+    let mut of_1 = at_sixteen([[Simd::<u8, 1>::splat(0); 16]; 16]);
     let mut tables = Tables {
-        of_64: &mut [[u8x64::splat(0); 16]; 16],
-        of_32: &mut [[u8x32::splat(0); 16]; 16],
-        of_16: &mut [[u8x16::splat(0); 16]; 16],
-        of_8: &mut [[u8x8::splat(0); 16]; 16],
-        of_1: &mut [[Simd::<u8, 1>::splat(0); 16]; 16],
+        of_64: &mut of_64.item,
+        of_32: &mut of_32.item,
+        of_16: &mut of_16.item,
+        of_8: &mut of_8.item,
+        of_1: &mut of_1.item,
     };
     let mut done = 0;
     while done < count {

@@ -2,6 +2,7 @@
 //! vector chooses, or each of many vectors.
 #![tactic(auto)]
 
+mod aligned;
 mod choose;
 mod columns;
 mod each;
