@@ -1,6 +1,5 @@
 pub mod Growing
 pub mod ByLog
 pub mod Telling
-pub mod Aiming
 pub mod Finding
 pub mod Delivering

@@ -4,5 +4,4 @@ pub mod SameStreams
 pub mod Outlines
 pub mod SameOutlines
 pub mod LookAlike
-pub mod Kept
 pub mod Pacing

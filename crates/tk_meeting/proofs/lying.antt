@@ -1,5 +1,4 @@
 pub mod Growth
-pub mod Acts
 pub mod Outcomes
 pub mod Asks
 pub mod Speaks

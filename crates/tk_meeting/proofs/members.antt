@@ -1,15 +1,15 @@
 pub mod Paces
 pub mod Idle
-pub mod Counts
 pub mod Members
 pub mod Packets
 pub mod Writing
+pub mod Wrote
 pub mod Marks
 pub mod Asking
+pub mod Acts
 pub mod Acting
 pub mod Hearing
 pub mod Epochs
-pub mod Joining
 pub mod Answers
 pub mod Told
 pub mod Replies

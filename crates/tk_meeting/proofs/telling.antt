@@ -1,3 +1,4 @@
 pub mod Rising
+pub mod Ways
 pub mod Growing
 pub mod Foreseeing

@@ -164,7 +164,7 @@ word_in_front i n xs rest low high =
         ap (take 4) (drop-append-le i (take n xs) ys (omega (arith, counted)))
         ∙ take-append-le 4 (drop i (take n xs)) ys long
 
-map-range_same : {X : Type 0} (f g : ℕ → X) (a n : ℕ) → ((k : ℕ) → k < a + n → f k ≡ g k) →
+pub map-range_same : {X : Type 0} (f g : ℕ → X) (a n : ℕ) → ((k : ℕ) → k < a + n → f k ≡ g k) →
     map f (range_with_len a n) ≡ map g (range_with_len a n)
 map-range_same f g a zero h = refl
 map-range_same f g a (suc n) h =

@@ -7,7 +7,7 @@ pub use Rattle.tk_privacy.proofs.Changes.{words-regained, reads-regained, words-
 -- only the buckets of the run matter
 pub use Rattle.tk_privacy.proofs.Changes.{same-normal_for, same-unnormal_for}
 -- what is seen of a run that reads given buckets
-pub use Rattle.tk_privacy.proofs.Seen.{view-is, write-seen, read-seen}
+pub use Rattle.tk_privacy.proofs.Seen.{view-is, write-seen, read-seen, same-placed}
 -- what the hidden server gets of a read cell that is changed back
 pub use Rattle.tk_privacy.proofs.ReadCells.{both, GetsLastOfBoth, pieces-hidden}
 pub use Rattle.tk_privacy.proofs.SameWords.{length-read_cell}
@@ -30,3 +30,5 @@ pub use Rattle.tk_privacy.proofs.PrivacyLaws.{length-mirror, same-normal}
 -- what is seen over as many tapes
 pub use Rattle.tk_privacy.proofs.CountLaws.{others-same, turned, at-tape, mirror-undone}
 pub use Rattle.tk_privacy.proofs.ByteCells.{bytes-normal_for, bytes-unnormal_for}
+-- what a function gives for each of some numbers
+pub use Rattle.tk_privacy.proofs.Masks.{map-range_same}

@@ -43,7 +43,7 @@ use Rattle.tk_privacy.proofs.Changes.{normal-IsTape, sent_len}
 
 -- ---- frames that agree, where writes and reads do
 
-same-placed : (f g : ℕ → WriteFrame) (n : ℕ) → ((c : ℕ) → c < n → f c ≡ g c) →
+pub same-placed : (f g : ℕ → WriteFrame) (n : ℕ) → ((c : ℕ) → c < n → f c ≡ g c) →
     (position e : ℕ) (items : List Item) →
     list_all (is_within n) items ≡ true → placed_from f position e items
     ≡ placed_from g position e items

@@ -53,12 +53,12 @@ one-text S w log s r q known other =
 -- ---- the first that gives something
 
 -- one of a list that gives something
-record Gives {X Y : Type 0} (f : X → Option Y) (xs : List X) (y : Y) : Type 0 where
-  giver : X
-  there : IsIn xs giver
-  gives : f giver ≡ Some y
+pub record Gives {X Y : Type 0} (f : X → Option Y) (xs : List X) (y : Y) : Type 0 where
+  pub giver : X
+  pub there : IsIn xs giver
+  pub gives : f giver ≡ Some y
 
-first_some-gives : {X Y : Type 0} (f : X → Option Y) (xs : List X) (y : Y) →
+pub first_some-gives : {X Y : Type 0} (f : X → Option Y) (xs : List X) (y : Y) →
     first_some f xs ≡ Some y → Gives f xs y
 first_some-gives f [] y e = absurd (cc e)
 first_some-gives {X} {Y} f (x ∷ xs) y e =

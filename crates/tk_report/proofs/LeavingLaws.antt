@@ -42,15 +42,15 @@ map-at f (x ∷ xs) (suc i) d e within = map-at f xs i d e (omega (arith, within
 
 -- ---- the logs that a client writes
 
-abbrev written_logs : List Written → List ℕ
+abbrev pub written_logs : List Written → List ℕ
 written_logs logs = map (λ (f : Written). f.log) logs
 
-one_more-log : (log : ℕ) (f : Written) → (one_more_of log f).log ≡ f.log
+pub one_more-log : (log : ℕ) (f : Written) → (one_more_of log f).log ≡ f.log
 one_more-log log f =
     elim (f.log == log) as (λ b. (cond b (record f { count = f.count + 1 }) f).log ≡ f.log)
     [ true ↦ refl | false ↦ refl ]
 
-one_more-logs : (log : ℕ) (logs : List Written) →
+pub one_more-logs : (log : ℕ) (logs : List Written) →
     written_logs (map (one_more_of log) logs) ≡ written_logs logs
 one_more-logs log [] = refl
 one_more-logs log (f ∷ logs) =
@@ -69,7 +69,7 @@ says-logs S c (y ∷ says) w =
     one true = one_more-logs y.log w.logs
     one false = refl
 
-unwritten-logs : (logs : List ℕ) → written_logs (map unwritten logs) ≡ logs
+pub unwritten-logs : (logs : List ℕ) → written_logs (map unwritten logs) ≡ logs
 unwritten-logs [] = refl
 unwritten-logs (x ∷ logs) = ap (λ (xs : List ℕ). x ∷ xs) (unwritten-logs logs)
 
@@ -101,7 +101,7 @@ epoch-logs e r =
     ≡ followed_logs r.follows)
     [ true ↦ refl | false ↦ untried-logs r.follows ]
 
-after-log : (shape : Shape) (j : ℕ) (answer : Option (List ℕ)) (f : Follow) →
+pub after-log : (shape : Shape) (j : ℕ) (answer : Option (List ℕ)) (f : Follow) →
     (follow_after shape j answer f).log ≡ f.log
 after-log shape j (Some text) f = refl
 after-log shape j None f =

@@ -7,10 +7,9 @@ pub use Rattle.tk_report.proofs.TurnEntries.{placed_from-append, placed_after-ap
 pub use Rattle.tk_report.proofs.EpochLaws.{phases-next, marks-before}
 pub use Rattle.tk_report.proofs.WrittenLaws.{write_at-client, write_at-turn, turns-own}
 pub use Rattle.tk_report.proofs.WrittenLaws.{entries-placed}
-pub use Rattle.tk_report.proofs.WrittenLaws.{pair-low, each-is_written, before-front}
+pub use Rattle.tk_report.proofs.WrittenLaws.{pair-low, each-is_written, before-front, before-own, some_buckets}
 pub use Rattle.tk_report.proofs.WrittenLaws.{epochs-ordered}
 pub use Rattle.tk_report.proofs.RecordLaws.{ordered-front}
-pub use Rattle.tk_report.proofs.EachLaws.{each-front}
 pub use Rattle.tk_report.proofs.MarkedLaws.{entries-agree, turn_entries-agree, before-standing}
 pub use Rattle.tk_report.proofs.MarkedLaws.{before-made, before-over, before-agree, phases-marked}
 pub use Rattle.tk_report.proofs.StorableLaws.{one-mark, length-written, epochs-storable}
@@ -36,6 +35,8 @@ pub use Rattle.tk_report.proofs.AnewLaws.{alike-runs, anew-readers, anew-from-ow
 -- the end of a run, and its report
 pub use Rattle.tk_report.proofs.LeavingLaws.{ends-leave, ends-text, writing-logs, reader-logs}
 pub use Rattle.tk_report.proofs.LeavingLaws.{followers-in, got-ended, reports-agree}
+-- the logs that a client writes and follows stay
+pub use Rattle.tk_report.proofs.LeavingLaws.{written_logs, one_more-log, one_more-logs, unwritten-logs, after-log}
 pub use Rattle.tk_report.proofs.SaidLaws.{ends-unsent, ends-count_said}
 pub use Rattle.tk_report.proofs.ShowsLaws.{reports-show}
 pub use Rattle.tk_report.proofs.OneHistoryLaws.{shows-one}
@@ -65,3 +66,11 @@ pub use Rattle.tk_report.proofs.Lists.{map-map, map_same, map-range, each-made, 
 -- what each client sends, listed, and who writes a log
 pub use Rattle.tk_report.proofs.SendingsLaws.{sent_of, sent_each, finds}
 pub use Rattle.tk_report.proofs.ListingLaws.{writer-of, none-late}
+-- what is retained, and the record that gives a text
+pub use Rattle.tk_report.proofs.RetainedLaws.{retained-own, record-gives}
+pub use Rattle.tk_report.proofs.DeliveredLaws.{Gives, first_some-gives}
+-- what a reader passes over, which number it wants, and what its log gives then
+pub use Rattle.tk_report.proofs.PassingOverLaws.{honest-passing_over, IsWanted, IsTargetOf, target-is, shown_over}
+pub use Rattle.tk_report.proofs.PassingOverLaws.{get-front, get-behind, absent_then, settled}
+-- what holds of each element of a list
+pub use Rattle.tk_report.proofs.EachLaws.{each-weaker, each-front, each-behind, each-append}

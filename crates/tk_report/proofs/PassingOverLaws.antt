@@ -83,10 +83,10 @@ reached-ahead tried ahead j low within some = elim (cases_lt tried ahead) [
 
 -- the number is one of the run, the next one or one that reading ahead reaches, and those before it
 -- were tried already or aren't shown
-record IsWanted (shape : Shape) (shown : ℕ → ℕ → Bool) (f : Follow) (j : ℕ) : Type 0 where
-  in_run : next_of f + j < turn_count shape
-  reached : 1 ≤ j → j < shape.ahead
-  earlier : (i : ℕ) → i < j → (i < f.tried) ⊎ (shown f.log (next_of f + i) ≡ false)
+pub record IsWanted (shape : Shape) (shown : ℕ → ℕ → Bool) (f : Follow) (j : ℕ) : Type 0 where
+  pub in_run : next_of f + j < turn_count shape
+  pub reached : 1 ≤ j → j < shape.ahead
+  pub earlier : (i : ℕ) → i < j → (i < f.tried) ⊎ (shown f.log (next_of f + i) ≡ false)
 
 wanted-next : (n count j : ℕ) → cond (nat_lt n count) (Some 0) None ≡ Some j →
     (n < count) × (0 ≡ j)
@@ -133,10 +133,10 @@ wanted-is shape shown f j e =
     ] e
 
 -- a target is the number wanted of the log at its place
-record IsTargetOf (shape : Shape) (shown : ℕ → ℕ → Bool) (r : Reader) (t : Target) : Type 0 where
-  of_log : t.log ≡ (follow_at r t.place).log
-  of_number : t.number ≡ next_of (follow_at r t.place) + t.ahead
-  is_wanted : IsWanted shape shown (follow_at r t.place) t.ahead
+pub record IsTargetOf (shape : Shape) (shown : ℕ → ℕ → Bool) (r : Reader) (t : Target) : Type 0 where
+  pub of_log : t.log ≡ (follow_at r t.place).log
+  pub of_number : t.number ≡ next_of (follow_at r t.place) + t.ahead
+  pub is_wanted : IsWanted shape shown (follow_at r t.place) t.ahead
 
 first_some-from : {X Y : Type 0} (f : X → Option Y) (xs : List X) (y : Y) →
     first_some f xs ≡ Some y → (x : X) × (f x ≡ Some y)
@@ -148,7 +148,7 @@ first_some-from {X} {Y} f (x ∷ xs) y e =
       | Some z ↦ λ here same. (x, here ∙ same)
     ] refl e
 
-target-is : (shape : Shape) (shown : ℕ → ℕ → Bool) (r : Reader) (t : Target) →
+pub target-is : (shape : Shape) (shown : ℕ → ℕ → Bool) (r : Reader) (t : Target) →
     target shape shown r ≡ Some t → IsTargetOf shape shown r t
 unfolding target
 target-is shape shown r t e =
@@ -169,20 +169,20 @@ target-is shape shown r t e =
 
 -- ---- what a log gave
 
-get-front : {X : Type 0} (xs ys : List X) (i : ℕ) → i < length xs →
+pub get-front : {X : Type 0} (xs ys : List X) (i : ℕ) → i < length xs →
     slice_get (xs ++ ys) i ≡ slice_get xs i
 get-front [] ys i low = absurd (omega (arith, low))
 get-front (x ∷ xs) ys zero low = refl
 get-front (x ∷ xs) ys (suc i) low = get-front xs ys i (omega (arith, low))
 
-get-behind : {X : Type 0} (xs ys : List X) (i : ℕ) →
+pub get-behind : {X : Type 0} (xs ys : List X) (i : ℕ) →
     slice_get (xs ++ ys) (length xs + i) ≡ slice_get ys i
 get-behind [] ys i = ap (slice_get ys) (zero-add i)
 get-behind (x ∷ xs) ys i =
     ap (slice_get (x ∷ (xs ++ ys))) (suc-add (length xs) i) ∙ get-behind xs ys i
 
 -- so many numbers without a text, and one with it
-abbrev absent_then : ℕ → List ℕ → List Got
+abbrev pub absent_then : ℕ → List ℕ → List Got
 absent_then j text = replicate j Absent ++ Text text ∷ []
 
 get-text : (j : ℕ) (text : List ℕ) → slice_get (absent_then j text) j ≡ Some (Text text)
@@ -334,7 +334,7 @@ passed-now S w H c g j i f text read found less =
         ∙ get-absent j (k - next_of f) text (omega (arith, low, high))
 
 -- a log with what it gave so far, of which nothing more was tried
-abbrev settled : Follow → List Got → Follow
+abbrev pub settled : Follow → List Got → Follow
 settled f got = record { log = f.log; got = got; tried = 0 }
 
 found-honest : (S : Script) (w : BookWords) (H : History) (c g e j : ℕ) (f : Follow)
@@ -408,7 +408,7 @@ answered-honest S w H c g j f (Some text) opens honest read found =
 -- ---- a reader after a turn
 
 -- what the filter of a client's read shows
-abbrev shown_over : Script → BookWords → History → ℕ → ℕ → ℕ → ℕ → Bool
+abbrev pub shown_over : Script → BookWords → History → ℕ → ℕ → ℕ → ℕ → Bool
 shown_over S w H g c log s = is_shown S.shape (read_over S w H g c) (w.hits log s)
 
 each-set : {X : Type 0} (P : X → Type 0) (xs : List X) (i : ℕ) (d y : X) → AllByRecursion P xs →

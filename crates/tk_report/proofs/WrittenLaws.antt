@@ -83,7 +83,7 @@ each-is_written S w H r there =
 abbrev pub IsLow : Shape → ℕ → ℕ → Type 0
 IsLow shape first second = (first < shape.buckets) × (second < shape.buckets)
 
-some_buckets : (shape : Shape) → 0 < shape.buckets
+pub some_buckets : (shape : Shape) → 0 < shape.buckets
 some_buckets shape = let low = shape.in_range.buckets_low in omega (arith, low)
 
 pub pair-low : (shape : Shape) (b : WordBook) (log s : ℕ) →

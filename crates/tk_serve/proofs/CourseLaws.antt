@@ -48,7 +48,7 @@ answered-more shape ps p =
     ap packets_bytes (answers-more shape (empty_seats shape) ps p)
     ∙ flat_map-append packet_bytes (answers shape (empty_seats shape) ps) (outgoing shape ps p)
 
-after-is : (shape : Shape) (seats : List Seat) (ps : List PacketView) →
+pub after-is : (shape : Shape) (seats : List Seat) (ps : List PacketView) →
     state_after (seats_next shape) seats ps ≡ seats_after shape seats ps
 after-is shape seats [] = refl
 after-is shape seats (p ∷ ps) = after-is shape (step_on shape seats p).seats ps

@@ -17,7 +17,7 @@ use Rattle.tk_serve.specs.Desks.{DeskView, desk, empty_desk, desk_by}
 use Rattle.tk_serve.specs.Stands.{StandsAt, Stands}
 use Rattle.tk_serve.proofs.SeatLaws.{turns-below}
 
-empty-counted : (shape : Shape) → length (empty_seats shape) ≡ shape.clients
+pub empty-counted : (shape : Shape) → length (empty_seats shape) ≡ shape.clients
 unfolding empty_seats
 empty-counted shape = length-replicate shape.clients empty_seat
 

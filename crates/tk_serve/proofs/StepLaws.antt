@@ -28,7 +28,7 @@ abbrev pub refused_step : List Seat → ℕ → Refusal → Step
 refused_step seats c cause =
     record { seats = seats; packets = packet (c + 1) (refused_frame (code_of cause)) ∷ [] }
 
-step-none : (shape : Shape) (seats : List Seat) (c : ℕ) (bytes : List ℕ) →
+pub step-none : (shape : Shape) (seats : List Seat) (c : ℕ) (bytes : List ℕ) →
     refusal_by shape (due_of seats c) bytes ≡ None →
     step shape seats c bytes ≡ told_step shape seats (with_frame shape seats c bytes)
 unfolding step

@@ -13,6 +13,7 @@ use Rattle.tk_report.proofs.Offers.{flat_map-next}
 use Rattle.tk_member.specs.Members.{MemberState}
 use Rattle.tk_member.specs.News.{news}
 use Rattle.tk_member.specs.Steps.{served}
+use Rattle.tk_schedule.proofs.Offers.{one_if}
 use Rattle.tk_meeting.specs.Meeting.{Meeting, changed}
 use Rattle.tk_meeting.specs.Laws.{news_before}
 use Rattle.tk_meeting.specs.Events.{comes_down}
@@ -23,7 +24,7 @@ use Rattle.tk_meeting.proofs.Course.{Course, newest_by, came_of, replies_of, str
 use Rattle.tk_meeting.proofs.Course.{course_down}
 use Rattle.tk_meeting.proofs.servers.Numbers.{stream-length, next-reply, next-epoch}
 use Rattle.tk_meeting.proofs.telling.Foreseeing.{Foresees}
-use Rattle.tk_meeting.proofs.courses.Picks.{pick, itself}
+use Rattle.tk_meeting.proofs.courses.Picks.{at-place, pick, itself}
 use Rattle.tk_meeting.proofs.courses.Balanced.{IsReady, IsBalanced, ArePaces}
 use Rattle.tk_meeting.proofs.courses.Coming.{RepliesNext, replies-next, tells-next, replies-came}
 use Rattle.tk_meeting.proofs.courses.Coming.{reply-numbers, reply-ready, epoch-ready}
@@ -33,10 +34,6 @@ use Rattle.tk_meeting.proofs.courses.Poised.{AreMembers, step-keeps, poised, new
 use Rattle.tk_meeting.proofs.courses.Speaking.{none-later}
 
 -- ---- how many frames came
-
--- after this many more
-abbrev one_if : Bool → ℕ
-one_if b = cond b 1 0
 
 replied_count : (r s : ℕ) (t before : Bool) → (t ≡ true → before ≡ false) →
     r ≡ s + one_if (cond t true before) → r ≡ s + one_if before + one_if t
@@ -138,10 +135,8 @@ module _ (S : Script) (b : WordBook) (paces : ArePaces S.shape) (laws : AreMembe
 
   others_left : (d i : ℕ) → (d == c) ≡ false → left_down i d ≡ m.down i d
   others_left d i other =
-      pick (λ k. cond k (changed c rest (m.down j)) (m.down i) d ≡ m.down i d) (i == j)
-      (λ same.
-      (λ k. cond (other k) rest (m.down j d)) ∙ ap (λ n. m.down n d) (sym (eqb-true i j same)))
-      (λ far. refl)
+      at-place (λ n k. cond k (changed c rest (m.down j)) (m.down n) d ≡ m.down n d) j i
+      (λ k. cond (other k) rest (m.down j d)) (λ far. refl)
 
   left_poised : (p : Pace) (news : List PacketView) → IsReady S.shape c p q.writes q.reads (q.up c) →
       p.written ≡ pace.written → news_before S b c (settled pace) ++ news ≡ news_before S b c (settled p) →

@@ -9,7 +9,7 @@ use Rattle.tk_shape.specs.declared.shape.Shape.{Shape}
 use Rattle.tk_meeting.proofs.Pace.{Pace, Kind, first_pace, acted, IsPace, IsIdle, ticked}
 use Rattle.tk_meeting.proofs.Pace.{sent_ahead, reply_came, epoch_came, settled}
 use Rattle.tk_meeting.proofs.Course.{Course, first_course, newest_by, replies_of, came_of, stream_len, goes_on}
-use Rattle.tk_meeting.proofs.courses.Picks.{pick}
+use Rattle.tk_meeting.proofs.courses.Picks.{at-place}
 use Rattle.tk_meeting.proofs.courses.Lengths.{over_first}
 use Rattle.tk_meeting.proofs.courses.Acting.{wrote_in, asked_in, wrote_in-append, asked_in-append, IsActed}
 use Rattle.tk_meeting.proofs.courses.Acting.{acted-is}
@@ -77,24 +77,30 @@ module _ (shape : Shape) (paces : ArePaces shape) where
 
   -- ---- a client that goes on
 
+  -- one to which the same came from a server
+  pub linked-by : (c : ℕ) (p q : Pace) (j : ℕ) (writes : ℕ → ℕ) (reads : ℕ) (kinds more : List Kind) →
+      writes c + wrote_in more ≡ q.written → reads + asked_in more ≡ q.asked → replies_of q j ≡ replies_of p j →
+      q.epochs j ≡ p.epochs j → IsLinked shape c p j writes reads kinds → IsLinked shape c q j writes reads more
+  linked-by c p q j writes reads kinds more wrote asked replies told l =
+      record {
+        wrote = wrote;
+        asked = asked;
+        came = omega (arith, l.came, replies, told);
+        ordered = elim l.ordered [
+          | inl e ↦ inl (told ∙ e ∙ ap (λ r. r / shape.ticks) (sym replies))
+          | inr e ↦ inr (replies ∙ e ∙ ap (λ n. (n + 1) * shape.ticks) (sym told))
+        ];
+      }
+
   -- a client that acts sends what it counts
   acted-linked : (c : ℕ) (p q : Pace) (j : ℕ) (writes : ℕ → ℕ) (reads : ℕ) (kinds more : List Kind) →
       IsActed p more q → IsLinked shape c p j writes reads kinds →
       IsLinked shape c q j writes reads (kinds ++ more)
   acted-linked c p q j writes reads kinds more a l =
-      let replies : replies_of q j ≡ replies_of p j =
-      λ i. a.settled_is i + cond (a.replied i j) 1 0
-      in
-      let epochs : q.epochs j ≡ p.epochs j = λ i. a.epochs i j in
-      record {
-        wrote = omega (arith, l.wrote, a.written, wrote_in-append kinds more);
-        asked = omega (arith, l.asked, a.asked, asked_in-append kinds more);
-        came = omega (arith, l.came, replies, epochs);
-        ordered = elim l.ordered [
-          | inl e ↦ inl (epochs ∙ e ∙ ap (λ r. r / shape.ticks) (sym replies))
-          | inr e ↦ inr (replies ∙ e ∙ ap (λ n. (n + 1) * shape.ticks) (sym epochs))
-        ];
-      }
+      linked-by c p q j writes reads kinds (kinds ++ more)
+      (omega (arith, l.wrote, a.written, wrote_in-append kinds more))
+      (omega (arith, l.asked, a.asked, asked_in-append kinds more))
+      (λ i. a.settled_is i + cond (a.replied i j) 1 0) (λ i. a.epochs i j) l
 
   pub acted-balanced : (c : ℕ) (p : Pace) (writes reads : ℕ → ℕ → ℕ) (kinds : ℕ → List Kind) →
       IsReady shape c p writes reads kinds →
@@ -117,33 +123,13 @@ module _ (shape : Shape) (paces : ArePaces shape) where
       let next = acted shape p in
       record {
         each = λ d low.
-            pick (λ k.
-            IsBalancedAt shape d (cond k next.pace (q.paces d)) q.writes q.reads
-            (cond k (λ j. q.up c j ++ next.kinds) (q.up d))) (d == c) (λ same.
-            subst (λ x. IsBalancedAt shape x next.pace q.writes q.reads (λ j. q.up c j ++ next.kinds))
-            (sym (eqb-true d c same)) (acted-balanced c p q.writes q.reads (q.up c) r))
-            (λ other. h.each d low);
+            at-place (λ x k.
+            IsBalancedAt shape x (cond k next.pace (q.paces x)) q.writes q.reads
+            (cond k (λ j. q.up c j ++ next.kinds) (q.up x))) c d
+            (acted-balanced c p q.writes q.reads (q.up c) r) (λ other. h.each d low);
       }
 
   -- ---- what its host says
-
-  -- with as many writes and reads, and the same of servers, its links are as they were
-  pub same-linked : (c : ℕ) (p q : Pace) (j : ℕ) (writes : ℕ → ℕ) (reads : ℕ) (kinds : List Kind) →
-      q.written ≡ p.written → q.asked ≡ p.asked → settled q ≡ settled p → q.replied ≡ p.replied →
-      q.epochs ≡ p.epochs → IsLinked shape c p j writes reads kinds →
-      IsLinked shape c q j writes reads kinds
-  same-linked c p q j writes reads kinds written asked settled_is replied epochs l =
-      let replies : replies_of q j ≡ replies_of p j = λ i. settled_is i + cond (replied i j) 1 0 in
-      let told : q.epochs j ≡ p.epochs j = λ i. epochs i j in
-      record {
-        wrote = l.wrote ∙ sym written;
-        asked = l.asked ∙ sym asked;
-        came = omega (arith, l.came, replies, told);
-        ordered = elim l.ordered [
-          | inl e ↦ inl (told ∙ e ∙ ap (λ r. r / shape.ticks) (sym replies))
-          | inr e ↦ inr (replies ∙ e ∙ ap (λ n. (n + 1) * shape.ticks) (sym told))
-        ];
-      }
 
   pub ticked-ready : (c : ℕ) (p : Pace) (writes reads : ℕ → ℕ → ℕ) (kinds : ℕ → List Kind) →
       IsReady shape c p writes reads kinds → IsReady shape c (ticked shape p) writes reads kinds
@@ -151,8 +137,8 @@ module _ (shape : Shape) (paces : ArePaces shape) where
       record {
         pace = paces.ticks p r.pace;
         links = λ j low high.
-            same-linked c p (ticked shape p) j (writes j) (reads j c) (kinds j) refl refl refl refl refl
-            (r.links j low high);
+            let l = r.links j low high in
+            linked-by c p (ticked shape p) j (writes j) (reads j c) (kinds j) (kinds j) l.wrote l.asked refl refl l;
       }
 
   pub ahead-ready : (c turns : ℕ) (p : Pace) (writes reads : ℕ → ℕ → ℕ) (kinds : ℕ → List Kind) →
@@ -162,6 +148,6 @@ module _ (shape : Shape) (paces : ArePaces shape) where
       record {
         pace = paces.goes_ahead turns p r.pace;
         links = λ j low high.
-            same-linked c p (sent_ahead shape turns p) j (writes j) (reads j c) (kinds j) refl refl refl
-            refl refl (r.links j low high);
+            let l = r.links j low high in
+            linked-by c p (sent_ahead shape turns p) j (writes j) (reads j c) (kinds j) (kinds j) l.wrote l.asked refl refl l;
       }

@@ -11,7 +11,7 @@ use Rattle.tk_meeting.proofs.Pace.{Pace, Kind, IsPace, with_reply_of, all_replie
 use Rattle.tk_meeting.proofs.Pace.{epoch_came, settled}
 use Rattle.tk_meeting.proofs.Course.{newest_by, replies_of, came_of, stream_len, pace_down}
 use Rattle.tk_meeting.proofs.courses.Lengths.{reply-next, epoch-next, newest-in, order-reply, order-epoch}
-use Rattle.tk_meeting.proofs.courses.Balanced.{IsLinked, IsReady, ArePaces}
+use Rattle.tk_meeting.proofs.courses.Balanced.{IsLinked, IsReady, ArePaces, linked-by}
 
 -- ---- which frame comes
 
@@ -168,15 +168,8 @@ module _ (shape : Shape) (paces : ArePaces shape) where
       )
       in
       let told : q.epochs i ≡ p.epochs i = λ k. numbers.2 k i in
-      record {
-        wrote = l.wrote ∙ sym numbers.0;
-        asked = l.asked ∙ sym numbers.1;
-        came = omega (arith, l.came, replies, told);
-        ordered = elim l.ordered [
-          | inl e ↦ inl (told ∙ e ∙ ap (λ r. r / shape.ticks) (sym replies))
-          | inr e ↦ inr (replies ∙ e ∙ ap (λ n. (n + 1) * shape.ticks) (sym told))
-        ];
-      }
+      linked-by shape paces c p q i writes reads kinds kinds (l.wrote ∙ sym numbers.0) (l.asked ∙ sym numbers.1) replies
+      told l
 
   -- the client is balanced again, before it acts
   pub reply-ready : (c j : ℕ) (p : Pace) (writes reads : ℕ → ℕ → ℕ) (kinds : ℕ → List Kind) → 1 ≤ j →
@@ -218,15 +211,7 @@ module _ (shape : Shape) (paces : ArePaces shape) where
   epoch-linked c p j i writes reads kinds false is behind_last more l =
       let q = epoch_came j p in
       let told : q.epochs i ≡ p.epochs i = λ k. cond (is k) (p.epochs j + 1) (p.epochs i) in
-      record {
-        wrote = l.wrote;
-        asked = l.asked;
-        came = omega (arith, l.came, told);
-        ordered = elim l.ordered [
-          | inl e ↦ inl (told ∙ e)
-          | inr e ↦ inr (e ∙ ap (λ n. (n + 1) * shape.ticks) (sym told))
-        ];
-      }
+      linked-by shape paces c p q i writes reads kinds kinds l.wrote l.asked refl told l
 
   pub epoch-ready : (c j : ℕ) (p : Pace) (writes reads : ℕ → ℕ → ℕ) (kinds : ℕ → List Kind) →
       IsReady shape c p writes reads kinds → TellsNext shape p j (newest_by shape (writes j)) →

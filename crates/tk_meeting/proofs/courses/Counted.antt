@@ -14,8 +14,8 @@ use Rattle.tk_meeting.specs.Events.{met}
 use Rattle.tk_meeting.specs.Hidden.{LooksAlike}
 use Rattle.tk_meeting.specs.Counted.{link_seen, all_seen}
 use Rattle.tk_meeting.specs.Counted.{MeetingsAsOften}
-use Rattle.tk_meeting.proofs.hidden.SameStreams.{map-agree}
-use Rattle.tk_meeting.proofs.courses.Together.{meetings-look-alike}
+use Rattle.tk_privacy.proofs.Offers.{map-range_same}
+use Rattle.tk_meeting.proofs.hidden.LookAlike.{meetings-look-alike}
 
 -- where two groups look alike, the same is seen of them
 same-seen : (shape : Shape) (h : ℕ) (m n : Meeting) → LooksAlike shape h m n →
@@ -23,7 +23,7 @@ same-seen : (shape : Shape) (h : ℕ) (m n : Meeting) → LooksAlike shape h m n
 same-seen shape h m n alike =
     privacy.others-same (λ j. map (link_seen m j) (range_with_len 0 shape.clients))
     (λ j. map (link_seen n j) (range_with_len 0 shape.clients)) shape h
-    (λ j low high differ. map-agree (link_seen m j) (link_seen n j) 0 shape.clients
+    (λ j low high differ. map-range_same (link_seen m j) (link_seen n j) 0 shape.clients
     (λ c less.
     let seen = alike.seen j c low high differ (omega (arith, less)) in
     λ i. record { came = seen.came i; coming = seen.coming i; going = seen.going i }))

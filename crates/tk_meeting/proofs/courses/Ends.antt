@@ -17,7 +17,7 @@ use Rattle.tk_meeting.proofs.Pace.{settled}
 use Rattle.tk_meeting.proofs.Course.{newest_by, replies_of, came_of, stream_len}
 use Rattle.tk_meeting.proofs.servers.Numbers.{phases-ordered}
 use Rattle.tk_meeting.proofs.courses.Lengths.{order-epoch}
-use Rattle.tk_meeting.proofs.courses.Acting.{asked_in, asked_in-append}
+use Rattle.tk_meeting.proofs.members.Paces.{written_on, asked_by, acted-pace}
 use Rattle.tk_meeting.proofs.courses.Balanced.{IsLinked, IsBalancedAt}
 
 -- ---- tests of each number
@@ -41,34 +41,17 @@ least-from k top f a (suc n) low each =
 
 -- ---- a client to which nothing is due asks nothing
 
-abbrev one_if : Bool → ℕ
-one_if b = cond b 1 0
-
-none_in : (n : ℕ) → asked_in (replicate n Wrote) ≡ 0
-none_in zero = refl
-none_in (suc n) = none_in n
-
-asks_one : (n : ℕ) (r : Pace) (b : Bool) →
-    let last : Paced =
-    cond b (record { pace = has_asked r; kinds = Asked ∷ [] }) (record { pace = r; kinds = [] })
-    in
-    asked_in (replicate n Wrote ++ last.kinds) ≡ one_if b
-asks_one n r true = asked_in-append (replicate n Wrote) (Asked ∷ []) ∙ omega (arith, none_in n)
-asks_one n r false = asked_in-append (replicate n Wrote) [] ∙ omega (arith, none_in n)
-
-none_of : (b : Bool) → one_if b ≡ 0 → b ≡ false
-none_of true is = absurd (omega (arith, is))
-none_of false is = refl
-
-asks-none : (shape : Shape) (p : Pace) → IsIdle shape p →
-    asks_now shape (gone_by_ticks shape (gone_ahead shape p)) ≡ false
-unfolding acted
-asks-none shape p idle =
-    let q = gone_ahead shape p in
-    let r = gone_by_ticks shape q in
-    none_of (asks_now shape r)
-    (sym (asks_one (count_ahead shape p + count_ticks shape q) r (asks_now shape r))
-    ∙ ap (λ (t : Paced). asked_in t.kinds) idle)
+asks-none : (shape : Shape) (p : Pace) → IsIdle shape p → asks_now shape (written_on shape p) ≡ false
+asks-none shape p idle = by (asks_now shape (written_on shape p)) refl
+  where
+    by : (b : Bool) → asks_now shape (written_on shape p) ≡ b → asks_now shape (written_on shape p) ≡ false
+    by true is =
+        let more : p.asked ≡ p.asked + 1 =
+        sym (ap (λ (t : Paced). t.pace.asked) idle)
+        ∙ ap (λ (q : Pace). q.asked) (acted-pace shape p ∙ ap (λ b. (asked_by b (written_on shape p)).pace) is)
+        in
+        absurd (omega (arith, more))
+    by false is = is
 
 asks_if : (a b c : Bool) → a ≡ true → b ≡ false → c ≡ true → (a && not b && c) ≡ true
 asks_if a b c x y z = λ i. x i && not (y i) && z i

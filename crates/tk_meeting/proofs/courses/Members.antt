@@ -15,7 +15,7 @@ use Rattle.tk_meeting.proofs.Canonical.{AreFronts, stream}
 use Rattle.tk_meeting.proofs.Pace.{Pace, Kind, settled, acted}
 use Rattle.tk_meeting.proofs.Standing.{IsAt, frames_of, Goes}
 use Rattle.tk_meeting.proofs.Course.{Course, newest_by, came_of, goes_on}
-use Rattle.tk_meeting.proofs.courses.Picks.{pick}
+use Rattle.tk_meeting.proofs.courses.Picks.{at-place}
 use Rattle.tk_meeting.proofs.courses.Acting.{IsActed, acted-is}
 use Rattle.tk_meeting.proofs.courses.Balanced.{IsLinked}
 use Rattle.tk_meeting.proofs.courses.Frames.{frames-append}
@@ -98,17 +98,12 @@ module _ (S : Script) (b : WordBook) where
       let kept : Keeps S b (goes_on S.shape q c p) (member_went m c (Ok t)) =
       record {
         clients = λ d low.
-            pick (λ k.
-            ClientKeeps S b d (cond k next.pace (q.paces d)) q.writes q.reads
-            (cond k (λ j. q.up c j ++ next.kinds) (q.up d)) (cond k t.member (m.members d)) (m.said d)
-            (cond k (m.told c ++ for_peer 0 t.packets) (m.told d)) (m.ended d)
-            (cond k (λ j. m.up c j ++ frames_for j t.packets) (m.up d)) (λ j. m.down j d)) (d == c)
-            (λ same.
-            subst (λ x.
-            ClientKeeps S b x next.pace q.writes q.reads (λ j. q.up c j ++ next.kinds) t.member (m.said x)
-            (m.told c ++ for_peer 0 t.packets) (m.ended x) (λ j. m.up c j ++ frames_for j t.packets)
-            (λ j. m.down j x)) (sym (eqb-true d c same)) (client_went q m c p saids news result h g))
-            (λ other. h.others d low other);
+            at-place (λ x k.
+            ClientKeeps S b x (cond k next.pace (q.paces x)) q.writes q.reads
+            (cond k (λ j. q.up c j ++ next.kinds) (q.up x)) (cond k t.member (m.members x)) (m.said x)
+            (cond k (m.told c ++ for_peer 0 t.packets) (m.told x)) (m.ended x)
+            (cond k (λ j. m.up c j ++ frames_for j t.packets) (m.up x)) (λ j. m.down j x)) c d
+            (client_went q m c p saids news result h g) (λ other. h.others d low other);
         servers = h.servers;
       }
       in

@@ -1,12 +1,17 @@
 -- A choice by a test, and a function that is changed in one place.
-use Rattle.std.proofs.Common.{◌≡◌, refl, ℕ, Bool, true, false, cond}
+use Rattle.std.proofs.Common.{◌≡◌, refl, sym, subst, ℕ, Bool, true, false, cond}
 use Rattle.std.specs.Prelude.{◌==◌}
-use Rattle.std.proofs.lemmas.Bool.{eq-eqb}
+use Rattle.std.proofs.lemmas.Bool.{eq-eqb, eqb-true}
 
 -- what holds either way holds
 pub pick : (P : Bool → Type 0) (k : Bool) → (k ≡ true → P true) → (k ≡ false → P false) → P k
 pick P true this that = this refl
 pick P false this that = that refl
+
+-- what holds at a place, and elsewhere, holds of any number
+pub at-place : (P : ℕ → Bool → Type 0) (c k : ℕ) → P c true → ((k == c) ≡ false → P k false) → P k (k == c)
+at-place P c k here there =
+    pick (P k) (k == c) (λ same. subst (λ n. P n true) (sym (eqb-true k c same)) here) there
 
 pub itself : (k : ℕ) → (k == k) ≡ true
 itself k = eq-eqb k k refl

@@ -22,7 +22,7 @@ use Rattle.tk_meeting.proofs.Course.{Course, newest_by, came_of, goes_on}
 use Rattle.tk_meeting.proofs.telling.Foreseeing.{ForeseesOf, Foresees}
 use Rattle.tk_meeting.proofs.courses.Picks.{itself}
 use Rattle.tk_meeting.proofs.courses.Balanced.{IsReady, ArePaces}
-use Rattle.tk_meeting.proofs.courses.Foretelling.{acts-written}
+use Rattle.tk_meeting.proofs.courses.Foretelling.{writes-so}
 use Rattle.tk_meeting.proofs.courses.Keeps.{ClientKeeps, Keeps}
 use Rattle.tk_meeting.proofs.courses.Members.{IsPoised, went-keeps}
 
@@ -76,7 +76,7 @@ module _ (S : Script) (b : WordBook) (paces : ArePaces S.shape) (laws : AreMembe
       λ i. cond (itself c i) turned.member (m.members c)
       in
       let far : (cond (c == c) turned.member (m.members c)).written ≡ (acted S.shape p).pace.written =
-      ap (λ (x : MemberState). x.written) client ∙ acts-written S b c p saids r.member r.at
+      ap (λ (x : MemberState). x.written) client ∙ writes-so S b c p saids r.member r.at
       in
       let of : ForeseesOf S c (acted S.shape p).pace.written (m.said c) =
       subst (λ n. ForeseesOf S c n (m.said c)) far (there.each c low)

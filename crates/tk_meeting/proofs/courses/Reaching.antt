@@ -1,5 +1,5 @@
 -- A frame of a client reaches a server, and every course stays balanced.
-use Rattle.std.proofs.Common.{◌≡◌, refl, ap, sym, subst, ℕ, ◌+◌, ◌≤◌, ◌<◌, true, false, cond, arith, le_trans}
+use Rattle.std.proofs.Common.{◌≡◌, refl, ap, ap₂, sym, ◌∙◌, subst, ℕ, ◌+◌, ◌≤◌, ◌<◌, true, false, cond, arith, le_trans}
 use Rattle.std.proofs.Common.{List, [], ◌∷◌}
 use Rattle.std.specs.Prelude.{◌==◌, ◌&&◌, nat_lt, nat_le}
 use Rattle.std.proofs.lemmas.Bool.{eqb-true, and_parts, ltb-true, leb-true}
@@ -9,169 +9,96 @@ use Rattle.tk_meeting.specs.Meeting.{changed}
 use Rattle.tk_meeting.proofs.Pace.{Pace, Kind, Wrote, Asked, ticked, sent_ahead}
 use Rattle.tk_meeting.proofs.Course.{Course, first_course, newest_by, came_of, stream_len, goes_on, course_up}
 use Rattle.tk_meeting.proofs.Course.{pace_down, course_down, moves, moved, course_of}
-use Rattle.tk_meeting.proofs.courses.Picks.{pick, itself}
-use Rattle.tk_meeting.proofs.servers.Bumps.{newest-grows}
+use Rattle.tk_meeting.proofs.courses.Acting.{wrote_in, asked_in}
+use Rattle.tk_meeting.proofs.courses.Picks.{at-place, pick, itself}
+use Rattle.tk_meeting.proofs.servers.Bumps.{newest-grows, bumped, bumped-above}
 use Rattle.tk_meeting.proofs.servers.Numbers.{length-grows}
 use Rattle.tk_meeting.proofs.courses.Balanced.{IsLinked, IsBalanced, IsBalancedAt, ArePaces}
 use Rattle.tk_meeting.proofs.courses.Balanced.{first-balanced, goes_on-balanced, ticked-ready, ahead-ready}
 use Rattle.tk_meeting.proofs.courses.Coming.{down-ready}
 
--- links to each server that are kept keep a client balanced
-pub with-links : (shape : Shape) (c : ℕ) (p : Pace) (writes reads : ℕ → ℕ → ℕ) (kinds : ℕ → List Kind)
-    (more_writes more_reads : ℕ → ℕ → ℕ) (more_kinds : ℕ → List Kind) →
-    IsBalancedAt shape c p writes reads kinds →
-    ((j : ℕ) → 1 ≤ j → j ≤ shape.servers → IsLinked shape c p j (writes j) (reads j c) (kinds j) →
-    IsLinked shape c p j (more_writes j) (more_reads j c) (more_kinds j)) →
-    IsBalancedAt shape c p more_writes more_reads more_kinds
-with-links shape c p writes reads kinds more_writes more_reads more_kinds h each =
+-- where more came to servers, and as much less is on its way to them, a course stays balanced
+reached : (shape : Shape) (q : Course) (writes reads : ℕ → ℕ → ℕ) (up : ℕ → ℕ → List Kind) →
+    ((i d : ℕ) → q.writes i d ≤ writes i d) → ((i d : ℕ) → q.reads i d ≤ reads i d) →
+    ((i d : ℕ) → writes i d + wrote_in (up d i) ≡ q.writes i d + wrote_in (q.up d i)) →
+    ((i d : ℕ) → reads i d + asked_in (up d i) ≡ q.reads i d + asked_in (q.up d i)) → IsBalanced shape q →
+    IsBalanced shape (record q { writes = writes; reads = reads; up = up })
+reached shape q writes reads up more_writes more_reads as_written as_asked h =
     record {
-      ready =
+      each = λ d low.
           record {
-            pace = h.ready.pace;
-            links = λ j low high. each j low high (h.ready.links j low high);
+            ready =
+                record {
+                  pace = (h.each d low).ready.pace;
+                  links = λ i one most. link d i ((h.each d low).ready.links i one most);
+                };
+            idle = (h.each d low).idle;
           };
-      idle = h.idle;
     }
+  where
+    link : (d i : ℕ) → IsLinked shape d (q.paces d) i (q.writes i) (q.reads i d) (q.up d i) →
+        IsLinked shape d (q.paces d) i (writes i) (reads i d) (up d i)
+    link d i l =
+        record {
+          wrote = as_written i d ∙ l.wrote;
+          asked = as_asked i d ∙ l.asked;
+          came =
+              le_trans l.came
+              (length-grows shape (newest_by shape (q.writes i)) (newest_by shape (writes i)) (q.reads i d) (reads i d)
+              (newest-grows shape (q.writes i) (writes i) (λ e client. more_writes i e)) (more_reads i d));
+          ordered = l.ordered;
+        }
 
--- one more where it is changed, and as many elsewhere
-pub changed-more : (c : ℕ) (f : ℕ → ℕ) (d : ℕ) → f d ≤ changed c (f c + 1) f d
-changed-more c f d =
-    pick (λ b. f d ≤ cond b (f c + 1) (f d)) (d == c)
-    (λ same. omega (arith, ap f (eqb-true d c same))) (λ other. omega arith)
+-- ---- one frame
 
--- ---- a write
+-- one more came to server j of client c, and is no more on its way
+module _ (c j : ℕ) (f : ℕ → ℕ → ℕ) (up : ℕ → ℕ → List Kind) (left : List Kind) where
+  one_came : (i d : ℕ) → f i d ≤ changed j (changed c (f j c + 1) (f j)) f i d
+  one_came i d =
+      at-place (λ k t. f k d ≤ cond t (changed c (f j c + 1) (f j)) (f k) d) j i (bumped-above c (f j) d)
+      (λ _. omega arith)
 
-wrote_here : (shape : Shape) (c : ℕ) (p : Pace) (j : ℕ) (writes : ℕ → ℕ) (reads : ℕ) (left : List Kind) →
-    IsLinked shape c p j writes reads (Wrote ∷ left) →
-    IsLinked shape c p j (changed c (writes c + 1) writes) reads left
-wrote_here shape c p j writes reads left l =
-    let more = changed c (writes c + 1) writes in
-    let now : more c ≡ writes c + 1 = λ i. cond (itself c i) (writes c + 1) (writes c) in
-    record {
-      wrote = omega (arith, l.wrote, now);
-      asked = l.asked;
-      came =
-          le_trans l.came
-          (length-grows shape (newest_by shape writes) (newest_by shape more) reads reads
-          (newest-grows shape writes more (λ d low. changed-more c writes d)) (omega arith));
-      ordered = l.ordered;
-    }
+  -- what is counted of these frames, before and after
+  as_many : (n : List Kind → ℕ) → f j c + 1 + n left ≡ f j c + n (up c j) → (i d : ℕ) →
+      changed j (changed c (f j c + 1) (f j)) f i d + n (changed c (changed j left (up c)) up d i)
+      ≡ f i d + n (up d i)
+  as_many n one i d =
+      at-place (λ x s.
+      cond s (changed c (f j c + 1) (f j)) (f x) d + n (changed c (changed j left (up c)) up d x) ≡ f x d + n (up d x))
+      j i
+      (at-place (λ y t.
+      cond t (f j c + 1) (f j y) + n (cond t (changed j left (up c)) (up y) j) ≡ f j y + n (up y j)) c d
+      (ap (λ s. f j c + 1 + n (cond s left (up c j))) (itself j) ∙ one) (λ _. refl))
+      (λ e. at-place (λ y t. f i d + n (cond t (changed j left (up c)) (up y) i) ≡ f i d + n (up y i)) c d
+      (ap (λ s. f i d + n (cond s left (up c i))) e) (λ _. refl))
 
-wrote_other : (shape : Shape) (c d : ℕ) (p : Pace) (j : ℕ) (writes : ℕ → ℕ) (reads : ℕ) (kinds : List Kind) →
-    (d == c) ≡ false → IsLinked shape d p j writes reads kinds →
-    IsLinked shape d p j (changed c (writes c + 1) writes) reads kinds
-wrote_other shape c d p j writes reads kinds other l =
-    let more = changed c (writes c + 1) writes in
-    let now : more d ≡ writes d = λ i. cond (other i) (writes c + 1) (writes d) in
-    record {
-      wrote = omega (arith, l.wrote, now);
-      asked = l.asked;
-      came =
-          le_trans l.came
-          (length-grows shape (newest_by shape writes) (newest_by shape more) reads reads
-          (newest-grows shape writes more (λ d low. changed-more c writes d)) (omega arith));
-      ordered = l.ordered;
-    }
-
-client_wrote : (shape : Shape) (c : ℕ) (p : Pace) (j : ℕ) (writes reads : ℕ → ℕ → ℕ) (kinds : ℕ → List Kind)
-    (left : List Kind) → kinds j ≡ Wrote ∷ left → IsBalancedAt shape c p writes reads kinds →
-    IsBalancedAt shape c p (changed j (changed c (writes j c + 1) (writes j)) writes) reads
-    (changed j left kinds)
-client_wrote shape c p j writes reads kinds left first h =
-    let more = changed c (writes j c + 1) (writes j) in
-    with-links shape c p writes reads kinds (changed j more writes) reads (changed j left kinds) h
-    (λ i low high l. pick (λ k.
-    IsLinked shape c p i (cond k more (writes i)) (reads i c) (cond k left (kinds i))) (i == j) (λ same.
-    subst (λ n. IsLinked shape c p n more (reads n c) left) (sym (eqb-true i j same))
-    (wrote_here shape c p j (writes j) (reads j c) left
-    (subst (IsLinked shape c p j (writes j) (reads j c)) first
-    (subst (λ n. IsLinked shape c p n (writes n) (reads n c) (kinds n)) (eqb-true i j same) l))))
-    (λ other. l))
-
-others_wrote : (shape : Shape) (c d : ℕ) (p : Pace) (j : ℕ) (writes reads : ℕ → ℕ → ℕ)
-    (kinds : ℕ → List Kind) → (d == c) ≡ false → IsBalancedAt shape d p writes reads kinds →
-    IsBalancedAt shape d p (changed j (changed c (writes j c + 1) (writes j)) writes) reads kinds
-others_wrote shape c d p j writes reads kinds apart h =
-    let more = changed c (writes j c + 1) (writes j) in
-    with-links shape d p writes reads kinds (changed j more writes) reads kinds h
-    (λ i low high l. pick (λ k. IsLinked shape d p i (cond k more (writes i)) (reads i d) (kinds i)) (i == j)
-    (λ same. subst (λ n. IsLinked shape d p n more (reads n d) (kinds n)) (sym (eqb-true i j same))
-    (wrote_other shape c d p j (writes j) (reads j d) (kinds j) apart
-    (subst (λ n. IsLinked shape d p n (writes n) (reads n d) (kinds n)) (eqb-true i j same) l)))
-    (λ other. l))
-
--- ---- a read
-
-asked_here : (shape : Shape) (c : ℕ) (p : Pace) (j : ℕ) (writes : ℕ → ℕ) (reads : ℕ) (left : List Kind) →
-    IsLinked shape c p j writes reads (Asked ∷ left) → IsLinked shape c p j writes (reads + 1) left
-asked_here shape c p j writes reads left l =
-    let n = newest_by shape writes in
-    record {
-      wrote = l.wrote;
-      asked = omega (arith, l.asked);
-      came = le_trans l.came (length-grows shape n n reads (reads + 1) (omega arith) (omega arith));
-      ordered = l.ordered;
-    }
-
-client_asked : (shape : Shape) (c : ℕ) (p : Pace) (j : ℕ) (writes reads : ℕ → ℕ → ℕ) (kinds : ℕ → List Kind)
-    (left : List Kind) → kinds j ≡ Asked ∷ left → IsBalancedAt shape c p writes reads kinds →
-    IsBalancedAt shape c p writes (changed j (changed c (reads j c + 1) (reads j)) reads)
-    (changed j left kinds)
-client_asked shape c p j writes reads kinds left first h =
-    let more = changed c (reads j c + 1) (reads j) in
-    let now : more c ≡ reads j c + 1 = λ i. cond (itself c i) (reads j c + 1) (reads j c) in
-    with-links shape c p writes reads kinds writes (changed j more reads) (changed j left kinds) h
-    (λ i low high l. pick (λ k.
-    IsLinked shape c p i (writes i) (cond k more (reads i) c) (cond k left (kinds i))) (i == j) (λ same.
-    subst (λ n. IsLinked shape c p n (writes n) (more c) left) (sym (eqb-true i j same))
-    (subst (λ n. IsLinked shape c p j (writes j) n left) (sym now)
-    (asked_here shape c p j (writes j) (reads j c) left
-    (subst (IsLinked shape c p j (writes j) (reads j c)) first
-    (subst (λ n. IsLinked shape c p n (writes n) (reads n c) (kinds n)) (eqb-true i j same) l)))))
-    (λ other. l))
-
-others_asked : (shape : Shape) (c d : ℕ) (p : Pace) (j : ℕ) (writes reads : ℕ → ℕ → ℕ)
-    (kinds : ℕ → List Kind) → (d == c) ≡ false → IsBalancedAt shape d p writes reads kinds →
-    IsBalancedAt shape d p writes (changed j (changed c (reads j c + 1) (reads j)) reads) kinds
-others_asked shape c d p j writes reads kinds apart h =
-    let more = changed c (reads j c + 1) (reads j) in
-    let now : more d ≡ reads j d = λ i. cond (apart i) (reads j c + 1) (reads j d) in
-    with-links shape d p writes reads kinds writes (changed j more reads) kinds h
-    (λ i low high l. pick (λ k. IsLinked shape d p i (writes i) (cond k more (reads i) d) (kinds i)) (i == j)
-    (λ same. subst (λ n. IsLinked shape d p n (writes n) (more d) (kinds n)) (sym (eqb-true i j same))
-    (subst (λ n. IsLinked shape d p j (writes j) n (kinds j)) (sym now)
-    (subst (λ n. IsLinked shape d p n (writes n) (reads n d) (kinds n)) (eqb-true i j same) l)))
-    (λ other. l))
-
--- ---- either
+  -- and of frames of the other kind
+  as_before : (n : List Kind → ℕ) → n left ≡ n (up c j) → (i d : ℕ) →
+      f i d + n (changed c (changed j left (up c)) up d i) ≡ f i d + n (up d i)
+  as_before n same i d =
+      at-place (λ y t. f i d + n (cond t (changed j left (up c)) (up y) i) ≡ f i d + n (up y i)) c d
+      (at-place (λ x s. f i d + n (cond s left (up c x)) ≡ f i d + n (up c x)) j i (ap (λ k. f i d + k) same) (λ _. refl))
+      (λ _. refl)
 
 pub up-balanced : (shape : Shape) (q : Course) (c j : ℕ) (kinds : List Kind) → q.up c j ≡ kinds →
     IsBalanced shape q → IsBalanced shape (course_up q c j kinds)
 up-balanced shape q c j [] is h = h
 up-balanced shape q c j (Wrote ∷ left) is h =
     let writes = changed j (changed c (q.writes j c + 1) (q.writes j)) q.writes in
-    record {
-      each = λ d low.
-          pick (λ k.
-          IsBalancedAt shape d (q.paces d) writes q.reads (cond k (changed j left (q.up c)) (q.up d)))
-          (d == c) (λ same. let e = eqb-true d c same in
-          subst (λ x. IsBalancedAt shape x (q.paces x) writes q.reads (changed j left (q.up c))) (sym e)
-          (client_wrote shape c (q.paces c) j q.writes q.reads (q.up c) left is
-          (subst (λ x. IsBalancedAt shape x (q.paces x) q.writes q.reads (q.up x)) e (h.each d low))))
-          (λ other. others_wrote shape c d (q.paces d) j q.writes q.reads (q.up d) other (h.each d low));
-    }
+    let wrote : q.writes j c + 1 + wrote_in left ≡ q.writes j c + wrote_in (q.up c j) =
+    let first : wrote_in (q.up c j) ≡ 1 + wrote_in left = ap wrote_in is in omega (arith, first)
+    in
+    reached shape q writes q.reads (changed c (changed j left (q.up c)) q.up) (one_came c j q.writes q.up left)
+    (λ i d. omega arith) (as_many c j q.writes q.up left wrote_in wrote)
+    (as_before c j q.reads q.up left asked_in (sym (ap asked_in is))) h
 up-balanced shape q c j (Asked ∷ left) is h =
     let reads = changed j (changed c (q.reads j c + 1) (q.reads j)) q.reads in
-    record {
-      each = λ d low.
-          pick (λ k.
-          IsBalancedAt shape d (q.paces d) q.writes reads (cond k (changed j left (q.up c)) (q.up d)))
-          (d == c) (λ same. let e = eqb-true d c same in
-          subst (λ x. IsBalancedAt shape x (q.paces x) q.writes reads (changed j left (q.up c))) (sym e)
-          (client_asked shape c (q.paces c) j q.writes q.reads (q.up c) left is
-          (subst (λ x. IsBalancedAt shape x (q.paces x) q.writes q.reads (q.up x)) e (h.each d low))))
-          (λ other. others_asked shape c d (q.paces d) j q.writes q.reads (q.up d) other (h.each d low));
-    }
+    let asked : q.reads j c + 1 + asked_in left ≡ q.reads j c + asked_in (q.up c j) =
+    let first : asked_in (q.up c j) ≡ 1 + asked_in left = ap asked_in is in omega (arith, first)
+    in
+    reached shape q q.writes reads (changed c (changed j left (q.up c)) q.up) (λ i d. omega arith)
+    (one_came c j q.reads q.up left) (as_before c j q.writes q.up left wrote_in (sym (ap wrote_in is)))
+    (as_many c j q.reads q.up left asked_in asked) h
 
 -- ---- any event
 

@@ -7,6 +7,7 @@ use Rattle.std.proofs.lemmas.Bool.{eqb-true, eq-eqb, and_from}
 use Rattle.tk_shape.specs.declared.shape.Shape.{Shape}
 use Rattle.tk_client.specs.declared.open_read.OpenRead.{OpenRead}
 use Rattle.tk_member.specs.Members.{MemberState, is_over}
+use Rattle.std.proofs.lemmas.Bool.{and_parts}
 use Rattle.tk_meeting.proofs.Standing.{read_of}
 use Rattle.std.proofs.Common.{ap₂, ◌∷◌}
 use Rattle.std.proofs.lemmas.List.{length-append}
@@ -69,10 +70,6 @@ settled_most p true is =
 settled_most p false is =
     let e : settled p ≡ p.asked = ap (λ t. cond t (p.asked - 1) p.asked) is in
     omega (arith, e)
-
-and-both : (a c : Bool) → (a && c) ≡ true → (a ≡ true) × (c ≡ true)
-and-both true c h = (refl, h)
-and-both false c h = absurd (cc h)
 
 closed-open : (t : Bool) (x : OpenRead) → is_none (cond t (Some x) None) ≡ true → t ≡ false
 closed-open true x h = absurd (cc h)
@@ -156,8 +153,8 @@ module _ (S : Script) (b : WordBook) (q : Course) (m : Meeting) (keeps : Keeps S
       let k = keeps.clients c low in
       let turns = turn_count (m.members c).client.shape in
       let n = m.members c in
-      let both = and-both (n.written == turns && n.asked == turns) (is_none n.client.read) over in
-      let two = and-both (n.written == turns) (n.asked == turns) both.0 in
+      let both = and_parts (n.written == turns && n.asked == turns) (is_none n.client.read) over in
+      let two = and_parts (n.written == turns) (n.asked == turns) both.0 in
       let asked : (q.paces c).asked ≡ turn_count S.shape =
       sym k.at.asked_is ∙ eqb-true n.asked turns two.1 ∙ ap (λ (s : Shape). turn_count s) k.at.shape_is in
       let shut = closed-open (q.paces c).is_open (read_of S b c ((q.paces c).asked - 1))

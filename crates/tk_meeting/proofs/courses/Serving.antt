@@ -19,7 +19,7 @@ use Rattle.tk_meeting.proofs.Course.{Course, newest_by, came_of, course_up}
 use Rattle.tk_meeting.proofs.servers.Numbers.{stream-length}
 use Rattle.tk_meeting.proofs.servers.Gains.{TakesFrame}
 use Rattle.tk_meeting.proofs.servers.Taken.{write-steps, read-steps}
-use Rattle.tk_meeting.proofs.courses.Picks.{pick, itself, unchanged}
+use Rattle.tk_meeting.proofs.courses.Picks.{at-place, itself, unchanged}
 use Rattle.tk_meeting.proofs.courses.Acting.{wrote_in, asked_in}
 use Rattle.tk_meeting.proofs.courses.Balanced.{IsBalanced}
 use Rattle.tk_meeting.proofs.courses.Keeps.{LinkKeeps, Keeps}
@@ -63,33 +63,24 @@ module _ (S : Script) (b : WordBook) (q : Course) (m : Meeting) (keeps : Keeps S
         LinkKeeps S b c i (q.paces c) (writes_then i) (reads_then i c) (changed j left (q.up c) i)
         (changed j frames (m.up c) i) (down_then i c)
     own_link i first last =
-        pick (λ k.
-        LinkKeeps S b c i (q.paces c) (cond k writes (q.writes i)) (cond k reads (q.reads i) c)
-        (cond k left (q.up c i)) (cond k frames (m.up c i))
-        (cond k (λ d. m.down j d ++ frames_for (d + 1) s.packets) (m.down i) c)) (i == j) (λ same.
-        subst (λ n.
-        LinkKeeps S b c n (q.paces c) writes (reads c) left frames
-        (m.down j c ++ frames_for (c + 1) s.packets)) (sym (eqb-true i j same)) (record {
-          up_is = up_left;
-          down_is = down_more c low;
-        })) (λ other. (keeps.clients c low).links i first last)
+        at-place (λ n k.
+        LinkKeeps S b c n (q.paces c) (cond k writes (q.writes n)) (cond k reads (q.reads n) c)
+        (cond k left (q.up c n)) (cond k frames (m.up c n))
+        (cond k (λ d. m.down j d ++ frames_for (d + 1) s.packets) (m.down n) c)) j i
+        (record { up_is = up_left; down_is = down_more c low }) (λ other. (keeps.clients c low).links i first last)
 
     other_link : (d : ℕ) → d < S.shape.clients → (d == c) ≡ false → (i : ℕ) → 1 ≤ i → i ≤ S.shape.servers →
         LinkKeeps S b d i (q.paces d) (writes_then i) (reads_then i d) (q.up d i) (m.up d i) (down_then i d)
     other_link d within apart i first last =
         let k = (keeps.clients d within).links j one most in
-        pick (λ k.
-        LinkKeeps S b d i (q.paces d) (cond k writes (q.writes i)) (cond k reads (q.reads i) d) (q.up d i)
-        (m.up d i) (cond k (λ d. m.down j d ++ frames_for (d + 1) s.packets) (m.down i) d)) (i == j)
-        (λ same.
-        subst (λ n.
-        LinkKeeps S b d n (q.paces d) writes (reads d) (q.up d n) (m.up d n)
-        (m.down j d ++ frames_for (d + 1) s.packets)) (sym (eqb-true i j same)) (record {
+        at-place (λ n t.
+        LinkKeeps S b d n (q.paces d) (cond t writes (q.writes n)) (cond t reads (q.reads n) d) (q.up d n)
+        (m.up d n) (cond t (λ d. m.down j d ++ frames_for (d + 1) s.packets) (m.down n) d)) j i (record {
           up_is = k.up_is
               ∙ (λ t.
               frames_of S b d j (sym (writes_same d apart) t) (sym (reads_same d apart) t) (q.up d j));
           down_is = down_more d within;
-        })) (λ other. (keeps.clients d within).links i first last)
+        }) (λ other. (keeps.clients d within).links i first last)
 
     pub took-keeps :
         let after : Course =
@@ -106,23 +97,16 @@ module _ (S : Script) (b : WordBook) (q : Course) (m : Meeting) (keeps : Keeps S
                 told_is = k.told_is;
                 going = k.going;
                 links = λ i first last.
-                    pick (λ k.
-                    LinkKeeps S b d i (q.paces d) (writes_then i) (reads_then i d)
-                    (cond k (changed j left (q.up c)) (q.up d) i)
-                    (cond k (changed j frames (m.up c)) (m.up d) i) (down_then i d)) (d == c) (λ same.
-                    subst (λ n.
-                    LinkKeeps S b n i (q.paces n) (writes_then i) (reads_then i n) (changed j left (q.up c) i)
-                    (changed j frames (m.up c) i) (down_then i n)) (sym (eqb-true d c same))
-                    (own_link i first last))
+                    at-place (λ n k.
+                    LinkKeeps S b n i (q.paces n) (writes_then i) (reads_then i n)
+                    (cond k (changed j left (q.up c)) (q.up n) i)
+                    (cond k (changed j frames (m.up c)) (m.up n) i) (down_then i n)) c d (own_link i first last)
                     (λ other. other_link d within other i first last);
               };
           servers = λ i first last.
-              pick (λ k.
-              AreFronts S b i (cond k writes (q.writes i)) (cond k reads (q.reads i))
-              (cond k s.seats (m.seats i))) (i == j)
-              (λ same.
-              subst (λ n. AreFronts S b n writes reads s.seats) (sym (eqb-true i j same)) takes.fronts)
-              (λ other. keeps.servers i first last);
+              at-place (λ n k.
+              AreFronts S b n (cond k writes (q.writes n)) (cond k reads (q.reads n)) (cond k s.seats (m.seats n))) j i
+              takes.fronts (λ other. keeps.servers i first last);
         }
 
   -- no change

@@ -8,7 +8,6 @@ use Rattle.tk_meeting.specs.Hidden.{MeetingsLookAlike}
 use Rattle.tk_meeting.specs.Events.{met}
 use Rattle.tk_meeting.proofs.own.Meetings.{same-met}
 use Rattle.tk_meeting.proofs.gotten.Telling.{told-of, told-whole}
-use Rattle.tk_meeting.proofs.hidden.Kept.{AreKept, meetings_look_alike-kept}
 use Rattle.tk_meeting.proofs.courses.Serially.{HasToldWhole, IsSerialWhole}
 use Rattle.tk_meeting.proofs.courses.Gathered.{course-balanced, meeting-keeps, meeting-serial}
 
@@ -42,14 +41,3 @@ meetings-are-serial S b books events more book keys tells =
     subst (IsSerial S b) (sym (same events))
     (log-by-log S b (met S (λ c. b) events)
     (meeting-serial S b book events more (subst (Tells S) (same (events ++ more)) tells)))
-
--- a meeting keeps what its course says, which is balanced
-pub are-kept : AreKept
-are-kept S b events more book tells =
-    record {
-      balanced = course-balanced S.shape events;
-      keeps = meeting-keeps S b book events more tells;
-    }
-
-pub meetings-look-alike : MeetingsLookAlike
-meetings-look-alike = meetings_look_alike-kept are-kept

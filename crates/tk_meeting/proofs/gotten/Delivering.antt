@@ -19,38 +19,16 @@ use Rattle.tk_client.specs.declared.got.Got.TheVariants.{Absent, Text}
 use Rattle.tk_report.specs.Entries.{entries}
 use Rattle.tk_report.specs.Report.{lookup, read_over, got_of}
 use Rattle.tk_report.specs.Delivered.{IsClear}
-use Rattle.tk_report.proofs.RetainedLaws.{retained-own, record-gives}
-use Rattle.tk_report.proofs.WrittenLaws.{before-own}
-use Rattle.tk_report.proofs.PassingOverLaws.{honest-passing_over}
+use Rattle.tk_report.proofs.Offers.{retained-own, record-gives, first_some-gives, before-own, honest-passing_over, get-front}
 use Rattle.tk_schedule.specs.Schedule.{epoch_at}
 use Rattle.tk_meeting.specs.Meeting.{Meeting}
 use Rattle.tk_meeting.specs.Events.{met}
 use Rattle.tk_meeting.specs.Laws.{HasToldOf, IsSerial, MeetingsAreSerial}
 use Rattle.tk_meeting.specs.Delivery.{IsAsWritten, IsDelivered, MeetingsDeliver}
 use Rattle.tk_meeting.proofs.Canonical.{serial}
-use Rattle.tk_meeting.proofs.gotten.Finding.{WasFound, texts-found, get-front}
+use Rattle.tk_meeting.proofs.gotten.Finding.{WasFound, texts-found}
 
 -- ---- the record that gives a text
-
--- one of a list that gives something
-record Gives {X Y : Type 0} (f : X → Option Y) (xs : List X) (y : Y) : Type 0 where
-  giver : X
-  there : IsIn xs giver
-  gives : f giver ≡ Some y
-
-first_some-gives : {X Y : Type 0} (f : X → Option Y) (xs : List X) (y : Y) →
-    first_some f xs ≡ Some y → Gives f xs y
-first_some-gives f [] y e = absurd (cc e)
-first_some-gives {X} {Y} f (x ∷ xs) y e =
-    elim (f x)
-    as (λ o. f x ≡ o → option_or o (first_some f xs) ≡ Some y → Gives f (x ∷ xs) y) [
-      | None ↦ λ _ later. let behind = first_some-gives f xs y later in
-          record { giver = behind.giver; there = inr behind.there; gives = behind.gives }
-      | Some z ↦ λ here same. record { giver = x; there = inl refl; gives = here ∙ same }
-    ] refl e
-
-some_inj : {X : Type 0} (a b : X) → Some a ≡ Some b → a ≡ b
-some_inj a b e = cc e
 
 -- a text that was found in a clear run is what was written
 found-written : (S : Script) (b : WordBook) (c log s : ℕ) (text : List ℕ) → IsBook S.shape b →
@@ -68,6 +46,9 @@ found-written S b c log s text served low clear was =
     let r = first.giver in
     let among = before-own E e r (retained-own S.shape R r first.there) in
     let own = clear.own r log s text (contains_from_in (records E) r among) number first.gives in
+    let given : Some text ≡ Some own.sending.text =
+    sym first.gives ∙ record-gives S w log s r (opens_sealed S.shape b served) number own
+    in
     record {
       turn = was.turn;
       in_run = was.in_turns;
@@ -75,8 +56,7 @@ found-written S b c log s text served low clear was =
       found = r;
       is_retained = contains_from_in (retained S.shape R) r first.there;
       of_number = own;
-      written = some_inj text own.sending.text
-          (sym first.gives ∙ record-gives S w log s r (opens_sealed S.shape b served) number own);
+      written = cc given;
     }
 
 -- ---- what was told of a log

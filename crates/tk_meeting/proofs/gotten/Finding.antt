@@ -18,7 +18,7 @@ use Rattle.tk_client.specs.Reader.{follow_after, after_read, target, first_got, 
 use Rattle.tk_table.specs.Shown.{is_shown}
 use Rattle.tk_report.specs.Report.{lookup, follows_of, read_over, target_for, target_at, answer_for, reader_before}
 use Rattle.tk_report.specs.PassingOver.{Reads}
-use Rattle.tk_meeting.proofs.gotten.Aiming.{target-aimed}
+use Rattle.tk_report.proofs.Offers.{target-is, shown_over, get-front, get-behind, absent_then, settled}
 
 -- number s of a log is one of the run, and gave a text in one of the first n turns
 pub record WasFound (S : Script) (w : BookWords) (H : History) (c n log s : ℕ) (text : List ℕ)
@@ -81,22 +81,6 @@ all-later S w H c n (f ∷ follows) have =
 
 -- ---- where something is found
 
-pub get-front : {X : Type 0} (xs ys : List X) (i : ℕ) → i < length xs →
-    slice_get (xs ++ ys) i ≡ slice_get xs i
-get-front [] ys i low = absurd (omega (arith, low))
-get-front (x ∷ xs) ys zero low = refl
-get-front (x ∷ xs) ys (suc i) low = get-front xs ys i (omega (arith, low))
-
-get-behind : {X : Type 0} (xs ys : List X) (i : ℕ) →
-    slice_get (xs ++ ys) (length xs + i) ≡ slice_get ys i
-get-behind [] ys i = ap (slice_get ys) (zero-add i)
-get-behind (x ∷ xs) ys i =
-    ap (slice_get (x ∷ (xs ++ ys))) (suc-add (length xs) i) ∙ get-behind xs ys i
-
--- so many numbers without a text, and one with it
-abbrev absent_then : ℕ → List ℕ → List Got
-absent_then j text = replicate j Absent ++ Text text ∷ []
-
 -- the one with a text is the last
 text-last : (j i : ℕ) (text other : List ℕ) → slice_get (absent_then j text) i ≡ Some (Text other) →
     (j ≡ i) × (text ≡ other)
@@ -105,10 +89,6 @@ text-last zero (suc i) text other e = absurd (cc e)
 text-last (suc j) zero text other e = absurd (cc e)
 text-last (suc j) (suc i) text other e =
     let later = text-last j i text other e in (ap suc later.0, later.1)
-
--- a log with what it gave so far, of which nothing more was tried
-abbrev settled : Follow → List Got → Follow
-settled f got = record { log = f.log; got = got; tried = 0 }
 
 text-found : (S : Script) (w : BookWords) (H : History) (c g j : ℕ) (f : Follow) (text : List ℕ) →
     HasFound S w H c g f → next_of f + j < turn_count S.shape →
@@ -168,10 +148,6 @@ each-set P Q (x ∷ xs) zero d y goes each new = (new each.0, all-go xs each.1)
 each-set P Q (x ∷ xs) (suc i) d y goes each new =
     (goes x each.0, each-set P Q xs i d y goes each.1 new)
 
--- what the filter of a client's read shows
-abbrev shown_over : Script → BookWords → History → ℕ → ℕ → ℕ → ℕ → Bool
-shown_over S w H g c log s = is_shown S.shape (read_over S w H g c) (w.hits log s)
-
 read-found : (S : Script) (w : BookWords) (H : History) (c g : ℕ) (r : Reader) (t : Option Target) →
     HaveFound S w H c g r.follows → target_at S w H g c ≡ t → target S.shape (shown_over S w H g c) r ≡ t →
     HaveFound S w H c (suc g) (after_read S.shape r t (answer_for S w H g c t)).follows
@@ -179,14 +155,14 @@ unfolding after_read
 read-found S w H c g r None have at aimed = all-later S w H c g r.follows have
 read-found S w H c g r (Some t) have at aimed =
     let f = follow_at r t.place in
-    let is = target-aimed S.shape (shown_over S w H g c) r t aimed in
+    let is = target-is S.shape (shown_over S w H g c) r t aimed in
     let answer = answer_for S w H g c (Some t) in
     let gives : lookup S.shape w (read_over S w H g c) f.log (next_of f + t.ahead) ≡ answer =
     ap₂ (lookup S.shape w (read_over S w H g c)) (sym is.of_log) (sym is.of_number)
     in
     each-set (HasFound S w H c g) (HasFound S w H c (suc g)) r.follows t.place (new_follow 0)
     (follow_after S.shape t.ahead answer f) (later-found S w H c g) have
-    (λ has. answer-found S w H c g t.ahead f answer has is.number_in
+    (λ has. answer-found S w H c g t.ahead f answer has is.is_wanted.in_run
     (λ text e. record { target = t; asks = at; of_log = is.of_log; of_number = is.of_number; answer = gives ∙ e }))
 
 before-found : (S : Script) (w : BookWords) (H : History) (c g : ℕ) →

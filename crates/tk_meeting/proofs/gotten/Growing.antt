@@ -15,6 +15,7 @@ use Rattle.tk_client.specs.declared.target.Target.{Target}
 use Rattle.tk_client.specs.Reader.{Follow, Reader, new_follow, untried, at_epoch, follow_in, follow_after}
 use Rattle.tk_client.specs.Reader.{after_read, first_got, got_in}
 use Rattle.tk_report.specs.Report.{follows_of, target_for, answer_for, reader_before, got_of}
+use Rattle.tk_report.proofs.Offers.{after-log}
 
 -- what a log gave, and later that and more
 pub record GrowsTo (old new : List Got) : Type 0 where
@@ -63,13 +64,6 @@ follow-grows shape j (Some text) f =
 follow-grows shape j None f =
     elim (shape.ahead == 0) as (λ t. GrowsTo f.got (cond t f (record f { tried = j + 1 })).got)
     [ true ↦ grows-none f.got | false ↦ grows-none f.got ]
-
-after-log : (shape : Shape) (j : ℕ) (answer : Option (List ℕ)) (f : Follow) →
-    (follow_after shape j answer f).log ≡ f.log
-after-log shape j (Some text) f = refl
-after-log shape j None f =
-    elim (shape.ahead == 0) as (λ t. (cond t f (record f { tried = j + 1 })).log ≡ f.log)
-    [ true ↦ refl | false ↦ refl ]
 
 -- the first of the two has its place in the list
 head-grows : (x f : Follow) (follows : List Follow) (log : ℕ) → f.log ≡ x.log →

@@ -33,6 +33,7 @@ use Rattle.tk_replica.specs.Epochs.{filter_of}
 use Rattle.tk_packets.specs.Frames.{marks_len}
 use Rattle.tk_packets.specs.Marks.{mark_byte, mark_bytes}
 use Rattle.tk_serve.specs.Told.{reply_told, epoch_told, epoch_bytes}
+use Rattle.tk_report.proofs.Offers.{blocks-whole}
 use Rattle.tk_meeting.specs.Hidden.{outline}
 use Rattle.tk_meeting.proofs.servers.InRange.{read-in_range, write-in_range}
 use Rattle.tk_meeting.proofs.Canonical.{serial, whole, read_from, write_in}
@@ -43,15 +44,8 @@ use Rattle.tk_meeting.proofs.Canonical.{serial, whole, read_from, write_in}
 pub blocks-sized : (S : Script) (b : WordBook) (e : ℕ) → IsBook S.shape b →
     AllSized (width S.shape) (blocks_of (layout S.shape (before (whole S b) e)))
 blocks-sized S b e served =
-    let shape = S.shape in
-    let R : List Record = before (whole S b) e in
-    let ordered = epochs-ordered S b (serial S) e in
-    let storable = epochs-storable S b (serial S) e served (serial-IsLegal S.shape) in
-    let wide = (layout-laid_out shape R ordered).wide in
-    let count = length-map (layout shape R) (flat_map slot_bytes) in
-    recursion_from_All (λ (v : List ℕ). length v ≡ width shape) (blocks_of (layout shape R)) (λ i d low.
-    ap length (get_or_default (blocks_of (layout shape R)) i d [] low)
-    ∙ (layout-read_back shape R i ordered storable (omega (arith, low, count, wide))).long)
+    (blocks-whole S.shape (before (whole S b) e) (epochs-ordered S b (serial S) e)
+    (epochs-storable S b (serial S) e served (serial-IsLegal S.shape))).sized
 
 -- the sum of the blocks that a vector chooses has it too
 sum-long : (S : Script) (b : WordBook) (e : ℕ) (vector : List ℕ) → IsBook S.shape b →
@@ -144,18 +138,6 @@ kind-read : (S : Script) (b : WordBook) (c j g : ℕ) →
 unfolding read_at frame_with
 kind-read S b c j g =
     kind-told (shows_vectors b) (nat_lt j S.shape.servers && S.shape.format == 2) _ []
-
--- no epoch is read that has no phase
-epoch-most : (S : Script) (g c : ℕ) → g < turn_count S.shape → c < S.shape.clients →
-    epoch_at (serial S) g c ≤ S.shape.phases
-epoch-most S g c low client_in =
-    let ahead = ((serial-IsLegal S.shape).each_turn g low).none_ahead c client_in in
-    let most : phases_over S.shape (g + 1) ≤ S.shape.phases =
-    le_of_mul-le-mul_right
-    (le_trans (div-mul-le_self (g + 1) S.shape.ticks) (omega (arith, low)))
-    S.shape.in_range.ticks_low
-    in
-    omega (arith, ahead, most)
 
 length-read : (S : Script) (b : WordBook) (c j g : ℕ) → IsBook S.shape b → 1 ≤ j →
     j ≤ S.shape.servers → g < turn_count S.shape → c < S.shape.clients →

@@ -14,8 +14,7 @@ use Rattle.tk_meeting.proofs.Course.{Course, newest_by, came_of, stream_len, cou
 use Rattle.tk_meeting.proofs.servers.Numbers.{stream-length}
 use Rattle.tk_meeting.proofs.courses.Keeps.{Keeps}
 use Rattle.tk_meeting.proofs.hidden.Unsaid.{same-course}
-use Rattle.tk_meeting.proofs.hidden.Kept.{AreKept, own-kept, at-courses}
-use Rattle.tk_meeting.proofs.hidden.LookAlike.{ShowsCourse, sized-alike}
+use Rattle.tk_meeting.proofs.hidden.LookAlike.{IsKept, is-kept, sized-alike}
 use Rattle.tk_meeting.proofs.hidden.Outlines.{KindsAgree, kinds-shown, kinds-in_format_1}
 
 length-frames : (S : Script) (b : WordBook) (c j g k : ℕ) (kinds : List Kind) →
@@ -53,17 +52,18 @@ kinds-of : (shape : Shape) (a b : WordBook) → HaveOneForm shape a b → KindsA
 kinds-of shape a b (inl one) = kinds-in_format_1 shape a b one
 kinds-of shape a b (inr shows) = kinds-shown shape a b shows
 
-pub keep-pace : AreKept → MeetingsKeepPace
-keep-pace kept A B a b shapes served other_served books other_books keys other_keys events more tells other_events
+pub keep-pace : MeetingsKeepPace
+keep-pace A B a b shapes served other_served books other_books keys other_keys events more tells other_events
     rest other_tells same =
     let q = course_of A.shape events in
     let r = course_of B.shape other_events in
     let m = met A books events in
     let n = met B other_books other_events in
     let course : q ≡ r = same-course A.shape B.shape events other_events shapes same in
-    let one : Keeps A a q m = (own-kept kept A a books events more served keys tells).keeps in
-    let other : Keeps B b r n
-    = (own-kept kept B b other_books other_events rest other_served other_keys other_tells).keeps in
+    let mine : IsKept A a q m = is-kept A a books events more served keys tells in
+    let theirs : IsKept B b r n = is-kept B b other_books other_events rest other_served other_keys other_tells in
+    let one : Keeps A a q m = mine.keeps in
+    let other : Keeps B b r n = theirs.keeps in
     let clients : A.shape.clients ≡ B.shape.clients = ap (λ (s : Shape). s.clients) shapes in
     let servers : A.shape.servers ≡ B.shape.servers = ap (λ (s : Shape). s.servers) shapes in
     record {
@@ -84,8 +84,6 @@ keep-pace kept A B a b shapes served other_served books other_books keys other_k
             down = here.down ∙ (λ i. count_down (shapes i) (course i) j c) ∙ sym there.down;
           };
       sized = λ form j c first most low.
-          sized-alike A B a b shapes q m n (at-courses kept A a books events more served keys tells)
-          (subst (λ (x : Course). ShowsCourse B b x n) (sym course)
-          (at-courses kept B b other_books other_events rest other_served other_keys other_tells)) j c
+          sized-alike A B a b shapes q m n mine (subst (λ (x : Course). IsKept B b x n) (sym course) theirs) j c
           (kinds-of A.shape a b form) served other_served first most low;
     }

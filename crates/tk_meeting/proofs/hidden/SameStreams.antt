@@ -15,6 +15,7 @@ use Rattle.tk_frames.specs.Spelling.{write_frame, read_frame}
 use Rattle.tk_report.specs.Entries.{write_at, entries_before}
 use Rattle.tk_report.proofs.Offers.{flat_map-agree}
 use Rattle.tk_serve.specs.Told.{told_of, turns_read}
+use Rattle.tk_privacy.proofs.Offers.{map-range_same}
 use Rattle.tk_meeting.proofs.Canonical.{write_in, read_from, whole, seat_with, told_in_turn, stream}
 use Rattle.tk_meeting.proofs.Pace.{Kind, Wrote, Asked}
 use Rattle.tk_meeting.proofs.Standing.{frames_of}
@@ -30,14 +31,6 @@ pub record WriteAlike (A B : Script) (b d : WordBook) : Type 0 where
 pub record AskAlike (A B : Script) (b d : WordBook) (j : ℕ) : Type 0 where
   pub reads : (g c : ℕ) → g < turn_count A.shape → c < A.shape.clients →
       read_from A b c j g ≡ read_from B d c j g
-
--- the same of each number of a range
-pub map-agree : {X : Type 0} (f h : ℕ → X) (a n : ℕ) → ((k : ℕ) → k < a + n → f k ≡ h k) →
-    map f (range_with_len a n) ≡ map h (range_with_len a n)
-map-agree f h a zero same = refl
-map-agree {X} f h a (suc n) same =
-    ap₂ (λ (x : X) (xs : List X). x ∷ xs) (same a (omega arith))
-    (map-agree f h (a + 1) n (λ k low. same k (omega (arith, low))))
 
 -- the turns of the frames that are sent are turns of the run
 abbrev pub AreOfRun : ℕ → ℕ → ℕ → List Kind → Type 0
@@ -59,11 +52,11 @@ module _ (A B : Script) (b d : WordBook) (w : WriteAlike A B b d) where
         k ≤ turn_count A.shape → seat_with A b c j n k ≡ seat_with B d c j n k
     same-seat c n k client low_writes low_reads =
         let writes : map (write_in A b c) (range_with_len 0 n) ≡ map (write_in B d c) (range_with_len 0 n)
-        = map-agree (write_in A b c) (write_in B d c) 0 n
+        = map-range_same (write_in A b c) (write_in B d c) 0 n
         (λ g turn. w.writes g c (omega (arith, turn, low_writes)) client) in
         let reads : map (read_from A b c j) (range_with_len 0 k)
         ≡ map (read_from B d c j) (range_with_len 0 k)
-        = map-agree (read_from A b c j) (read_from B d c j) 0 k
+        = map-range_same (read_from A b c j) (read_from B d c j) 0 k
         (λ g turn. r.reads g c (omega (arith, turn, low_reads)) client) in
         λ i. record { writes = writes i; reads = reads i }
 

@@ -27,14 +27,14 @@ use Rattle.tk_meeting.specs.Lying.{DoAlike, AreAlike, HoldsBlocks}
 use Rattle.tk_meeting.proofs.lying.Books.{IsOf, ShowAlike, LiedAlike}
 use Rattle.tk_meeting.proofs.Canonical.{with_sayings}
 use Rattle.tk_meeting.proofs.telling.Foreseeing.{ForeseesOf, Foresees}
-use Rattle.tk_meeting.proofs.courses.Picks.{pick, itself}
+use Rattle.tk_meeting.proofs.courses.Picks.{at-place, pick, itself}
 use Rattle.tk_meeting.proofs.members.Packets.{AreToHost}
-use Rattle.tk_meeting.proofs.shown.Steps.{EndsOrReadies, Readies}
+use Rattle.tk_meeting.proofs.shown.Steps.{EndsOrReadies, ReadiesFrom}
 use Rattle.tk_meeting.proofs.lying.Growth.{foresees-deeds}
 use Rattle.tk_meeting.proofs.lying.Outcomes.{does_writing, deed-readies, ready-same, doer-shown}
 use Rattle.tk_meeting.proofs.members.Writing.{queue}
-use Rattle.tk_meeting.proofs.lying.Speaks.{Speaks, Queued, queued}
-use Rattle.tk_meeting.proofs.lying.Went.{IsReady, speaks, other-speaks, stands-then, frames-then}
+use Rattle.tk_meeting.proofs.lying.Speaks.{Speaks, Queued, queued, speaks-then}
+use Rattle.tk_meeting.proofs.lying.Went.{stands-then, frames-then}
 
 -- ---- results
 
@@ -76,6 +76,17 @@ said-other m (Claims e count) c x is other = refl
 said-other m (Sends e j frame) c x is other = refl
 said-other m (Answers e table) c x is other = refl
 
+first-speaks : (S : Script) (c : ℕ) → Speaks S c ((opening S).said c) ((opening S).members c)
+unfolding writing_before with_sayings
+first-speaks S c =
+    record {
+      shape = refl;
+      number = refl;
+      writing = refl;
+      within = omega arith;
+      later = λ k past. refl;
+    }
+
 -- a client that goes on by this, to which that was said
 abbrev went_as : Meeting → ℕ → (ℕ → ℕ → List Saying) → Turned → Meeting
 went_as m c said t =
@@ -108,8 +119,8 @@ module _ (A B : Script) (h : Hidden) (a b : WordBook) (pairs others : Pairs)
       (said other_said : ℕ → ℕ → List Saying)
       (apart : (x : ℕ) → (x == c) ≡ false → said x ≡ m.said x)
       (other_apart : (x : ℕ) → (x == c) ≡ false → other_said x ≡ n.said x)
-      (first second : MemberState) (same : stand first ≡ stand second) (ready : IsReady A c (said c) first)
-      (other_ready : IsReady B c (other_said c) second) (told other_told : List PacketView)
+      (first second : MemberState) (same : stand first ≡ stand second) (ready : Speaks A c (said c) first)
+      (other_ready : Speaks B c (other_said c) second) (told other_told : List PacketView)
       (host : AreToHost told)
       (other_host : AreToHost other_told) where
     abbrev turned : Turned
@@ -143,17 +154,13 @@ module _ (A B : Script) (h : Hidden) (a b : WordBook) (pairs others : Pairs)
         in
         record {
           speak = λ x within.
-              pick (λ k. Speaks A x (said x) (cond k turned.member (m.members x))) (x == c)
-              (λ e. subst (λ (y : ℕ). Speaks A y (said y) turned.member) (sym (eqb-true x c e))
-              (speaks A B h a b pairs others show c low first second same (said c) (other_said c) ready other_ready
-              foresees other_foresees))
+              at-place (λ y k. Speaks A y (said y) (cond k turned.member (m.members y))) c x
+              (speaks-then A a c low first (said c) ready foresees)
               (λ e. subst (λ (s : ℕ → List Saying). Speaks A x s (m.members x)) (sym (apart x e))
               (goes.speak x within));
           other_speak = λ x within.
-              pick (λ k. Speaks B x (other_said x) (cond k other_turned.member (n.members x))) (x == c)
-              (λ e. subst (λ (y : ℕ). Speaks B y (other_said y) other_turned.member) (sym (eqb-true x c e))
-              (other-speaks A B h a b pairs others show c low first second same (said c) (other_said c) ready
-              other_ready foresees other_foresees))
+              at-place (λ y k. Speaks B y (other_said y) (cond k other_turned.member (n.members y))) c x
+              (speaks-then B b c (others_in c low) second (other_said c) other_ready other_foresees)
               (λ e. subst (λ (s : ℕ → List Saying). Speaks B x s (n.members x)) (sym (other_apart x e))
               (goes.other_speak x within));
           alike =
@@ -198,8 +205,8 @@ module _ (A B : Script) (h : Hidden) (a b : WordBook) (pairs others : Pairs)
     where
       ready_from : (S : Script) (book : WordBook) (x : Meeting) (f : Deed) (k : ℕ) → Speaks S k (x.said k) (x.members k) →
           doer f ≡ k → (result : Result Turned Fault) (ready : Result Stand Fault) →
-          (r : Readies book (does_writing (x.members k) f) (x.members k).written (x.members k).client.shape
-          (x.members k).client.number result ready) → IsReady S k (said_after x f k) r.first
+          (r : ReadiesFrom book (does_writing (x.members k) f) (x.members k) result ready) →
+          Speaks S k (said_after x f k) r.first
       ready_from S book x f k speak of result ready r =
           let q : Queued S x k speak (said_after x f k) (does_writing (x.members k) f) = queued S x k speak f of in
           record {
@@ -337,25 +344,10 @@ module _ (A B : Script) (h : Hidden) (a b : WordBook) (pairs others : Pairs)
       (λ front back is. other_lasts (e ∷ front) back (ap (λ (xs : List Deed). e ∷ xs) is))
 
   opens : Goes (opening A) (opening B)
-  unfolding writing_before with_sayings
   opens =
       record {
-        speak = λ c low.
-            record {
-              shape = refl;
-              number = refl;
-              writing = refl;
-              within = omega arith;
-              later = λ k past. refl;
-            };
-        other_speak = λ c low.
-            record {
-              shape = refl;
-              number = refl;
-              writing = refl;
-              within = omega arith;
-              later = λ k past. refl;
-            };
+        speak = λ c low. first-speaks A c;
+        other_speak = λ c low. first-speaks B c;
         alike =
             record {
               stands = λ c low. ap (λ (k : Shape). stand (new_member (new_client k c [] []))) show.one_shape;

@@ -18,7 +18,7 @@ use Rattle.tk_meeting.specs.Lying.{Deed, doer, Hidden, pair_open}
 use Rattle.tk_meeting.specs.Matched.{pair_noted, no_pairs, pairs_of}
 use Rattle.tk_meeting.proofs.lying.Outcomes.{table_of}
 use Rattle.tk_meeting.proofs.lying.Books.{IsOf, AreAsked}
-use Rattle.tk_meeting.proofs.courses.Picks.{pick}
+use Rattle.tk_meeting.proofs.courses.Picks.{at-place, pick}
 use Rattle.tk_meeting.proofs.telling.Rising.{cond-has}
 use Rattle.tk_meeting.proofs.lying.Cores.{Core, core, left, does_with, own_answer, went_core, unless_core, core_step}
 use Rattle.tk_meeting.proofs.lying.Cores.{core_run, core_noted, core_pairs, run-core, pairs-core}
@@ -46,9 +46,7 @@ opening-runs S c = record { below = tt; behind = omega arith; within = omega ari
 went-moves : (k : Core) (c : ℕ) (r : Result Turned Fault) → AllInRun k → MovesOn (k.members c) r →
     AllMove k (went_core c (left r) k)
 went-moves k c (Ok t) run moves x =
-    pick (λ e. MovesFrom (k.members x) (cond e t.member (k.members x))) (x == c)
-    (λ e. subst (λ (y : ℕ). MovesFrom (k.members y) t.member) (sym (eqb-true x c e)) moves)
-    (λ e. stays k run x)
+    at-place (λ y e. MovesFrom (k.members y) (cond e t.member (k.members y))) c x moves (λ e. stays k run x)
 went-moves k c (Err fault) run moves x = stays k run x
 
 module _ (shape : Shape) (j : ℕ) (answers : ℕ → MemberState → List ℕ) (b : WordBook) where

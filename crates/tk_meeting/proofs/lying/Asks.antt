@@ -19,8 +19,8 @@ use Rattle.tk_privacy.specs.Privacy.{Pairs}
 use Rattle.tk_member.specs.Epochs.{filter_of, marks_at}
 use Rattle.tk_member.specs.Members.{MemberState, known_to}
 use Rattle.tk_member.specs.Acting.{packets_from, may_ask, asks, asks_if_due, unmoved, epoch_due}
+use Rattle.tk_report.proofs.Offers.{map-map}
 use Rattle.tk_meeting.specs.Meeting.{frames_for}
-use Rattle.tk_meeting.proofs.members.Asking.{map-map}
 use Rattle.tk_meeting.proofs.members.Packets.{own-frame}
 use Rattle.tk_meeting.specs.Shown.{Stand, stand}
 use Rattle.tk_meeting.specs.Lying.{Hidden}
@@ -48,31 +48,23 @@ frame-asked b m j low high =
     (map-map read_frame frame (range_with_len 1 shape.servers))
     ∙ own-frame (λ k. read_frame (frame k)) 1 shape.servers j low (omega (arith, high))
 
+-- where its read is for these buckets
+frame-for : (S : Script) (b : WordBook) (pairs : Pairs) (c : ℕ) (m : MemberState) → m.client.shape ≡ S.shape →
+    m.client.number ≡ c → (j : ℕ) → 1 ≤ j → j ≤ S.shape.servers →
+    IsOf S.shape b pairs c (asks b m).member.client.read →
+    frames_for j (asks b m).packets
+    ≡ read_frame (frame_for S.shape b m.asked c (phases_over S.shape m.asked) (pairs m.asked c) j) ∷ []
+frame-for S b pairs c m shape number j low high is =
+    frame-asked b m j low (subst (λ (k : Shape). j ≤ k.servers) (sym shape) high)
+    ∙ (λ i. read_frame (frame_for (shape i) b m.asked (number i) (epoch_due (shape i) m.asked)
+    (pair_for (words_of (shape i) b) m.asked (number i) (target_now b m)) j) ∷ [])
+    ∙ ap (λ (p : ℕ × ℕ). read_frame (frame_for S.shape b m.asked c (phases_over S.shape m.asked) p j) ∷ []) is
+
 module _ (A B : Script) (h : Hidden) (a b : WordBook) (pairs others : Pairs)
     (show : ShowAlike A B h a b pairs others) (c : ℕ) (client : c < A.shape.clients) (m n : MemberState)
     (shape : m.client.shape ≡ A.shape) (number : m.client.number ≡ c)
     (other_shape : n.client.shape ≡ B.shape) (other_number : n.client.number ≡ c)
     (within : m.written ≤ turn_count A.shape) (same : stand m ≡ stand n) where
-  -- the read frame of m, where its read is for these buckets
-  frame-first : (j : ℕ) → 1 ≤ j → j ≤ A.shape.servers → IsOf A.shape a pairs c (asks a m).member.client.read →
-      frames_for j (asks a m).packets
-      ≡ read_frame (frame_for A.shape a m.asked c (phases_over A.shape m.asked) (pairs m.asked c) j) ∷ []
-  frame-first j low high is =
-      frame-asked a m j low (subst (λ (k : Shape). j ≤ k.servers) (sym shape) high)
-      ∙ (λ i. read_frame (frame_for (shape i) a m.asked (number i) (epoch_due (shape i) m.asked)
-      (pair_for (words_of (shape i) a) m.asked (number i) (target_now a m)) j) ∷ [])
-      ∙ ap (λ (p : ℕ × ℕ). read_frame (frame_for A.shape a m.asked c (phases_over A.shape m.asked) p j) ∷ []) is
-
-  frame-second : (j : ℕ) → 1 ≤ j → j ≤ A.shape.servers → IsOf B.shape b others c (asks b n).member.client.read →
-      frames_for j (asks b n).packets
-      ≡ read_frame (frame_for B.shape b n.asked c (phases_over B.shape n.asked) (others n.asked c) j) ∷ []
-  frame-second j low high is =
-      frame-asked b n j low
-      (subst (λ (k : Shape). j ≤ k.servers) (show.one_shape ∙ sym other_shape) high)
-      ∙ (λ i. read_frame (frame_for (other_shape i) b n.asked (other_number i) (epoch_due (other_shape i) n.asked)
-      (pair_for (words_of (other_shape i) b) n.asked (other_number i) (target_now b n)) j) ∷ [])
-      ∙ ap (λ (p : ℕ × ℕ). read_frame (frame_for B.shape b n.asked c (phases_over B.shape n.asked) p j) ∷ []) is
-
   asked_same : m.asked ≡ n.asked
   asked_same = ap (λ (s : Stand). s.asked) same
 
@@ -82,12 +74,13 @@ module _ (A B : Script) (h : Hidden) (a b : WordBook) (pairs others : Pairs)
       frames_for j (asks a m).packets ≡ frames_for j (asks b n).packets
   frames-asked j low high differ turn is other_is =
       let frame = λ (g e : ℕ). read_frame (frame_for B.shape b g c e (others g c) j) ∷ [] in
-      frame-first j low high is
+      frame-for A a pairs c m shape number j low high is
       ∙ ap (λ (r : ReadFrame). read_frame r ∷ [])
       (show.reads m.asked c (phases_over A.shape m.asked) j turn client low high differ)
       ∙ ap (λ (k : Shape). frame m.asked (phases_over k m.asked)) show.one_shape
       ∙ ap (λ (g : ℕ). frame g (phases_over B.shape g)) asked_same
-      ∙ sym (frame-second j low high other_is)
+      ∙ sym (frame-for B b others c n other_shape other_number j low
+      (subst (λ (k : Shape). j ≤ k.servers) show.one_shape high) other_is)
 
   asks-either : (t : Bool) (j : ℕ) → (t ≡ true → m.asked < turn_count A.shape) → 1 ≤ j → j ≤ A.shape.servers →
       j ≢ h.server → IsOf A.shape a pairs c (cond t (asks a m) (unmoved m)).member.client.read →

@@ -14,11 +14,13 @@ use Rattle.tk_member.specs.Acting.{Turned}
 use Rattle.tk_meeting.specs.Meeting.{Meeting, Saying, opening, member_went}
 use Rattle.tk_meeting.specs.Events.{noted, say_fault, unless_ended, is_client, is_server}
 use Rattle.tk_meeting.specs.Laws.{Tells}
-use Rattle.tk_meeting.proofs.telling.Rising.{RisesIn, cond-has, heard-rises, served-rises}
+use Rattle.tk_meeting.proofs.telling.Rising.{RisesIn, cond-has, goes-rises}
 use Rattle.tk_meeting.proofs.telling.Growing.{Grows, grows-none, grows-next, grows-noted, grows-went}
-use Rattle.tk_meeting.proofs.telling.Foreseeing.{Foresees}
+use Rattle.tk_meeting.proofs.telling.Foreseeing.{Foresees, foresees-by}
 use Rattle.tk_meeting.specs.Lying.{Deed, Says, Ticks, GoesAhead, Claims, Sends, Answers, doer, Hidden, answer_to}
 use Rattle.tk_meeting.specs.Lying.{member_does, said_more, said_after, went_on, does, after_deeds, lied}
+use Rattle.tk_meeting.proofs.lying.Outcomes.{does_writing, deed-readies}
+use Rattle.tk_meeting.proofs.telling.Ways.{client-has}
 
 pub noted-is : (c : ℕ) (y : Saying) (o : Option SayError) (m : Meeting) →
     noted c y o m ≡ record m { said = said_more m c y o }
@@ -37,14 +39,8 @@ grows-said m (Sends c j frame) = grows-none m
 grows-said m (Answers c table) = grows-none m
 
 does-rises : (h : Hidden) (b : WordBook) (m : MemberState) (d : Deed) → RisesIn m.written (member_does h b m d)
-does-rises h b m (Says c log text) = heard-rises b m (Some (Say log text))
-does-rises h b m (Ticks c) = heard-rises b m (Some Tick)
-does-rises h b m (GoesAhead c turns) = heard-rises b m (Some (Ahead turns))
-does-rises h b m (Claims c count) = heard-rises b m (Some (Has count))
-does-rises h b m (Sends c j frame) =
-    cond-has (RisesIn m.written) (is_server m.client.shape j) (served b m j frame) (Err Peer) (served-rises b m j frame) tt
-does-rises h b m (Answers c table) =
-    served-rises b m h.server (answer_to h b table m.client.shape m.client.number m.client.read)
+does-rises h b m d =
+    goes-rises b (does_writing m d) m (member_does h b m d) _ (deed-readies h b m d)
 
 grows-went_on : (m : Meeting) (d : Deed) (r : Result Turned Fault) → RisesIn (m.members (doer d)).written r →
     Grows m (went_on m d r)
@@ -59,12 +55,7 @@ grows-does shape h b m d =
     let c = doer d in
     let after : Meeting = went_on m d (member_does h b (m.members c) d) in
     let grows : Grows m after = grows-went_on m d (member_does h b (m.members c) d) (does-rises h b (m.members c) d) in
-    cond-has (Grows m) (is_client shape c) (unless_ended (m.ended c) m after) m (unless (m.ended c) after grows)
-    (grows-none m)
-  where
-    unless : (o : Option Fault) (after : Meeting) → Grows m after → Grows m (unless_ended o m after)
-    unless None after grows = grows
-    unless (Some fault) after grows = grows-none m
+    client-has (Grows m) shape m c after (grows-none m) grows
 
 grows-deeds : (shape : Shape) (h : Hidden) (b : WordBook) (m : Meeting) (deeds : List Deed) →
     Grows m (after_deeds shape h b m deeds)
@@ -85,15 +76,5 @@ pub foresees-deeds : (S : Script) (h : Hidden) (b : WordBook) (deeds more : List
     Tells S (lied S h b (deeds ++ more)) → Foresees S (lied S h b deeds)
 foresees-deeds S h b deeds more tells =
     let now : Meeting = lied S h b deeds in
-    let last : Meeting = after_deeds S.shape h b now more in
-    let first : Grows (opening S) now = grows-deeds S.shape h b (opening S) deeds in
-    let next : Grows now last = grows-deeds S.shape h b now more in
-    let all : Tells S last = subst (Tells S) (deeds-append S.shape h b (opening S) deeds more) tells in
-    record {
-      each = λ c in_clients. let a = first c in let n = next c in record {
-        before = λ k low in_turns. sym (n.past k low) ∙ all c k in_clients in_turns;
-        rest = n.more;
-        here = λ in_turns. sym (all c (now.members c).written in_clients in_turns) ∙ n.here;
-        behind = λ k high. a.behind k high;
-      };
-    }
+    foresees-by S now (after_deeds S.shape h b now more) (grows-deeds S.shape h b (opening S) deeds)
+    (grows-deeds S.shape h b now more) (subst (Tells S) (deeds-append S.shape h b (opening S) deeds more) tells)

@@ -14,7 +14,7 @@ use Rattle.tk_meeting.specs.Lying.{Deed, Says, Ticks, GoesAhead, Claims, Sends, 
 use Rattle.tk_meeting.specs.Lying.{DoAlike, AreAlike}
 use Rattle.tk_meeting.specs.Matched.{AreGroups, AreMatched}
 use Rattle.tk_meeting.specs.Adaptive.{Sight, sight, Liars, with_text_of, Play, play, retold, PlayAlike, LiarsPlayAlike}
-use Rattle.tk_meeting.proofs.hidden.SameStreams.{map-agree}
+use Rattle.tk_privacy.proofs.Offers.{map-range_same}
 use Rattle.tk_meeting.proofs.lying.Tapes.{liars-see-alike}
 
 -- ---- the same is seen
@@ -25,10 +25,10 @@ same-sight shape h m n alike =
     let sent =
     privacy.others-same (λ j. map (λ c. m.up c j) (range_with_len 0 shape.clients))
     (λ j. map (λ c. n.up c j) (range_with_len 0 shape.clients)) shape h.server
-    (λ j low high differ. map-agree (λ c. m.up c j) (λ c. n.up c j) 0 shape.clients
+    (λ j low high differ. map-range_same (λ c. m.up c j) (λ c. n.up c j) 0 shape.clients
     (λ c less. alike.sent c j (omega (arith, less)) low high differ))
     in
-    let ended = map-agree m.ended n.ended 0 shape.clients (λ c less. alike.ended c (omega (arith, less))) in
+    let ended = map-range_same m.ended n.ended 0 shape.clients (λ c less. alike.ended c (omega (arith, less))) in
     λ i. record { sent = sent i; ended = ended i }
 
 -- ---- deeds with other texts

@@ -11,7 +11,7 @@ use Rattle.tk_words.specs.Words.{WordBook, BookWords, words_of}
 use Rattle.tk_client.specs.declared.open_read.OpenRead.{OpenRead}
 use Rattle.tk_client.specs.declared.say_error.SayError.{SayError}
 use Rattle.tk_client.specs.declared.take_error.TakeError.{TakeError}
-use Rattle.tk_client.specs.Writing.{with_text}
+use Rattle.tk_client.specs.Writing.{Writing}
 use Rattle.tk_client.specs.Saying.{fault_of}
 use Rattle.tk_client.specs.Client.{refusal_in}
 use Rattle.tk_member.specs.declared.fault.Fault.{Fault}
@@ -27,11 +27,12 @@ use Rattle.tk_member.specs.Steps.{replied}
 use Rattle.tk_member.specs.Steps.{told_epoch, served, after_settling}
 use Rattle.tk_meeting.specs.Lying.{Deed, Says, Ticks, GoesAhead, Claims, Sends, Answers}
 use Rattle.tk_meeting.specs.Events.{is_server}
-use Rattle.tk_meeting.specs.Shown.{stand}
+use Rattle.tk_meeting.specs.Shown.{Stand, stand, word_shown, frame_shown}
 use Rattle.tk_meeting.proofs.telling.Rising.{cond-has}
+use Rattle.tk_meeting.proofs.members.Wrote.{wrote-so}
 use Rattle.tk_meeting.proofs.lying.Cores.{does_with}
-use Rattle.tk_meeting.proofs.lying.Acts.{ahead_of}
-use Rattle.tk_meeting.proofs.lying.Speaks.{written_then, acts-written}
+use Rattle.tk_meeting.proofs.shown.Steps.{ahead_of, written_then, acts-written, EndsOrReadies, heard_so, served_so}
+use Rattle.tk_meeting.proofs.shown.Steps.{heard_writing, heard-readies, served-readies}
 
 -- a read that is open is of a turn from this one on, or below it
 abbrev pub IsFrom : ℕ → Option OpenRead → Type 0
@@ -64,14 +65,6 @@ pub record Keeps (asked : ℕ) (read : Option OpenRead) (shape : Shape) (number 
   pub read_is : m.client.read ≡ read
   pub shape_is : m.client.shape ≡ shape
   pub number_is : m.client.number ≡ number
-
-wrote-keeps : (w : BookWords) (n : ℕ) (m : MemberState) →
-    Keeps m.asked m.client.read m.client.shape m.client.number (wrote w n m).member
-unfolding wrote
-wrote-keeps w zero m = record { asked_is = refl; read_is = refl; shape_is = refl; number_is = refl }
-wrote-keeps w (suc n) m =
-    let k = wrote-keeps w n (after_turn m) in
-    record { asked_is = k.asked_is; read_is = k.read_is; shape_is = k.shape_is; number_is = k.number_is }
 
 keeps-moves : (asked : ℕ) (read : Option OpenRead) (shape : Shape) (number : ℕ) (m n : MemberState) →
     Keeps asked read shape number m → Moves m.asked m.client.read m.client.shape m.client.number n →
@@ -113,24 +106,21 @@ asked-moves b m run = either (may_ask m) refl
         record { rises = omega arith; reads = inl refl; run = run; shape_is = refl; number_is = refl }
 
 asked-written : (b : WordBook) (m : MemberState) → (asks_if_due b m).member.written ≡ m.written
-asked-written b m = either (may_ask m)
-  where
-    either : (t : Bool) → (cond t (asks b m) (unmoved m)).member.written ≡ m.written
-    either true = refl
-    either false = refl
+asked-written b m =
+    cond-has (λ (t : Turned). t.member.written ≡ m.written) (may_ask m) (asks b m) (unmoved m) refl refl
 
 -- once it has written
 pub writes-keep : (w : BookWords) (m : MemberState) →
     Keeps m.asked m.client.read m.client.shape m.client.number (goes_by_ticks w (goes_ahead w m).member).member
 writes-keep w m =
     let first : MemberState = (goes_ahead w m).member in
-    let one = wrote-keeps w (ahead_due m) (record m { ahead = m.ahead - ahead_due m }) in
-    let two = wrote-keeps w (ticks_due first) (record first { ticks = first.ticks - ticks_due first }) in
+    let one = wrote-so w (ahead_due m) (record m { ahead = m.ahead - ahead_due m }) in
+    let two = wrote-so w (ticks_due first) (record first { ticks = first.ticks - ticks_due first }) in
     record {
-      asked_is = two.asked_is ∙ one.asked_is;
-      read_is = two.read_is ∙ one.read_is;
-      shape_is = two.shape_is ∙ one.shape_is;
-      number_is = two.number_is ∙ one.number_is;
+      asked_is = two.asked ∙ one.asked;
+      read_is = two.read ∙ one.read;
+      shape_is = two.shape ∙ one.shape;
+      number_is = two.number ∙ one.number;
     }
 
 acts-moves : (b : WordBook) (m : MemberState) → InRun m →
@@ -158,10 +148,9 @@ acts-moves b m run =
     (asked-moves b second there)
 
 -- after its read is closed
-closed-moves : (b : WordBook) (read : Option OpenRead) (m : MemberState) → InRun m → m.client.read ≡ None →
-    Moves m.asked read m.client.shape m.client.number (acts b m).member
-closed-moves b read m run none =
-    let moves = acts-moves b m run in
+closed-moves : (asked : ℕ) (read : Option OpenRead) (shape : Shape) (number : ℕ) (m : MemberState) →
+    Moves asked None shape number m → Moves asked read shape number m
+closed-moves asked read shape number m moves =
     record {
       rises = moves.rises;
       reads = inr (from moves.reads);
@@ -170,9 +159,8 @@ closed-moves b read m run none =
       number_is = moves.number_is;
     }
   where
-    from : ((acts b m).member.client.read ≡ m.client.read) ⊎ IsFrom m.asked (acts b m).member.client.read →
-        IsFrom m.asked (acts b m).member.client.read
-    from (inl same) = subst (IsFrom m.asked) (sym (same ∙ none)) tt
+    from : (m.client.read ≡ None) ⊎ IsFrom asked m.client.read → IsFrom asked m.client.read
+    from (inl none) = subst (IsFrom asked) (sym none) tt
     from (inr later) = later
 
 -- ---- results
@@ -186,61 +174,49 @@ abbrev pub MovesOn : MemberState → Result Turned Fault → Type 0
 MovesOn m result = MovesIn m.asked m.client.read m.client.shape m.client.number result
 
 module _ (b : WordBook) where
-  said-moves : (m : MemberState) (log : ℕ) (text : List ℕ) (o : Option SayError) → InRun m →
-      MovesOn m (said b m log text o)
-  said-moves m log text (Some error) run = acts-moves b m run
-  said-moves m log text None run =
-      acts-moves b (record m { client = record m.client { writing = with_text log text m.client.writing } })
-      (record { below = run.below; behind = run.behind; within = run.within })
+  -- a member that goes on to act from one that is in a run
+  goes-moves : (writing : Writing) (m : MemberState) (r : Result Turned Fault) (s : Result Stand Fault) → InRun m →
+      EndsOrReadies b writing m r s → MovesOn m r
+  goes-moves writing m r s run (inl e) = subst (MovesOn m) (sym e.is) tt
+  goes-moves writing m r s run (inr e) = subst (MovesOn m) (sym e.is) (either e.read_is)
+    where
+      n : MemberState
+      n = e.first
 
-  heard-moves : (m : MemberState) (o : Option HostWord) → InRun m →
-      MovesOn m (heard b m o)
-  heard-moves m None run = tt
-  heard-moves m (Some (Say log text)) run =
-      said-moves m log text (fault_of m.client.shape m.client.writing.logs log text) run
-  heard-moves m (Some Tick) run =
-      acts-moves b (record m { ticks = counted_up m (m.ticks + 1) })
-      (record { below = run.below; behind = run.behind; within = run.within })
-  heard-moves m (Some (Ahead turns)) run =
-      acts-moves b (record m { ahead = counted_up m (m.ahead + turns) })
-      (record { below = run.below; behind = run.behind; within = run.within })
-  heard-moves m (Some (Has packets)) run =
-      cond-has (MovesOn m) (nat_lt (m.written + m.asked) packets) (Err Older)
-      (tells_and_acts b [] m) tt (acts-moves b m run)
+      at : IsBelow n.asked n.client.read → InRun n
+      at below =
+          record {
+            below = below;
+            behind = omega (arith, run.behind, e.asked_is, e.written_is);
+            within =
+                subst (λ (k : Shape). n.written ≤ turn_count k) (sym e.shape_is)
+                (subst (λ (g : ℕ). g ≤ turn_count m.client.shape) (sym e.written_is) run.within);
+          }
 
-  settled-moves : (m : MemberState) (replies : List (List ℕ)) (o : Option TakeError) → InRun m →
-      MovesOn m (settled b m replies o)
-  settled-moves m replies (Some error) run = tt
-  settled-moves m replies None run =
-      closed-moves b m.client.read (after_settling (words_of m.client.shape b) replies m)
-      (record { below = tt; behind = run.behind; within = run.within }) refl
+      from : (read : Option OpenRead) → n.client.read ≡ read → IsBelow n.asked n.client.read →
+          Moves m.asked read m.client.shape m.client.number (acts b n).member
+      from read read_is below =
+          keeps-moves m.asked read m.client.shape m.client.number n (acts b n).member
+          (record { asked_is = e.asked_is; read_is = read_is; shape_is = e.shape_is; number_is = e.number_is })
+          (acts-moves b n (at below))
 
-  settled_by-moves : (m : MemberState) (o : Option (List (List ℕ))) → InRun m →
-      MovesOn m (settled_by b m o)
-  settled_by-moves m None run = acts-moves b m run
-  settled_by-moves m (Some replies) run = settled-moves m replies (refusal_in replies m.client) run
+      either : (n.client.read ≡ m.client.read) ⊎ (n.client.read ≡ None) →
+          Moves m.asked m.client.read m.client.shape m.client.number (acts b n).member
+      either (inl same) =
+          from m.client.read same
+          (subst (λ (g : ℕ). IsBelow g n.client.read) (sym e.asked_is) (subst (IsBelow m.asked) (sym same) run.below))
+      either (inr none) =
+          closed-moves m.asked m.client.read m.client.shape m.client.number (acts b n).member
+          (from None none (subst (IsBelow n.asked) (sym none) tt))
 
-  replied-moves : (m : MemberState) (j : ℕ) (reply : List ℕ) → InRun m →
-      MovesOn m (replied b m j reply)
-  replied-moves m j reply run =
-      let now : MemberState = with_reply m j reply in
-      cond-has (MovesOn m) _ (Err Peer) (settled_by b now (all_of now.replies)) tt
-      (settled_by-moves now (all_of now.replies)
-      (record { below = run.below; behind = run.behind; within = run.within }))
+  heard-moves : (m : MemberState) (o : Option HostWord) → InRun m → MovesOn m (heard b m o)
+  heard-moves m o run =
+      goes-moves (heard_writing m o) m (heard b m o) (heard_so (stand m) (word_shown o)) run (heard-readies b m o)
 
-  epoch-moves : (m : MemberState) (r : Result (List Telling) Fault) → InRun m →
-      MovesOn m (told_epoch b m r)
-  epoch-moves m (Err fault) run = tt
-  epoch-moves m (Ok told) run =
-      acts-moves b (record m { told = told }) (record { below = run.below; behind = run.behind; within = run.within })
-
-  served-moves : (m : MemberState) (j : ℕ) (frame : List ℕ) → InRun m →
-      MovesOn m (served b m j frame)
+  served-moves : (m : MemberState) (j : ℕ) (frame : List ℕ) → InRun m → MovesOn m (served b m j frame)
   served-moves m j frame run =
-      cond-has (MovesOn m) (slice_index frame 0 == 3) _ _ (replied-moves m j frame run)
-      (cond-has (MovesOn m) (slice_index frame 0 == 0x0b) _ _
-      (epoch-moves m (with_epoch m.client.shape m.told j frame) run)
-      (cond-has (MovesOn m) (slice_index frame 0 == 0x0c) (Err Refused) (Err Peer) tt tt))
+      goes-moves m.client.writing m (served b m j frame) (served_so (stand m) j (frame_shown m.client.shape frame)) run
+      (served-readies b m j frame)
 
   pub does-moves : (j : ℕ) (answer : List ℕ) (m : MemberState) (d : Deed) → InRun m →
       MovesOn m (does_with j answer b m d)

@@ -28,11 +28,11 @@ use Rattle.tk_meeting.proofs.courses.Picks.{pick}
 use Rattle.tk_meeting.proofs.telling.Rising.{cond-has}
 use Rattle.tk_meeting.proofs.scripts.Lasting.{base_of, logs_of, LastsIn, heard-lasts, served-lasts}
 use Rattle.tk_meeting.proofs.scripts.Sayable.{IsSayable, opening-sayable, noted-sayable, went-sayable, free-said}
-use Rattle.tk_meeting.proofs.scripts.Sayable.{client-sayable}
 use Rattle.tk_meeting.proofs.scripts.Scripts.{script_of, tells}
 use Rattle.tk_meeting.proofs.shown.Steps.{acting, acted-outcome}
 use Rattle.tk_meeting.proofs.lying.Growth.{noted-is}
 use Rattle.tk_meeting.proofs.lying.Outcomes.{deed-readies, ready-same}
+use Rattle.tk_meeting.proofs.telling.Ways.{client-has}
 
 -- ---- what was said may be said
 
@@ -70,7 +70,8 @@ deed-sayable : (S : Script) (h : Hidden) (b : WordBook) (m : Meeting) (d : Deed)
 unfolding does
 deed-sayable S h b m d is =
     let r = member_does h b (m.members (doer d)) d in
-    client-sayable S m (doer d) (went_on m d r) is (went-may S m d r is (does-lasts h b (m.members (doer d)) d))
+    client-has (IsSayable S) S.shape m (doer d) (went_on m d r) is
+    (went-may S m d r is (does-lasts h b (m.members (doer d)) d))
 
 -- ---- the same is said, whatever the words are
 

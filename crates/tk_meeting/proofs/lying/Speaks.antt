@@ -20,9 +20,10 @@ use Rattle.tk_meeting.proofs.members.Hearing.{said-one}
 use Rattle.tk_meeting.proofs.courses.Picks.{itself}
 use Rattle.tk_meeting.specs.Shown.{Stand, stand}
 use Rattle.tk_meeting.specs.Lying.{Deed, Says, Ticks, GoesAhead, Claims, Sends, Answers, doer, said_more, said_after}
-use Rattle.tk_meeting.proofs.shown.Steps.{acts-stands}
+use Rattle.tk_meeting.proofs.shown.Steps.{written_then, acts-written, ahead_of}
 use Rattle.tk_meeting.proofs.members.Writing.{queue}
-use Rattle.tk_meeting.proofs.lying.Acts.{ahead_of, ticks_of, acted-written, Written, acts-so}
+use Rattle.tk_meeting.proofs.members.Acts.{Written, acts-so}
+use Rattle.tk_meeting.proofs.telling.Rising.{cond-has}
 use Rattle.tk_meeting.proofs.shown.Steps.{said_writing, heard_writing}
 use Rattle.tk_meeting.proofs.lying.Outcomes.{does_writing}
 
@@ -84,46 +85,25 @@ module _ (S : Script) (m : Meeting) (c : ℕ) (speaks : Speaks S c (m.said c) (m
 
 -- ---- acting
 
-asked-shape : (b : WordBook) (m : MemberState) → (asks_if_due b m).member.client.shape ≡ m.client.shape
-asked-shape b m = either (may_ask m)
-  where
-    either : (t : Bool) → (cond t (asks b m) (unmoved m)).member.client.shape ≡ m.client.shape
-    either true = refl
-    either false = refl
-
-asked-number : (b : WordBook) (m : MemberState) → (asks_if_due b m).member.client.number ≡ m.client.number
-asked-number b m = either (may_ask m)
-  where
-    either : (t : Bool) → (cond t (asks b m) (unmoved m)).member.client.number ≡ m.client.number
-    either true = refl
-    either false = refl
-
-asked-writing : (b : WordBook) (m : MemberState) → (asks_if_due b m).member.client.writing ≡ m.client.writing
-asked-writing b m = either (may_ask m)
-  where
-    either : (t : Bool) → (cond t (asks b m) (unmoved m)).member.client.writing ≡ m.client.writing
-    either true = refl
-    either false = refl
-
--- so many turns it wrote when it has acted
-abbrev pub written_then : MemberState → ℕ
-written_then m = m.written + ahead_of (stand m) + ticks_of (stand m)
-
-pub acts-written : (b : WordBook) (m : MemberState) → (acts b m).member.written ≡ written_then m
-acts-written b m = ap (λ (s : Stand). s.written) (acts-stands b m) ∙ acted-written (stand m)
+-- asking changes neither a member's shape and number nor what it has to write
+asked-keeps : (b : WordBook) (m : MemberState) → let k = (asks_if_due b m).member.client in
+    (k.shape ≡ m.client.shape) × (k.number ≡ m.client.number) × (k.writing ≡ m.client.writing)
+asked-keeps b m =
+    cond-has (λ (t : Turned).
+    (t.member.client.shape ≡ m.client.shape) × (t.member.client.number ≡ m.client.number)
+    × (t.member.client.writing ≡ m.client.writing)) (may_ask m) (asks b m) (unmoved m) (refl, refl, refl)
+    (refl, refl, refl)
 
 module _ (S : Script) (b : WordBook) (c : ℕ) (client : c < S.shape.clients) (m : MemberState)
-    (said : ℕ → List Saying) (shape : m.client.shape ≡ S.shape) (number : m.client.number ≡ c)
-    (writing : m.client.writing ≡ queue S c m.written (said m.written))
-    (later : (k : ℕ) → m.written < k → said k ≡ []) (before_in : m.written ≤ turn_count S.shape)
+    (said : ℕ → List Saying) (ready : Speaks S c said m)
     (foresees : ForeseesOf S c (acts b m).member.written said) where
   pub within_then : written_then m ≤ turn_count S.shape
   within_then =
       let turns = turn_count m.client.shape in
-      let low : m.written ≤ turns = subst (λ (k : Shape). m.written ≤ turn_count k) (sym shape) before_in in
+      let low : m.written ≤ turns = subst (λ (k : Shape). m.written ≤ turn_count k) (sym ready.shape) ready.within in
       let ahead : m.written + ahead_of (stand m) ≤ turns = omega (arith, low) in
       let all : written_then m ≤ turns = omega (arith, ahead) in
-      subst (λ (k : Shape). written_then m ≤ turn_count k) shape all
+      subst (λ (k : Shape). written_then m ≤ turn_count k) ready.shape all
 
   foretold : IsForetold S c m.written (written_then m) (said m.written)
   foretold =
@@ -132,18 +112,18 @@ module _ (S : Script) (b : WordBook) (c : ℕ) (client : c < S.shape.clients) (m
       record {
         here = λ more. foresees.before m.written (omega (arith, n, more)) (omega (arith, more, within));
         behind = λ k past more.
-            sym (foresees.before k (omega (arith, n, more)) (omega (arith, more, within))) ∙ later k past;
+            sym (foresees.before k (omega (arith, n, more)) (omega (arith, more, within))) ∙ ready.later k past;
       }
 
   pub written-so : Written S b c m (said m.written)
-  written-so = acts-so S b c m (said m.written) shape number writing within_then foretold
+  written-so = acts-so S b c m (said m.written) ready.shape ready.number ready.writing within_then foretold
 
   -- what was said for the turn that it then writes next
   said-then : (t : Bool) → (m.written == written_then m) ≡ t →
       cond t (said m.written) [] ≡ said (written_then m)
   said-then true is = ap said (eqb-true m.written (written_then m) is)
   said-then false is =
-      sym (later (written_then m)
+      sym (ready.later (written_then m)
       (omega (arith, eqb-false m.written (written_then m) is)))
 
   pub speaks-then : Speaks S c said (acts b m).member
@@ -153,13 +133,14 @@ module _ (S : Script) (b : WordBook) (c : ℕ) (client : c < S.shape.clients) (m
       let member : (acts b m).member ≡ (asks_if_due b w.last).member =
       ap (λ (t : Turned). t.member) w.acts_are
       in
+      let kept = asked-keeps b w.last in
       record {
-        shape = ap (λ (x : MemberState). x.client.shape) member ∙ asked-shape b w.last ∙ w.shape;
-        number = ap (λ (x : MemberState). x.client.number) member ∙ asked-number b w.last ∙ w.number;
+        shape = ap (λ (x : MemberState). x.client.shape) member ∙ kept.0 ∙ w.shape;
+        number = ap (λ (x : MemberState). x.client.number) member ∙ kept.1 ∙ w.number;
         writing =
-            ap (λ (x : MemberState). x.client.writing) member ∙ asked-writing b w.last ∙ w.writing
+            ap (λ (x : MemberState). x.client.writing) member ∙ kept.2 ∙ w.writing
             ∙ ap (queue S c (written_then m)) (said-then (m.written == written_then m) refl)
             ∙ ap (λ (k : ℕ). queue S c k (said k)) (sym n);
         within = subst (λ (k : ℕ). k ≤ turn_count S.shape) (sym n) within_then;
-        later = λ k past. later k (omega (arith, n, past));
+        later = λ k past. ready.later k (omega (arith, n, past));
       }

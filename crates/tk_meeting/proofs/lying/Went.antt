@@ -19,19 +19,11 @@ use Rattle.tk_meeting.proofs.lying.Books.{IsOf, ShowAlike}
 use Rattle.tk_meeting.proofs.telling.Foreseeing.{ForeseesOf}
 use Rattle.tk_meeting.proofs.members.Packets.{AreToHost, frames-append, host-alone}
 use Rattle.tk_meeting.proofs.members.Writing.{packets_in, packets_on}
-use Rattle.tk_meeting.proofs.shown.Steps.{gone_ahead, gone_by_ticks, acted, acts-stands}
+use Rattle.tk_meeting.proofs.shown.Steps.{gone_ahead, gone_by_ticks, acted, acts-stands, ahead_of, ticks_of, written_then}
 use Rattle.tk_meeting.proofs.members.Writing.{queue}
-use Rattle.tk_meeting.proofs.lying.Acts.{ahead_of, ticks_of, Written}
-use Rattle.tk_meeting.proofs.lying.Speaks.{Speaks, written_then, within_then, written-so, speaks-then}
+use Rattle.tk_meeting.proofs.members.Acts.{Written}
+use Rattle.tk_meeting.proofs.lying.Speaks.{Speaks, within_then, written-so, speaks-then}
 use Rattle.tk_meeting.proofs.lying.Asks.{asks-alike}
-
--- a member that is ready to act, to which this was said
-pub record IsReady (S : Script) (c : ℕ) (said : ℕ → List Saying) (m : MemberState) : Type 0 where
-  pub shape : m.client.shape ≡ S.shape
-  pub number : m.client.number ≡ c
-  pub writing : m.client.writing ≡ queue S c m.written (said m.written)
-  pub within : m.written ≤ turn_count S.shape
-  pub later : (k : ℕ) → m.written < k → said k ≡ []
 
 module _ (A B : Script) (h : Hidden) (a b : WordBook) (pairs others : Pairs)
     (show : ShowAlike A B h a b pairs others) (c : ℕ) (client : c < A.shape.clients) where
@@ -48,25 +40,15 @@ module _ (A B : Script) (h : Hidden) (a b : WordBook) (pairs others : Pairs)
       ∙ ap (λ (ps : List PacketView). packets_in B b c g ++ ps) (packets-same (g + 1) n (omega (arith, within)))
 
   module _ (m n : MemberState) (same : stand m ≡ stand n) (said other_said : ℕ → List Saying)
-      (ready : IsReady A c said m) (other : IsReady B c other_said n)
+      (ready : Speaks A c said m) (other : Speaks B c other_said n)
       (foresees : ForeseesOf A c (acts a m).member.written said)
       (other_foresees : ForeseesOf B c (acts b n).member.written other_said) where
     one : Written A a c m (said m.written)
-    one = written-so A a c client m said ready.shape ready.number ready.writing ready.later ready.within foresees
+    one = written-so A a c client m said ready foresees
 
     two : Written B b c n (other_said n.written)
     two =
-        written-so B b c other_client n other_said other.shape other.number other.writing other.later other.within
-        other_foresees
-
-    pub speaks : Speaks A c said (acts a m).member
-    speaks =
-        speaks-then A a c client m said ready.shape ready.number ready.writing ready.later ready.within foresees
-
-    pub other-speaks : Speaks B c other_said (acts b n).member
-    other-speaks =
-        speaks-then B b c other_client n other_said other.shape other.number other.writing other.later other.within
-        other_foresees
+        written-so B b c other_client n other_said other other_foresees
 
     pub stands-then : stand (acts a m).member ≡ stand (acts b n).member
     stands-then = acts-stands a m ∙ ap acted same ∙ sym (acts-stands b n)
@@ -78,7 +60,7 @@ module _ (A B : Script) (h : Hidden) (a b : WordBook) (pairs others : Pairs)
         ≡ packets_on B b c n.written (ahead_of (stand n) + ticks_of (stand n))
     written-same =
         let within =
-        within_then A a c client m said ready.shape ready.number ready.writing ready.later ready.within foresees
+        within_then A a c client m said ready foresees
         in
         packets-same m.written (ahead_of (stand m) + ticks_of (stand m)) (omega (arith, within))
         ∙ ap (λ (s : Stand). packets_on B b c s.written (ahead_of s + ticks_of s)) same
@@ -86,7 +68,7 @@ module _ (A B : Script) (h : Hidden) (a b : WordBook) (pairs others : Pairs)
     last-within : one.last.written ≤ turn_count A.shape
     last-within =
         let within =
-        within_then A a c client m said ready.shape ready.number ready.writing ready.later ready.within foresees
+        within_then A a c client m said ready foresees
         in
         let is : one.last.written ≡ written_then m = ap (λ (s : Stand). s.written) one.stands in
         subst (λ (k : ℕ). k ≤ turn_count A.shape) (sym is) within

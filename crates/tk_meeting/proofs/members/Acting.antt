@@ -11,51 +11,18 @@ use Rattle.tk_member.specs.Acting.{Turned, behind, followed_by, wrote, goes_ahea
 use Rattle.tk_member.specs.Acting.{asks_if_due, acts}
 use Rattle.tk_member.specs.Steps.{tells_and_acts}
 use Rattle.tk_meeting.specs.Meeting.{Saying, for_peer, frames_for}
+use Rattle.tk_meeting.specs.Shown.{stand}
 use Rattle.tk_meeting.specs.Laws.{sayings, tells_read}
 use Rattle.tk_meeting.proofs.Pace.{Pace, IsPace, acted, asks_now, count_ahead, count_ticks, gone_ahead}
 use Rattle.tk_meeting.proofs.Standing.{IsAt, IsForetold, Goes, said_on, frames_of}
 use Rattle.tk_meeting.proofs.members.Members.{member_at, at-is, at-from}
 use Rattle.tk_meeting.proofs.members.Paces.{written_on, asked_on, acted-pace, acted-kinds, written-pace}
-use Rattle.tk_meeting.proofs.members.Counts.{acted-written}
+use Rattle.tk_meeting.proofs.members.Paces.{acted-written}
 use Rattle.tk_meeting.proofs.members.Packets.{AreToHost, peer-append, frames-append, host-own, host-alone}
-use Rattle.tk_meeting.proofs.members.Writing.{turned_at, wrote-is, packets_on, packets-both, frames-on}
-use Rattle.tk_meeting.proofs.members.Writing.{host-on, frames-then, nothing-said, said-later, said-still}
+use Rattle.tk_meeting.proofs.members.Writing.{turned_at, turned_with, queue, packets_on, frames-on, host-on, frames-then}
+use Rattle.tk_meeting.proofs.members.Acts.{both-go, said-both}
+use Rattle.tk_meeting.proofs.shown.Steps.{ticks_of}
 use Rattle.tk_meeting.proofs.members.Asking.{known-is, asks-go, packets_by, frames-by, host-by}
-
--- ---- what is said and foretold, in two steps
-
-pub said-both : (g n k : ℕ) (saids : List Saying) →
-    said_on (g + n) (g + n + k) (said_on g (g + n) saids) ≡ said_on g (g + n + k) saids
-said-both g zero k saids =
-    let e : g ≡ g + 0 = omega arith in
-    ap₂ (λ x ys. said_on x (g + 0 + k) ys) (sym e) (said-still g (g + 0) saids e)
-said-both g (suc n) k saids =
-    ap (said_on (g + suc n) (g + suc n + k)) (said-later g (g + suc n) saids (omega arith))
-    ∙ nothing-said (g + suc n) (g + suc n + k)
-    ∙ sym (said-later g (g + suc n + k) saids (omega arith))
-
-pub foretold-front : (S : Script) (c g n k : ℕ) (saids : List Saying) → k ≤ n →
-    IsForetold S c g n saids → IsForetold S c g k saids
-foretold-front S c g n k saids within told =
-    record {
-      here = λ low. told.here (omega (arith, low, within));
-      behind = λ i above low. told.behind i above (omega (arith, low, within));
-    }
-
-pub foretold-on : (S : Script) (c g n k : ℕ) (saids : List Saying) → IsForetold S c g (g + n + k) saids →
-    IsForetold S c (g + n) (g + n + k) (said_on g (g + n) saids)
-foretold-on S c g zero k saids told =
-    let e : g ≡ g + 0 = omega arith in
-    record {
-      here = λ low. said-still g (g + 0) saids e ∙ told.here (omega (arith, low)) ∙ ap (sayings S c) e;
-      behind = λ i above low. told.behind i (omega (arith, above)) low;
-    }
-foretold-on S c g (suc n) k saids told =
-    record {
-      here = λ low.
-          said-later g (g + suc n) saids (omega arith) ∙ sym (told.behind (g + suc n) (omega arith) low);
-      behind = λ i above low. told.behind i (omega (arith, above)) low;
-    }
 
 -- ---- writes
 
@@ -64,57 +31,37 @@ module _ (S : Script) (b : WordBook) (c : ℕ) (p : Pace) (saids : List Saying) 
     abbrev ahead : ℕ
     ahead = count_ahead S.shape p
 
-    abbrev after_ahead : Pace
-    after_ahead = gone_ahead S.shape p
-
     abbrev ticking : ℕ
-    ticking = count_ticks S.shape after_ahead
+    ticking = count_ticks S.shape (gone_ahead S.shape p)
 
     abbrev last : ℕ
     last = p.written + ahead + ticking
 
-    ahead-in : p.written + ahead ≤ turn_count S.shape
-    ahead-in = omega (arith, is.written_in)
-
-    ticking-in : p.written + ahead + ticking ≤ turn_count S.shape
-    ticking-in = let low = ahead-in in omega (arith, low)
-
-    ahead-goes : IsForetold S c p.written last saids →
-        goes_ahead (words_of S.shape b) (member_at S b c p saids)
-        ≡ turned_at S b c after_ahead (said_on p.written (p.written + ahead) saids)
-        (packets_on S b c p.written ahead)
-    ahead-goes told =
-        wrote-is S b c ahead (record p { ahead = p.ahead - ahead }) saids ahead-in
-        (foretold-front S c p.written last (p.written + ahead) saids (omega arith) told)
-
-    ticks-go : IsForetold S c p.written last saids →
-        let said = said_on p.written (p.written + ahead) saids in
-        goes_by_ticks (words_of S.shape b) (member_at S b c after_ahead said)
-        ≡ turned_at S b c (written_on S.shape p) (said_on (p.written + ahead) last said)
-        (packets_on S b c (p.written + ahead) ticking)
-    ticks-go told =
-        let w = words_of S.shape b in
-        let q = after_ahead in
-        let said = said_on p.written (p.written + ahead) saids in
-        let m = member_at S b c q said in
-        let due : ticks_due m ≡ ticking =
-        ap (λ n. min q.ticks (min (turn_count S.shape) ((n + 1) * S.shape.ticks) - q.written))
-        (known-is S b q)
-        in
-        ap (λ n. wrote w n (record m { ticks = m.ticks - n })) due
-        ∙ wrote-is S b c ticking (record q { ticks = q.ticks - ticking }) said ticking-in
-        (foretold-on S c p.written ahead ticking saids told)
+    ticking-in : last ≤ turn_count S.shape
+    ticking-in = let low : p.written + ahead ≤ turn_count S.shape = omega (arith, is.written_in) in omega (arith, low)
 
     writes-go : IsForetold S c p.written last saids → let w = words_of S.shape b in
         followed_by (goes_ahead w (member_at S b c p saids)) (goes_by_ticks w)
         ≡ turned_at S b c (written_on S.shape p) (said_on p.written last saids)
         (packets_on S b c p.written (ahead + ticking))
     writes-go told =
-        let w = words_of S.shape b in
-        ap (λ (t : Turned). followed_by t (goes_by_ticks w)) (ahead-goes told)
-        ∙ ap (behind (packets_on S b c p.written ahead)) (ticks-go told)
-        ∙ ap₂ (turned_at S b c (written_on S.shape p)) (said-both p.written ahead ticking saids)
-        (packets-both S b c p.written ahead ticking)
+        let m = member_at S b c p saids in
+        let due : ticks_of (stand m) ≡ ticking =
+        ap (λ n. min p.ticks (min (turn_count S.shape) ((n + 1) * S.shape.ticks) - (p.written + ahead)))
+        (known-is S b p)
+        in
+        let then = λ (n : ℕ).
+        turned_with (record m { ahead = p.ahead - ahead; ticks = p.ticks - n })
+        (queue S c (p.written + ahead + n)
+        (said_on (p.written + ahead) (p.written + ahead + n) (said_on p.written (p.written + ahead) saids)))
+        (p.written + ahead + n) (packets_on S b c p.written (ahead + n))
+        in
+        both-go S b c m saids refl refl refl
+        (subst (λ n. p.written + ahead + n ≤ turn_count S.shape) (sym due) ticking-in)
+        (subst (λ n. IsForetold S c p.written (p.written + ahead + n) saids) (sym due) told)
+        ∙ ap then due
+        ∙ ap (λ ys. turned_at S b c (written_on S.shape p) ys (packets_on S b c p.written (ahead + ticking)))
+        (said-both p.written ahead ticking saids)
 
     -- ---- writes, and then a read
 

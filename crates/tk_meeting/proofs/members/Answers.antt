@@ -10,8 +10,8 @@ use Rattle.std.proofs.lemmas.List.Elements.{recursion_from_All, All-from_get_or}
 use Rattle.tk_shape.specs.declared.shape.Shape.{Shape}
 use Rattle.tk_shape.specs.Lengths.{width, turn_count, reply_len}
 use Rattle.tk_kernel.specs.Xor.{xor_all}
-use Rattle.tk_kernel.specs.Chosen.{chosen_sum, chosen_from}
-use Rattle.tk_kernel.proofs.Offers.{length-xor_all, AllSized-chosen_from}
+use Rattle.tk_kernel.specs.Chosen.{chosen_sum}
+use Rattle.tk_bits.proofs.Offers.{length-chosen_sum}
 use Rattle.tk_words.specs.Words.{WordBook, words_of, opened as opens_to, fresh_vectors, IsBook}
 use Rattle.tk_frames.specs.declared.read_frame.ReadFrame.{ReadFrame}
 use Rattle.tk_frames.specs.declared.reply_frame.ReplyFrame.{ReplyFrame}
@@ -42,63 +42,11 @@ use Rattle.tk_client.specs.Replies.{first_other, other_name}
 use Rattle.tk_client.proofs.Offers.{frames_in-spelled, asked-in_range, pair-in_range, fresh-whole}
 use Rattle.tk_report.specs.Exchange.{read_at}
 use Rattle.tk_report.specs.Report.{lookup, answered, read_over, target_at, reader_before}
-use Rattle.tk_report.proofs.Offers.{before-next, epochs-ordered, epochs-storable}
+use Rattle.tk_report.proofs.Offers.{before-next, epochs-ordered, epochs-storable, epoch-most}
+use Rattle.tk_report.proofs.Offers.{map_same, map-map, blocks-whole, text-taken, asked-read_at}
 use Rattle.tk_meeting.proofs.Canonical.{serial, read_from, reply_in}
 use Rattle.tk_meeting.proofs.Standing.{read_of}
-use Rattle.tk_meeting.proofs.members.Asking.{map_same, map-map, asked-reads, serial-epoch}
-use Rattle.tk_meeting.proofs.members.Joining.{AreBlocks, replies_join}
-
--- the blocks of a table: one for each bucket, each of a bucket's width
-pub blocks-whole : (shape : Shape) (R : List Record) → AreOrdered shape R →
-    AllByRecursion (IsStorable shape) R → AreBlocks shape (blocks_of (layout shape R))
-blocks-whole shape R ordered storable =
-    let blocks = blocks_of (layout shape R) in
-    let each : length blocks ≡ shape.buckets =
-    length-map (layout shape R) _ ∙ (layout-laid_out shape R ordered).wide
-    in
-    record {
-      each = each;
-      sized =
-          recursion_from_All (λ v. length v ≡ width shape) blocks
-          (All-from_get_or (λ v. length v ≡ width shape) blocks [] (λ k low.
-          (layout-read_back shape R k ordered storable (omega (arith, low, each))).long));
-    }
-
--- what is taken from the sums of the replies is what is looked up
-pub text-taken : (shape : Shape) (b : WordBook) (R : List Record) (g c e : ℕ) (t : Target)
-    (reads : List ReadFrame) (replies : List ReplyFrame) (first second : List ℕ)
-    (o : Option (List ℕ)) → let w = words_of shape b in
-    AreOrdered shape R → AllByRecursion (IsStorable shape) R →
-    AreWhole shape (fresh_vectors shape b g c) → IsPair shape (pair_for w g c (Some t)) →
-    reads ≡ asked shape b g c e (Some t) → replies ≡ map (reply_to shape R) reads →
-    first ≡ xor_all (width shape) (map (λ (r : ReplyFrame). r.first) replies) →
-    second ≡ xor_all (width shape) (map (λ (r : ReplyFrame). r.second) replies) →
-    o
-    ≡ text_among (w.pair t.log t.number) (opens_to w t.log t.number)
-    (slots_in shape first ++ slots_in shape second) →
-    o ≡ lookup shape w R t.log t.number
-unfolding lookup
-text-taken shape b R g c e t reads replies first second o
-    ordered storable whole within reads_are replies_are first_is second_is text_is =
-    let w = words_of shape b in
-    let pair = w.pair t.log t.number in
-    let opens = opens_to w t.log t.number in
-    let T = layout shape R in
-    let sum = xor_all (width shape) in
-    let join =
-    replies_join shape b R g c e (Some t) whole (blocks-whole shape R ordered storable) within
-    in
-    let all = replies_are ∙ ap (map (reply_to shape R)) reads_are in
-    let first_block : first ≡ block_at T pair.0 =
-    first_is ∙ ap (λ rs. sum (map (λ (r : ReplyFrame). r.first) rs)) all ∙ join.first
-    in
-    let second_block : second ≡ block_at T pair.1 =
-    second_is ∙ ap (λ rs. sum (map (λ (r : ReplyFrame). r.second) rs)) all ∙ join.second
-    in
-    text_is
-    ∙ ap₂ (λ (x y : List ℕ). text_among pair opens (slots_in shape x ++ slots_in shape y))
-    first_block second_block
-    ∙ layout-as_read shape R pair opens ordered storable within.0 within.1
+use Rattle.tk_meeting.proofs.members.Asking.{serial-epoch}
 
 -- so the answer to a read is what is looked up for its target
 pub answer-taken : (shape : Shape) (b : WordBook) (R : List Record) (g c e : ℕ) (t : Option Target)
@@ -122,12 +70,8 @@ answer-taken shape b R g c e (Some t) replies ordered storable whole within in_r
 sum-long : (shape : Shape) (R : List Record) (vector : List ℕ) → AreOrdered shape R →
     AllByRecursion (IsStorable shape) R →
     length (chosen_sum (width shape) (blocks_of (layout shape R)) vector) ≡ width shape
-unfolding chosen_sum
 sum-long shape R vector ordered storable =
-    let blocks = blocks_of (layout shape R) in
-    length-xor_all (width shape) (chosen_from 0 blocks vector)
-    (AllSized-chosen_from (width shape) 0 blocks vector
-    (blocks-whole shape R ordered storable).sized)
+    length-chosen_sum (width shape) (blocks_of (layout shape R)) vector (blocks-whole shape R ordered storable).sized
 
 -- a reply to a read in range is in range
 reply-in_range : (shape : Shape) (R : List Record) (r : ReadFrame) → AreOrdered shape R →
@@ -179,11 +123,6 @@ pub record IsTurnOf (S : Script) (b : WordBook) (c g : ℕ) : Type 0 where
   pub client_in : c < S.shape.clients
   pub turn_in : g < turn_count S.shape
 
-phases-most : (shape : Shape) (g : ℕ) → g < turn_count shape → phases_over shape g ≤ shape.phases
-phases-most shape g low =
-    le_of_mul-le-mul_right (le_trans (div-mul-le_self g shape.ticks) (omega (arith, low)))
-    shape.in_range.ticks_low
-
 module _ (S : Script) (b : WordBook) (c g : ℕ) (turn : IsTurnOf S b c g) where
   abbrev over : List Record
   over = read_over S (words_of S.shape b) (serial S) g c
@@ -205,7 +144,7 @@ module _ (S : Script) (b : WordBook) (c g : ℕ) (turn : IsTurnOf S b c g) where
       map_same (λ j. reply_in S b c j g) (λ j. reply_frame (reply (read_from S b c j g))) one-reply js
       ∙ sym (map-map reply_frame (λ j. reply (read_from S b c j g)) js)
       ∙ ap (map reply_frame) (sym (map-map reply (λ j. read_from S b c j g) js))
-      ∙ ap (λ (rs : List ReadFrame). map reply_frame (map reply rs)) (sym (asked-reads S b c g))
+      ∙ ap (λ (rs : List ReadFrame). map reply_frame (map reply rs)) (sym (asked-read_at S b (serial S) g c))
 
   all-ordered : AreOrdered S.shape over
   all-ordered = epochs-ordered S b (serial S) (epoch_at (serial S) g c)
@@ -216,10 +155,7 @@ module _ (S : Script) (b : WordBook) (c g : ℕ) (turn : IsTurnOf S b c g) where
 
   replies-fit : AllByRecursion (IsReply S.shape) (map (reply_to S.shape over) reads)
   replies-fit =
-      let most : epoch_at (serial S) g c ≤ S.shape.phases =
-      subst (λ e. e ≤ S.shape.phases) (sym (serial-epoch S g c turn.turn_in turn.client_in))
-      (phases-most S.shape g turn.turn_in)
-      in
+      let most = epoch-most S (serial S) g c (serial-IsLegal S.shape) turn.turn_in turn.client_in in
       each-reply S.shape over reads all-ordered all-storable
       (asked-in_range S.shape b g c (epoch_at (serial S) g c) aim turn.serves turn.turn_in turn.client_in
       most)
@@ -272,7 +208,7 @@ module _ (S : Script) (b : WordBook) (c g : ℕ) (turn : IsTurnOf S b c g) where
       in
       let listed : rs ≡ map (λ j. reply_to S.shape over (read_from S b c j g))
       (range_with_len 1 S.shape.servers) =
-      ap (map (reply_to S.shape over)) (asked-reads S b c g)
+      ap (map (reply_to S.shape over)) (asked-read_at S b (serial S) g c)
       ∙ map-map (reply_to S.shape over) (λ j. read_from S b c j g) (range_with_len 1 S.shape.servers)
       in
       ap₂ option_or

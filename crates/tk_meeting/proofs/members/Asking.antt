@@ -25,6 +25,7 @@ use Rattle.tk_report.specs.Exchange.{read_at, read_pair}
 use Rattle.tk_report.specs.Report.{target_at, reader_before, read_over}
 use Rattle.tk_member.specs.Epochs.{filter_of, marks_at, epochs_in, known, least_of, Marks}
 use Rattle.tk_member.specs.Acting.{Turned, packets_from, may_ask, asks, asks_if_due, unmoved}
+use Rattle.tk_report.proofs.Offers.{map_same, map-map, asked-read_at}
 use Rattle.tk_meeting.specs.Meeting.{Saying, for_peer, frames_for}
 use Rattle.tk_meeting.proofs.Canonical.{serial, whole, read_from, marks_in, telling_of, reply_in}
 use Rattle.tk_meeting.proofs.Pace.{Pace, IsPace, known_by, asks_now, has_asked}
@@ -83,26 +84,6 @@ may-ask S b c p saids =
     (none-open p.is_open (read_of S b c (p.asked - 1))) (known-is S b p)
 
 -- ---- what it asks
-
-pub map_same : {X Y : Type 0} (f g : X → Y) → ((x : X) → f x ≡ g x) → (xs : List X) →
-    map f xs ≡ map g xs
-map_same f g same [] = refl
-map_same f g same (x ∷ xs) = ap₂ (λ y ys. y ∷ ys) (same x) (map_same f g same xs)
-
-pub map-map : {X Y Z : Type 0} (f : Y → Z) (h : X → Y) (xs : List X) →
-    map f (map h xs) ≡ map (λ x. f (h x)) xs
-map-map f h [] = refl
-map-map f h (x ∷ xs) = ap (λ rest. f (h x) ∷ rest) (map-map f h xs)
-
--- what is asked in a turn is what each server reads
-pub asked-reads : (S : Script) (b : WordBook) (c g : ℕ) →
-    asked S.shape b g c (epoch_at (serial S) g c) (target_at S (words_of S.shape b) (serial S) g c)
-    ≡ map (λ j. read_from S b c j g) (range_with_len 1 S.shape.servers)
-unfolding read_at read_pair
-asked-reads S b c g =
-    let pair = read_pair S (words_of S.shape b) (serial S) g c in
-    map_same (frame_for S.shape b g c (epoch_at (serial S) g c) pair) (λ j. read_from S b c j g)
-    (λ j. refl) (range_with_len 1 S.shape.servers)
 
 -- the packets of the read of a turn
 abbrev pub packets_asked : Script → WordBook → ℕ → ℕ → List PacketView
@@ -191,7 +172,7 @@ module _ (S : Script) (b : WordBook) (c : ℕ) (p : Pace) (may : MayAsk S c p) w
       let t = target_at S (words_of S.shape b) H g c in
       ap (asks_for e) (target-is saids)
       ∙ ap (λ n. asks_for n t) (sym (serial-epoch S g c turn-in may.client_in))
-      ∙ ap (λ (rs : List ReadFrame). packets_from 1 (map read_frame rs)) (asked-reads S b c g)
+      ∙ ap (λ (rs : List ReadFrame). packets_from 1 (map read_frame rs)) (asked-read_at S b H g c)
       ∙ ap (packets_from 1)
       (map-map read_frame (λ j. read_from S b c j g) (range_with_len 1 S.shape.servers))
 

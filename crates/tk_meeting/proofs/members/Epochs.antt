@@ -31,6 +31,7 @@ use Rattle.tk_meeting.proofs.Standing.{IsAt, Readies}
 use Rattle.tk_meeting.proofs.members.Members.{member_at, at-is, is-at, tellings_at}
 use Rattle.tk_meeting.proofs.members.Marks.{telling-at}
 use Rattle.tk_meeting.proofs.members.Asking.{length-telling}
+use Rattle.tk_meeting.proofs.servers.Bumps.{changed-same, changed-other}
 
 -- ---- lists by number, where one is changed
 
@@ -60,12 +61,6 @@ set-one f g j v a (suc n) low high here other =
           ∙ ap₂ (λ y ys. y ∷ ys) (sym here ∙ ap g same)
           (above-same f g j (a + 1) n (omega (arith, same)) other)
     ]
-
-pub one-here : {X : Type 0} (j : ℕ) (x : X) (f : ℕ → X) → changed j x f j ≡ x
-one-here j x f = ap (λ b. cond b x (f j)) (eq-eqb j j refl)
-
-pub one-other : {X : Type 0} (j : ℕ) (x : X) (f : ℕ → X) (k : ℕ) → k ≢ j → changed j x f k ≡ f k
-one-other j x f k ne = ap (λ b. cond b x (f k)) (ne_eqb k j ne)
 
 -- ---- what is told of an epoch
 
@@ -104,8 +99,8 @@ module _ (S : Script) (b : WordBook) (p : Pace) where
       in
       set-one (λ k. telling_of S b (p.epochs k)) (λ k. telling_of S b (changed j (n + 1) p.epochs k)) j
       (telling_of S b n ++ marks_in S b (n + 1) ∷ []) 1 S.shape.servers low (omega (arith, high))
-      (ap (telling_of S b) (one-here j (n + 1) p.epochs) ∙ next)
-      (λ k ne. ap (telling_of S b) (one-other j (n + 1) p.epochs k ne))
+      (ap (telling_of S b) (changed-same j (n + 1) p.epochs) ∙ next)
+      (λ k ne. ap (telling_of S b) (changed-other j k (n + 1) p.epochs ne))
 
 length-marks : (S : Script) (b : WordBook) (e : ℕ) → length (marks_in S b e) ≡ marks_len S.shape
 unfolding mark_bytes

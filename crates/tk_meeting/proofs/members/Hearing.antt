@@ -13,10 +13,12 @@ use Rattle.tk_member.specs.declared.word.HostWord.TheVariants.{Say, Tick, Ahead,
 use Rattle.tk_member.specs.Members.{MemberState}
 use Rattle.tk_member.specs.News.{refused_packet}
 use Rattle.tk_member.specs.Steps.{heard, said, tells_and_acts}
+use Rattle.tk_report.specs.Queues.{writing_before}
 use Rattle.tk_meeting.specs.Meeting.{Saying}
 use Rattle.tk_meeting.proofs.Canonical.{with_sayings}
 use Rattle.tk_meeting.proofs.Pace.{Pace, ticked, sent_ahead}
 use Rattle.tk_meeting.proofs.Standing.{IsAt, Readies}
+use Rattle.tk_meeting.proofs.members.Members.{member_at, client_at, at-is, at-from}
 
 abbrev pub say_of : ℕ → List ℕ → Saying
 say_of log text = record { log = log; text = text }
@@ -41,19 +43,13 @@ module _ {S : Script} {b : WordBook} {c : ℕ} {p : Pace} {saids : List Saying} 
         told = [];
         is = ap (said b m log text) may;
         at =
-            record {
-              shape_is = at.shape_is;
-              number_is = at.number_is;
-              writing_is = ap (with_text log text) at.writing_is ∙ said-one saids log text _;
-              reader_is = at.reader_is;
-              read_is = at.read_is;
-              written_is = at.written_is;
-              asked_is = at.asked_is;
-              ticks_is = at.ticks_is;
-              ahead_is = at.ahead_is;
-              told_is = at.told_is;
-              replies_is = at.replies_is;
-            };
+            at-from
+            (ap (λ (x : MemberState). record x {
+              client = record x.client { writing = with_text log text x.client.writing };
+            }) (at-is at)
+            ∙ ap (λ (w : Writing). record (member_at S b c p saids) {
+              client = record (client_at S b c p saids) { writing = w };
+            }) (said-one saids log text (writing_before S c p.written)));
         to_host = tt;
         host = refl;
       }
@@ -79,19 +75,8 @@ module _ {S : Script} {b : WordBook} {c : ℕ} {p : Pace} {saids : List Saying} 
         told = [];
         is = refl;
         at =
-            record {
-              shape_is = at.shape_is;
-              number_is = at.number_is;
-              writing_is = at.writing_is;
-              reader_is = at.reader_is;
-              read_is = at.read_is;
-              written_is = at.written_is;
-              asked_is = at.asked_is;
-              ticks_is = ap₂ (λ n s. min (n + 1) (turn_count s)) at.ticks_is at.shape_is;
-              ahead_is = at.ahead_is;
-              told_is = at.told_is;
-              replies_is = at.replies_is;
-            };
+            at-from
+            (ap (λ (x : MemberState). record x { ticks = min (x.ticks + 1) (turn_count x.client.shape) }) (at-is at));
         to_host = tt;
         host = refl;
       }
@@ -104,19 +89,8 @@ module _ {S : Script} {b : WordBook} {c : ℕ} {p : Pace} {saids : List Saying} 
         told = [];
         is = refl;
         at =
-            record {
-              shape_is = at.shape_is;
-              number_is = at.number_is;
-              writing_is = at.writing_is;
-              reader_is = at.reader_is;
-              read_is = at.read_is;
-              written_is = at.written_is;
-              asked_is = at.asked_is;
-              ticks_is = at.ticks_is;
-              ahead_is = ap₂ (λ n s. min (n + turns) (turn_count s)) at.ahead_is at.shape_is;
-              told_is = at.told_is;
-              replies_is = at.replies_is;
-            };
+            at-from
+            (ap (λ (x : MemberState). record x { ahead = min (x.ahead + turns) (turn_count x.client.shape) }) (at-is at));
         to_host = tt;
         host = refl;
       }

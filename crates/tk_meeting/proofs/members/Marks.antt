@@ -26,6 +26,8 @@ use Rattle.tk_report.specs.Entries.{write_at}
 use Rattle.tk_report.specs.Queues.{waiting_of}
 use Rattle.tk_report.proofs.Offers.{turns-own, before-front}
 use Rattle.tk_member.specs.Epochs.{filter_of, marks_at, no_marks, least_of, told_by}
+use Rattle.tk_report.proofs.Offers.{each-front, each-append}
+use Rattle.std.proofs.Math.Seq.{drop-nil}
 use Rattle.tk_meeting.proofs.Canonical.{serial, whole, marks_in, telling_of}
 use Rattle.tk_meeting.proofs.Pace.{Pace, known_by}
 use Rattle.tk_meeting.proofs.members.Members.{tellings_at, all-same-range}
@@ -67,11 +69,6 @@ written-low S b g c = write-low S.shape b g c (option_map waiting_of (sent S g c
 abbrev HasLow : Shape → Record → Type 0
 HasLow shape r = AreLow shape.filter_bits r.write.hits
 
-front-each : {X : Type 0} (P : X → Type 0) (xs ys : List X) → AllByRecursion P (xs ++ ys) →
-    AllByRecursion P xs
-front-each P [] ys all = tt
-front-each P (x ∷ xs) ys all = (all.0, front-each P xs ys all.1)
-
 drop-each : {X : Type 0} (P : X → Type 0) (n : ℕ) (xs : List X) → AllByRecursion P xs →
     AllByRecursion P (drop n xs)
 drop-each P zero xs all = all
@@ -86,18 +83,15 @@ before-low S b e =
     turns-own (HasLow S.shape) (write_at S (words_of S.shape b)) (serial S) (turn_count S.shape)
     (λ g q c low. written-low S b g c)
     in
-    front-each (HasLow S.shape) (before (whole S b) e) front.0
+    each-front (HasLow S.shape) (before (whole S b) e) front.0
     (subst (AllByRecursion (HasLow S.shape)) front.1 each)
-
-both-low : (bits : ℕ) (xs ys : List ℕ) → AreLow bits xs → AreLow bits ys → AreLow bits (xs ++ ys)
-both-low bits [] ys first second = second
-both-low bits (x ∷ xs) ys first second = (first.0, both-low bits xs ys first.1 second)
 
 pushes-low : (shape : Shape) (R : List Record) → AllByRecursion (HasLow shape) R →
     AreLow shape.filter_bits (positions_of (map (λ (r : Record). r.write.hits) R))
 pushes-low shape [] all = tt
 pushes-low shape (r ∷ R) all =
-    both-low shape.filter_bits r.write.hits (positions_of (map (λ (x : Record). x.write.hits) R)) all.0
+    each-append (λ h. h < shape.filter_bits) r.write.hits
+    (positions_of (map (λ (x : Record). x.write.hits) R)) all.0
     (pushes-low shape R all.1)
 
 positions-low : (S : Script) (b : WordBook) (e : ℕ) →
@@ -152,10 +146,6 @@ unfolding mark_bytes
 unset-bytes count marks blank =
     all-same-range (mark_byte marks) 0 (λ i. unset-bits 8 marks (8 * i) blank) 0 count
 
-drop-none : {X : Type 0} (n : ℕ) → drop {A = X} n [] ≡ []
-drop-none zero = refl
-drop-none (suc n) = refl
-
 none-before : (S : Script) (b : WordBook) → before (whole S b) 0 ≡ []
 unfolding before
 none-before S b = refl
@@ -164,7 +154,7 @@ blank-first : (shape : Shape) → IsBlank (filter_told shape [])
 blank-first shape =
     let bits = shape.filter_bits in
     let none : pushes_of shape [] ≡ [] =
-    ap (map (λ (r : Record). r.write.hits)) (drop-none (0 - shape.retained))
+    ap (map (λ (r : Record). r.write.hits)) (drop-nil (0 - shape.retained))
     in
     let marks : filter_told shape [] ≡ replicate bits false =
     ap (λ pushes. marks_of bits (positions_of pushes)) none

@@ -50,6 +50,17 @@ acted-kinds shape p =
     ap (λ (x : Paced). replicate (count_due shape p) Wrote ++ x.kinds)
     (asking-is (asks_now shape (written_on shape p)) (written_on shape p))
 
+-- so many turns it wrote then
+written-same : (b : Bool) (p : Pace) → (asked_by b p).pace.written ≡ p.written
+written-same true p = refl
+written-same false p = refl
+
+pub acted-written : (shape : Shape) (p : Pace) →
+    (acted shape p).pace.written ≡ p.written + count_due shape p
+acted-written shape p =
+    ap (λ (q : Pace). q.written) (acted-pace shape p)
+    ∙ written-same (asks_now shape (written_on shape p)) (written_on shape p) ∙ omega arith
+
 -- ---- one that there is stays one
 
 pub written-pace : (shape : Shape) (p : Pace) → IsPace shape p → IsPace shape (written_on shape p)

@@ -1,10 +1,11 @@
 -- Packets to several peers: those for one of them.
-use Rattle.std.proofs.Common.{[], ◌≡◌, refl, ap, ◌∙◌, arith, ℕ, zero, suc, ◌+◌, ◌≤◌, ◌<◌, true, false, List, ◌∷◌}
-use Rattle.std.proofs.Common.{◌++◌, map, cond, inl, inr}
+use Rattle.std.proofs.Common.{[], ◌≡◌, refl, ap, ◌∙◌, arith, ℕ, suc, ◌+◌, ◌-◌, ◌≤◌, ◌<◌, true, false, List, ◌∷◌}
+use Rattle.std.proofs.Common.{◌++◌, length, map, get_or, cond, inl, inr}
 use Rattle.std.specs.Prelude.{◌==◌}
 use Rattle.std.specs.List.{range_with_len, AllByRecursion}
 use Rattle.std.proofs.lemmas.Bool.{cases_lt, ne_eqb, eq-eqb}
 use Rattle.std.proofs.lemmas.List.{map-append}
+use Rattle.std.proofs.lemmas.List.FromFn.{length-map-range_with_len, get_or-map-range_with_len}
 use Rattle.std.proofs.lemmas.List.Elements.{filter-append}
 use Rattle.tk_packets.specs.Packets.{PacketView, packet}
 use Rattle.tk_member.specs.Acting.{packets_from}
@@ -29,25 +30,33 @@ none-below j a (x ∷ xs) low =
     ap (λ b. cond b (packet a x ∷ rest) rest) other ∙ none-below j (a + 1) xs (omega (arith, low))
 
 -- each peer has its own
-pub own-frame : (f : ℕ → List ℕ) (a n j : ℕ) → a ≤ j → j < a + n →
-    frames_for j (packets_from a (map f (range_with_len a n))) ≡ f j ∷ []
-own-frame f a zero j low high = absurd (omega (arith, low, high))
-own-frame f a (suc n) j low high =
-    let xs = map f (range_with_len (a + 1) n) in
+pub own-at : (a : ℕ) (frames : List (List ℕ)) (j : ℕ) → a ≤ j → j < a + length frames →
+    frames_for j (packets_from a frames) ≡ get_or frames (j - a) [] ∷ []
+own-at a [] j low high = absurd (omega (arith, low, high))
+own-at a (x ∷ xs) j low high =
     let rest = for_peer j (packets_from (a + 1) xs) in
     let bytes = λ (ps : List PacketView). map (λ (p : PacketView). p.bytes) ps in
     elim (cases_lt a j) [
       | inl above ↦
           let other : (a == j) ≡ false = ne_eqb a j (λ e. omega (arith, above, e)) in
-          ap (λ b. bytes (cond b (packet a (f a) ∷ rest) rest)) other
-          ∙ own-frame f (a + 1) n j (omega (arith, above)) (omega (arith, high))
+          let next : suc (j - (a + 1)) ≡ j - a = omega (arith, above) in
+          ap (λ b. bytes (cond b (packet a x ∷ rest) rest)) other
+          ∙ own-at (a + 1) xs j (omega (arith, above)) (omega (arith, high))
+          ∙ ap (λ i. get_or (x ∷ xs) i [] ∷ []) next
       | inr at ↦
           let same : a ≡ j = omega (arith, low, at) in
-          let here : (a == j) ≡ true = eq-eqb a j same in
-          ap (λ b. bytes (cond b (packet a (f a) ∷ rest) rest)) here
-          ∙ ap (λ ps. bytes (packet a (f a) ∷ ps)) (none-below j (a + 1) xs (omega (arith, same)))
-          ∙ ap (λ k. f k ∷ []) same
+          let first : 0 ≡ j - a = omega (arith, same) in
+          ap (λ b. bytes (cond b (packet a x ∷ rest) rest)) (eq-eqb a j same)
+          ∙ ap (λ ps. bytes (packet a x ∷ ps)) (none-below j (a + 1) xs (omega (arith, same)))
+          ∙ ap (λ i. get_or (x ∷ xs) i [] ∷ []) first
     ]
+
+pub own-frame : (f : ℕ → List ℕ) (a n j : ℕ) → a ≤ j → j < a + n →
+    frames_for j (packets_from a (map f (range_with_len a n))) ≡ f j ∷ []
+own-frame f a n j low high =
+    own-at a (map f (range_with_len a n)) j low (omega (arith, high, length-map-range_with_len f a n))
+    ∙ ap (λ x. x ∷ [])
+    (get_or-map-range_with_len f a n (j - a) j [] (omega (arith, low, high)) (omega (arith, low)))
 
 -- ---- packets to the host
 

@@ -25,7 +25,8 @@ use Rattle.tk_meeting.proofs.Pace.{Pace, IsPace, with_reply_of, all_replied, clo
 use Rattle.tk_meeting.proofs.Standing.{IsAt, Readies, read_of, reply_there}
 use Rattle.tk_meeting.proofs.members.Members.{member_at, client_at, at-is, is-at, replies_at, all-same-range}
 use Rattle.tk_meeting.proofs.members.Asking.{none-open}
-use Rattle.tk_meeting.proofs.members.Epochs.{set-one, one-here, one-other}
+use Rattle.tk_meeting.proofs.members.Epochs.{set-one}
+use Rattle.tk_meeting.proofs.servers.Bumps.{changed-same, changed-other}
 use Rattle.tk_meeting.proofs.members.Answers.{replies_of, IsTurnOf, reader-next, none-refused}
 use Rattle.tk_meeting.proofs.members.Told.{news-tell, tell-to_host, tell-all}
 
@@ -66,8 +67,8 @@ module _ (S : Script) (b : WordBook) (c : ℕ) (p : Pace) (saids : List Saying) 
       let there = λ (i : ℕ) (x : Bool). cond x (Some (reply_in S b c i (p.asked - 1))) None in
       set-one (reply_there S b c p) (reply_there S b c q) j (Some (reply_in S b c j (p.asked - 1))) 1
       S.shape.servers low (omega (arith, high))
-      (ap (there j) (one-here j true p.replied))
-      (λ k ne. ap (there k) (one-other j true p.replied k ne))
+      (ap (there j) (changed-same j true p.replied))
+      (λ k ne. ap (there k) (changed-other j k true p.replied ne))
 
   served-reply : (m : MemberState) (g : ℕ) →
       served b m j (reply_in S b c j g) ≡ replied b m j (reply_in S b c j g)

@@ -7,6 +7,7 @@ use Rattle.tk_client.specs.declared.got.Got.TheVariants.{Absent, Text}
 use Rattle.tk_client.specs.Reader.{Reader}
 use Rattle.tk_packets.specs.Packets.{PacketView}
 use Rattle.tk_member.specs.News.{got_packet, news_from, news_of, news}
+use Rattle.tk_report.proofs.Offers.{each-append}
 use Rattle.tk_meeting.specs.Laws.{tells_read}
 
 -- a packet of a read, for the host
@@ -22,16 +23,11 @@ from-tells : (log number : ℕ) (gots : List Got) → AllByRecursion TellsRead (
 from-tells log number [] = tt
 from-tells log number (got ∷ gots) = (got-tells log number got, from-tells log (number + 1) gots)
 
-both-tell : (xs ys : List PacketView) → AllByRecursion TellsRead xs → AllByRecursion TellsRead ys →
-    AllByRecursion TellsRead (xs ++ ys)
-both-tell [] ys first second = second
-both-tell (x ∷ xs) ys first second = (first.0, both-tell xs ys first.1 second)
-
 logs-tell : (before after : Reader) (logs : List ℕ) →
     AllByRecursion TellsRead (flat_map (news_of before after) logs)
 logs-tell before after [] = tt
 logs-tell before after (log ∷ logs) =
-    both-tell (news_of before after log) (flat_map (news_of before after) logs)
+    each-append TellsRead (news_of before after log) (flat_map (news_of before after) logs)
     (from-tells log _ _) (logs-tell before after logs)
 
 pub news-tell : (shape : Shape) (before after : Reader) →

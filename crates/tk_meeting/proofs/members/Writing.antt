@@ -157,23 +157,8 @@ module _ (S : Script) (b : WordBook) (c : ℕ) (m : MemberState) (shape : m.clie
 
 -- ---- a member at a pace
 
-abbrev pub written_more : ℕ → Pace → Pace
-written_more n p = record p { written = p.written + n }
-
 abbrev pub turned_at : Script → WordBook → ℕ → Pace → List Saying → List PacketView → Turned
 turned_at S b c p saids packets = record { member = member_at S b c p saids; packets = packets }
-
--- how it stands then, and what it sent
-abbrev pub wrote_at : Script → WordBook → ℕ → ℕ → Pace → List Saying → Turned
-wrote_at S b c n p saids =
-    turned_at S b c (written_more n p) (said_on p.written (p.written + n) saids)
-    (packets_on S b c p.written n)
-
-pub wrote-is : (S : Script) (b : WordBook) (c n : ℕ) (p : Pace) (saids : List Saying) →
-    p.written + n ≤ turn_count S.shape → IsForetold S c p.written (p.written + n) saids →
-    wrote (words_of S.shape b) n (member_at S b c p saids) ≡ wrote_at S b c n p saids
-wrote-is S b c n p saids low told =
-    wrote-so S b c (member_at S b c p saids) refl refl n p.written saids low told
 
 -- ---- frame by frame
 

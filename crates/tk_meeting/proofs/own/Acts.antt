@@ -25,21 +25,16 @@ use Rattle.tk_member.specs.Members.{MemberState}
 use Rattle.tk_member.specs.Acting.{Turned, unmoved, behind, followed_by}
 use Rattle.tk_member.specs.Acting.{packets_from, epoch_due, write_packets, after_turn, wrote}
 use Rattle.tk_member.specs.Acting.{ahead_due, goes_ahead, ticks_due, goes_by_ticks, may_ask, asks, asks_if_due, acts}
+use Rattle.tk_report.proofs.Offers.{each-weaker}
 use Rattle.tk_meeting.specs.OwnBooks.{HasKeys}
 use Rattle.tk_meeting.proofs.own.Words.{IsUsed, IsOwnTextOrNone, write-same, pair-same, hits-same}
 use Rattle.tk_meeting.proofs.own.Reading.{Follows, IsFoundOrNone, target-same, target-found, epoch-follows}
 use Rattle.tk_meeting.proofs.own.Clients.{first-own, write-own, IsOwn}
 
--- a property that follows from another
-each-by : {X : Type 0} (P Q : X → Type 0) (xs : List X) → ((x : X) → P x → Q x) →
-    AllByRecursion P xs → AllByRecursion Q xs
-each-by P Q [] by all = tt
-each-by P Q (x ∷ xs) by all = (by x all.0, each-by P Q xs by all.1)
-
 follows-by : (P Q : ℕ → Type 0) (r : Reader) → ((log : ℕ) → P log → Q log) → Follows P r → Follows Q r
 follows-by P Q r by all =
     record {
-      each = each-by (λ (f : Follow). P f.log)
+      each = each-weaker (λ (f : Follow). P f.log)
           (λ (f : Follow). Q f.log) r.follows (λ f is. by f.log is) all.each;
       cursor_in = all.cursor_in;
     }

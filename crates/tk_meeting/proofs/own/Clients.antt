@@ -12,6 +12,7 @@ use Rattle.tk_client.specs.Writing.{Writing, with_text, one_more_of, count_of, a
 use Rattle.tk_client.specs.Saying.{is_written}
 use Rattle.tk_client.specs.Reader.{Reader, at_epoch}
 use Rattle.tk_client.specs.Client.{ClientState}
+use Rattle.tk_report.proofs.Offers.{one_more-log, each-append}
 use Rattle.tk_meeting.proofs.own.Words.{IsUsed, IsOwnTextOrNone}
 use Rattle.tk_meeting.proofs.own.Reading.{Follows, IsFoundOrNone}
 
@@ -38,32 +39,21 @@ write-own S c k own = record { logs = own.logs; waits = by k.waiting own.waits }
     by [] all = tt
     by (y ∷ ys) all = all.1
 
-more-log : (log : ℕ) (f : Written) → (one_more_of log f).log ≡ f.log
-more-log log f =
-    elim (f.log == log) as (λ b. (cond b (record f { count = f.count + 1 }) f).log ≡ f.log)
-    [ true ↦ refl | false ↦ refl ]
-
 more-logs : (S : Script) (c log : ℕ) (fs : List Written) →
     AllByRecursion (λ (f : Written). IsUsed S c f.log) fs →
     AllByRecursion (λ (f : Written). IsUsed S c f.log) (map (one_more_of log) fs)
 more-logs S c log [] all = tt
 more-logs S c log (f ∷ fs) all =
-    (subst (IsUsed S c) (sym (more-log log f)) all.0, more-logs S c log fs all.1)
-
-one-more : (S : Script) (c : ℕ) (ys : List Waiting) (y : Waiting) →
-    AllByRecursion (λ (y : Waiting). IsUsed S c y.log) ys → IsUsed S c y.log →
-    AllByRecursion (λ (y : Waiting). IsUsed S c y.log) (ys ++ y ∷ [])
-one-more S c [] y all own = (own, tt)
-one-more S c (x ∷ xs) y all own = (all.0, one-more S c xs y all.1 own)
+    (subst (IsUsed S c) (sym (one_more-log log f)) all.0, more-logs S c log fs all.1)
 
 pub text-own : (S : Script) (c log : ℕ) (text : List ℕ) (k : Writing) → WritesOwn S c k →
     IsUsed S c log → WritesOwn S c (with_text log text k)
 text-own S c log text k own used =
     record {
       logs = more-logs S c log k.logs own.logs;
-      waits = one-more S c k.waiting
-          (record { log = log; number = count_of log k.logs; text = text })
-          own.waits used;
+      waits = each-append (λ (y : Waiting). IsUsed S c y.log) k.waiting
+          (record { log = log; number = count_of log k.logs; text = text } ∷ [])
+          own.waits (used, tt);
     }
 
 -- a log that is among those that it writes is one that it uses

@@ -12,6 +12,7 @@ use Rattle.tk_frames.specs.Lists.{first_some}
 use Rattle.tk_client.specs.Reader.{Follow, Reader, next_of, wanted, follow_in, number_ahead}
 use Rattle.tk_client.specs.declared.target.Target.{Target}
 use Rattle.tk_client.specs.Reader.{target_in, places_from_cursor, target, untried, at_epoch, follow_after, after_read}
+use Rattle.tk_report.proofs.Offers.{after-log, each-append}
 
 -- the logs of a reader are of a kind, and its search begins among them
 pub record Follows (P : ℕ → Type 0) (r : Reader) : Type 0 where
@@ -56,11 +57,6 @@ first-same f g [] same = refl
 first-same {Y} f g (x ∷ xs) same =
     ap₂ (λ (here later : Option Y). option_or here later) same.0 (first-same f g xs same.1)
 
-all-append : {X : Type 0} (P : X → Type 0) (xs ys : List X) → AllByRecursion P xs →
-    AllByRecursion P ys → AllByRecursion P (xs ++ ys)
-all-append P [] ys one other = other
-all-append P (x ∷ xs) ys one other = (one.0, all-append P xs ys one.1 other)
-
 all-range : (P : ℕ → Type 0) (a n : ℕ) → ((i : ℕ) → i < a + n → P i) →
     AllByRecursion P (range_with_len a n)
 all-range P a zero each = tt
@@ -70,7 +66,7 @@ all-range P a (suc n) each =
 all-places : (P : ℕ → Type 0) (r : Reader) → r.cursor ≤ length r.follows →
     ((i : ℕ) → i < length r.follows → P i) → AllByRecursion P (places_from_cursor r)
 all-places P r within each =
-    all-append P (range_with_len r.cursor (length r.follows - r.cursor)) (range_with_len 0 r.cursor)
+    each-append P (range_with_len r.cursor (length r.follows - r.cursor)) (range_with_len 0 r.cursor)
     (all-range P r.cursor (length r.follows - r.cursor) (λ i low. each i (omega (arith, low, within))))
     (all-range P 0 r.cursor (λ i low. each i (omega (arith, low, within))))
 
@@ -146,13 +142,6 @@ epoch-follows P e r all = by (e == r.last)
           each = untried-each P r.follows all.each;
           cursor_in = subst (λ n. r.cursor ≤ n) (sym (untried-length r.follows)) all.cursor_in;
         }
-
-after-log : (shape : Shape) (j : ℕ) (answer : Option (List ℕ)) (f : Follow) →
-    (follow_after shape j answer f).log ≡ f.log
-after-log shape j (Some text) f = refl
-after-log shape j None f =
-    elim (shape.ahead == 0) as (λ b. (cond b f (record f { tried = j + 1 })).log ≡ f.log)
-    [ true ↦ refl | false ↦ refl ]
 
 set-each : (P : ℕ → Type 0) (follows : List Follow) (place : ℕ) (f : Follow) →
     AllByRecursion (λ (g : Follow). P g.log) follows → P f.log →

@@ -55,54 +55,40 @@ still k c p xs =
 
 -- ---- a client does something
 
+client-took : (ds : List Doing) (c k : ℕ) (x : Passing) →
+    client_took (ds ++ OfClient c x ∷ []) k ≡ client_took ds k ++ taken_in (cond (k == c) (x ∷ []) [])
+client-took ds c k x =
+    ap taken_in (client-append k ds (OfClient c x ∷ []))
+    ∙ taken-append (of_client k ds) (of_client k (OfClient c x ∷ []))
+
 pub took-own : (ds : List Doing) (c : ℕ) (p : PacketView) →
     client_took (ds ++ OfClient c (Took p) ∷ []) ≡ one_more c p (client_took ds)
-took-own ds c p = λ i k. at k i
-  where
-    at : (k : ℕ) → client_took (ds ++ OfClient c (Took p) ∷ []) k ≡ one_more c p (client_took ds) k
-    at k =
-        ap taken_in (client-append k ds (OfClient c (Took p) ∷ []))
-        ∙ taken-append (of_client k ds) (of_client k (OfClient c (Took p) ∷ [])) ∙ grown k c p (client_took ds)
+took-own ds c p = λ i k. (client-took ds c k (Took p) ∙ grown k c p (client_took ds)) i
 
 pub put-own : (ds : List Doing) (c : ℕ) (p : PacketView) →
     client_took (ds ++ OfClient c (Put p) ∷ []) ≡ client_took ds
-put-own ds c p = λ i k. at k i
-  where
-    at : (k : ℕ) → client_took (ds ++ OfClient c (Put p) ∷ []) k ≡ client_took ds k
-    at k =
-        ap taken_in (client-append k ds (OfClient c (Put p) ∷ []))
-        ∙ taken-append (of_client k ds) (of_client k (OfClient c (Put p) ∷ [])) ∙ still k c p (client_took ds k)
+put-own ds c p = λ i k. (client-took ds c k (Put p) ∙ still k c p (client_took ds k)) i
 
 pub client-apart : (ds : List Doing) (c : ℕ) (x : Passing) →
     server_took (ds ++ OfClient c x ∷ []) ≡ server_took ds
-client-apart ds c x = λ i k. at k i
-  where
-    at : (k : ℕ) → server_took (ds ++ OfClient c x ∷ []) k ≡ server_took ds k
-    at k = ap taken_in (server-append k ds (OfClient c x ∷ []) ∙ append-nil (of_server k ds))
+client-apart ds c x = λ i k. ap taken_in (server-append k ds (OfClient c x ∷ []) ∙ append-nil (of_server k ds)) i
 
 -- ---- a server does
 
+server-took : (ds : List Doing) (j k : ℕ) (x : Passing) →
+    server_took (ds ++ OfServer j x ∷ []) k ≡ server_took ds k ++ taken_in (cond (k == j) (x ∷ []) [])
+server-took ds j k x =
+    ap taken_in (server-append k ds (OfServer j x ∷ []))
+    ∙ taken-append (of_server k ds) (of_server k (OfServer j x ∷ []))
+
 pub took-served : (ds : List Doing) (j : ℕ) (p : PacketView) →
     server_took (ds ++ OfServer j (Took p) ∷ []) ≡ one_more j p (server_took ds)
-took-served ds j p = λ i k. at k i
-  where
-    at : (k : ℕ) → server_took (ds ++ OfServer j (Took p) ∷ []) k ≡ one_more j p (server_took ds) k
-    at k =
-        ap taken_in (server-append k ds (OfServer j (Took p) ∷ []))
-        ∙ taken-append (of_server k ds) (of_server k (OfServer j (Took p) ∷ [])) ∙ grown k j p (server_took ds)
+took-served ds j p = λ i k. (server-took ds j k (Took p) ∙ grown k j p (server_took ds)) i
 
 pub put-served : (ds : List Doing) (j : ℕ) (p : PacketView) →
     server_took (ds ++ OfServer j (Put p) ∷ []) ≡ server_took ds
-put-served ds j p = λ i k. at k i
-  where
-    at : (k : ℕ) → server_took (ds ++ OfServer j (Put p) ∷ []) k ≡ server_took ds k
-    at k =
-        ap taken_in (server-append k ds (OfServer j (Put p) ∷ []))
-        ∙ taken-append (of_server k ds) (of_server k (OfServer j (Put p) ∷ [])) ∙ still k j p (server_took ds k)
+put-served ds j p = λ i k. (server-took ds j k (Put p) ∙ still k j p (server_took ds k)) i
 
 pub server-apart : (ds : List Doing) (j : ℕ) (x : Passing) →
     client_took (ds ++ OfServer j x ∷ []) ≡ client_took ds
-server-apart ds j x = λ i k. at k i
-  where
-    at : (k : ℕ) → client_took (ds ++ OfServer j x ∷ []) k ≡ client_took ds k
-    at k = ap taken_in (client-append k ds (OfServer j x ∷ []) ∙ append-nil (of_client k ds))
+server-apart ds j x = λ i k. ap taken_in (client-append k ds (OfServer j x ∷ []) ∙ append-nil (of_client k ds)) i

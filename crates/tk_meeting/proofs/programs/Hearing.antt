@@ -19,11 +19,11 @@ use Rattle.tk_meeting.specs.Meeting.{Meeting, Saying, changed, member_went, fram
 use Rattle.tk_meeting.specs.Events.{Said, Ticked, WentAhead, Greeted, Down, noted, say_fault, hears, taken_of}
 use Rattle.tk_meeting.specs.Events.{greeting_of, comes_down, unless_ended, client_does, happens}
 use Rattle.tk_meeting.specs.Programs.{first_member}
-use Rattle.tk_meeting.proofs.courses.Picks.{pick}
+use Rattle.tk_meeting.proofs.courses.Picks.{at-place}
 use Rattle.tk_meeting.proofs.programs.Shapes.{shape-after}
 use Rattle.tk_meeting.proofs.programs.Doings.{one_more}
 use Rattle.tk_meeting.proofs.programs.Standing.{IsAt, served_of}
-use Rattle.tk_meeting.proofs.programs.Serving.{there-own, there-other, is-client, is-server}
+use Rattle.tk_meeting.proofs.programs.Serving.{link-same, there-own, there-other, is-client, is-server}
 use Rattle.tk_meeting.proofs.programs.Taking.{IsLike, member-steps}
 
 step-hears : (b : WordBook) (m : MemberState) (p : PacketView) (word : HostWord) → p.peer ≡ 0 →
@@ -63,14 +63,10 @@ module _ (S : Script) (books : ℕ → WordBook) (clients servers : ℕ → List
         frames_for j (now d) ++ m.down j d ≡ frames_for (d + 1) (served_of S (servers j))
     down-same j d one most within =
         let other : p.peer ≡ j → ⊥ = λ is. absurd (omega (arith, host, is, one)) in
-        pick (λ b.
-        frames_for j (cond b (clients c ++ p ∷ []) (clients d)) ++ m.down j d
-        ≡ frames_for (d + 1) (served_of S (servers j))) (d == c)
-        (λ same.
-        ap (λ fs. fs ++ m.down j d) (there-other j (clients c) p other)
-        ∙ ap (λ n. frames_for j (clients n) ++ m.down j d) (sym (eqb-true d c same))
-        ∙ at.down j d one most within)
-        (λ _. at.down j d one most within)
+        at-place (λ k b.
+        frames_for j (cond b (clients c ++ p ∷ []) (clients k)) ++ m.down j k ≡ frames_for j (clients k) ++ m.down j k)
+        c d (ap (λ fs. fs ++ m.down j c) (there-other j (clients c) p other)) (λ _. refl)
+        ∙ at.down j d one most within
 
     like-noted : (y : Saying) (o : Option SayError) →
         IsLike S books clients servers m at c low p going (noted c y o m)
@@ -137,48 +133,8 @@ module _ (S : Script) (books : ℕ → WordBook) (clients servers : ℕ → List
     down-left : (j d : ℕ) → 1 ≤ j → j ≤ S.shape.servers → d < S.shape.clients →
         frames_for j (now d) ++ left.down j d ≡ frames_for (d + 1) (served_of S (servers j))
     down-left j d first last within =
-        pick (λ b.
-        frames_for j (now d) ++ (cond b (changed c rest (m.down p.peer)) (m.down j)) d
-        ≡ frames_for (d + 1) (served_of S (servers j))) (j == p.peer)
-        (λ same.
-        subst (λ k.
-        frames_for k (now d) ++ changed c rest (m.down p.peer) d ≡ frames_for (d + 1) (served_of S (servers k)))
-        (sym (eqb-true j p.peer same)) mine)
-        (λ apart. others apart)
-      where
-        own : frames_for p.peer (clients c ++ p ∷ []) ++ rest ≡ frames_for (c + 1) (served_of S (servers p.peer))
-        own =
-            there-own p.peer (clients c) p rest refl
-            ∙ ap (λ fs. frames_for p.peer (clients c) ++ fs) (sym comes) ∙ at.down p.peer c one most low
-
-        mine : frames_for p.peer (now d) ++ changed c rest (m.down p.peer) d
-            ≡ frames_for (d + 1) (served_of S (servers p.peer))
-        mine =
-            pick (λ b.
-            frames_for p.peer (cond b (clients c ++ p ∷ []) (clients d)) ++ cond b rest (m.down p.peer d)
-            ≡ frames_for (d + 1) (served_of S (servers p.peer))) (d == c)
-            (λ same.
-            subst (λ k.
-            frames_for p.peer (clients c ++ p ∷ []) ++ rest ≡ frames_for (k + 1) (served_of S (servers p.peer)))
-            (sym (eqb-true d c same)) own)
-            (λ _. at.down p.peer d one most within)
-
-        others : (j == p.peer) ≡ false →
-            frames_for j (now d) ++ m.down j d ≡ frames_for (d + 1) (served_of S (servers j))
-        others apart =
-            let other : p.peer ≡ j → ⊥ =
-            λ is.
-            let clash : true ≡ false = sym (eq-eqb j p.peer (sym is)) ∙ apart in
-            absurd (cc (clash))
-            in
-            pick (λ b.
-            frames_for j (cond b (clients c ++ p ∷ []) (clients d)) ++ m.down j d
-            ≡ frames_for (d + 1) (served_of S (servers j))) (d == c)
-            (λ same.
-            ap (λ fs. fs ++ m.down j d) (there-other j (clients c) p other)
-            ∙ ap (λ n. frames_for j (clients n) ++ m.down j d) (sym (eqb-true d c same))
-            ∙ at.down j d first last within)
-            (λ _. at.down j d first last within)
+        link-same (λ k. k) p.peer c p rest clients m.down (λ k is. sym is) refl comes j d
+        ∙ at.down j d first last within
 
     like-left : IsLike S books clients servers m at c low p going left
     like-left = record { members = refl; told = refl; ended = refl; seats = refl; up = refl; down = down-left }

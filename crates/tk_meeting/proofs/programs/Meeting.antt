@@ -13,6 +13,7 @@ use Rattle.tk_serve.specs.Courses.{seats_next}
 use Rattle.tk_member.specs.declared.word.HostWord.{HostWord}
 use Rattle.tk_member.specs.declared.word.HostWord.TheVariants.{Say, Tick, Ahead, Has}
 use Rattle.tk_member.specs.Words.{word_in}
+use Rattle.tk_serve.proofs.Offers.{after-is}
 use Rattle.tk_meeting.specs.Meeting.{Meeting, opening, for_peer, frames_for}
 use Rattle.tk_meeting.specs.Events.{Event, Said, Ticked, WentAhead, Greeted, Up, Down, happens, after_events, met, taken_of}
 use Rattle.tk_meeting.specs.Programs.{Doing, OfClient, OfServer, of_client, of_server, put_in, first_member}
@@ -61,11 +62,6 @@ next-comes frame took put all way next front whole =
     ∙ append_assoc (took ++ frame ∷ []) next.rest front.rest ∙ append_assoc took (frame ∷ []) rest
     in
     (rest, same-behind took way (frame ∷ rest) is)
-
-pub after-is : (shape : Shape) (seats : List Seat) (ps : List PacketView) →
-    state_after (seats_next shape) seats ps ≡ seats_after shape seats ps
-after-is shape seats [] = refl
-after-is shape seats (p ∷ ps) = after-is shape (step_on shape seats p).seats ps
 
 -- ---- one thing after the other
 

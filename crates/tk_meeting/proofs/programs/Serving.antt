@@ -1,8 +1,8 @@
 -- A server takes a client's next frame.
-use Rattle.std.proofs.Common.{◌≡◌, ◌∙◌, ap, ap₂, sym, subst, arith, ℕ, ◌+◌, ◌-◌, ◌≤◌, ◌<◌, Bool, true, false, cond}
+use Rattle.std.proofs.Common.{◌≡◌, ◌∙◌, refl, ap, ap₂, sym, subst, arith, ℕ, ◌+◌, ◌-◌, ◌≤◌, ◌<◌, Bool, true, false, cond}
 use Rattle.std.proofs.Common.{List, [], ◌∷◌, ◌++◌, map, append_assoc, append-nil}
 use Rattle.std.specs.Prelude.{◌==◌, ◌&&◌}
-use Rattle.std.proofs.lemmas.Bool.{eqb-true, eq-eqb, ne_eqb, lt-ltb, le-leb}
+use Rattle.std.proofs.lemmas.Bool.{eqb-true, eqb-false, eq-eqb, ne_eqb, lt-ltb, le-leb}
 use Rattle.tk_script.specs.declared.script.Script.{Script}
 use Rattle.tk_words.specs.Words.{WordBook}
 use Rattle.tk_packets.specs.Packets.{PacketView}
@@ -12,7 +12,7 @@ use Rattle.tk_serve.specs.Courses.{seats_next, answers_next}
 use Rattle.tk_meeting.specs.Meeting.{Meeting, changed, server_went, frames_for}
 use Rattle.tk_meeting.specs.Events.{Up, is_client, is_server, happens, comes_up}
 use Rattle.tk_meeting.specs.Programs.{seats_from}
-use Rattle.tk_meeting.proofs.courses.Picks.{pick}
+use Rattle.tk_meeting.proofs.courses.Picks.{at-place, pick}
 use Rattle.tk_meeting.proofs.members.Packets.{frames-append}
 use Rattle.tk_meeting.proofs.programs.Moments.{state-one, sent-one}
 use Rattle.tk_meeting.proofs.programs.Doings.{one_more}
@@ -40,6 +40,33 @@ pub there-other : (j : ℕ) (ps : List PacketView) (p : PacketView) → (p.peer 
 there-other j ps p other =
     frames-append j ps (p ∷ []) ∙ ap (λ fs. frames_for j ps ++ fs) (frame-other j p other)
     ∙ append-nil (frames_for j ps)
+
+-- When the next frame on a link comes, what came over each link and what is on its way stay the same together. Links go
+-- from senders, each with its peer number, to takers.
+pub link-same : (key : ℕ → ℕ) (sender taker : ℕ) (p : PacketView) (rest : List (List ℕ)) (took : ℕ → List PacketView)
+    (way : ℕ → ℕ → List (List ℕ)) → ((s : ℕ) → p.peer ≡ key s → s ≡ sender) → p.peer ≡ key sender →
+    way sender taker ≡ p.bytes ∷ rest → (s t : ℕ) →
+    frames_for (key s) (one_more taker p took t) ++ changed sender (changed taker rest (way sender)) way s t
+    ≡ frames_for (key s) (took t) ++ way s t
+link-same key sender taker p rest took way alone peer comes s t =
+    at-place (λ k a.
+    frames_for (key k) (one_more taker p took t) ++ cond a (changed taker rest (way sender)) (way k) t
+    ≡ frames_for (key k) (took t) ++ way k t) sender s mine
+    (λ apart.
+    at-place (λ k b.
+    frames_for (key s) (cond b (took taker ++ p ∷ []) (took k)) ++ way s k ≡ frames_for (key s) (took k) ++ way s k)
+    taker t
+    (ap (λ fs. fs ++ way s taker)
+    (there-other (key s) (took taker) p (λ is. eqb-false s sender apart (alone s is)))) (λ _. refl))
+  where
+    mine : frames_for (key sender) (one_more taker p took t) ++ changed taker rest (way sender) t
+        ≡ frames_for (key sender) (took t) ++ way sender t
+    mine =
+        at-place (λ k b.
+        frames_for (key sender) (cond b (took taker ++ p ∷ []) (took k)) ++ cond b rest (way sender k)
+        ≡ frames_for (key sender) (took k) ++ way sender k) taker t
+        (there-own (key sender) (took taker) p rest peer
+        ∙ ap (λ fs. frames_for (key sender) (took taker) ++ fs) (sym comes)) (λ _. refl)
 
 pub is-client : (S : Script) (c : ℕ) → c < S.shape.clients → is_client S.shape c ≡ true
 is-client S c low = lt-ltb c S.shape.clients low
@@ -77,14 +104,10 @@ module _ (S : Script) (books : ℕ → WordBook) (clients servers : ℕ → List
   down-is : (i d : ℕ) → 1 ≤ i → i ≤ S.shape.servers → d < S.shape.clients →
       frames_for i (clients d) ++ then.down i d ≡ frames_for (d + 1) (served_of S (now i))
   down-is i d first last within =
-      pick (λ b.
-      frames_for i (clients d)
-      ++ (cond b (λ k. m.down j k ++ frames_for (k + 1) seats_then.packets) (m.down i)) d
-      ≡ frames_for (d + 1) (served_of S (cond b (servers j ++ p ∷ []) (servers i)))) (i == j)
-      (λ same.
-      subst (λ k.
-      frames_for k (clients d) ++ (m.down j d ++ frames_for (d + 1) seats_then.packets)
-      ≡ frames_for (d + 1) (served_of S (servers j ++ p ∷ []))) (sym (eqb-true i j same)) here)
+      at-place (λ k b.
+      frames_for k (clients d)
+      ++ (cond b (λ k. m.down j k ++ frames_for (k + 1) seats_then.packets) (m.down k)) d
+      ≡ frames_for (d + 1) (served_of S (cond b (servers j ++ p ∷ []) (servers k)))) j i here
       (λ _. at.down i d first last within)
     where
       here : frames_for j (clients d) ++ (m.down j d ++ frames_for (d + 1) seats_then.packets)
@@ -101,48 +124,9 @@ module _ (S : Script) (books : ℕ → WordBook) (clients servers : ℕ → List
   up-is : m.up c j ≡ p.bytes ∷ rest → (d i : ℕ) → d < S.shape.clients → 1 ≤ i → i ≤ S.shape.servers →
       frames_for (d + 1) (now i) ++ then.up d i ≡ frames_for i (sent_of S books d (clients d))
   up-is comes d i within first last =
-      pick (λ b.
-      frames_for (d + 1) (now i) ++ (cond b (changed j rest (m.up c)) (m.up d)) i
-      ≡ frames_for i (sent_of S books d (clients d))) (d == c)
-      (λ same.
-      subst (λ k.
-      frames_for (k + 1) (now i) ++ changed j rest (m.up c) i ≡ frames_for i (sent_of S books k (clients k)))
-      (sym (eqb-true d c same)) mine)
-      (λ apart. others apart)
-    where
-      own : frames_for (c + 1) (servers j ++ p ∷ []) ++ rest ≡ frames_for j (sent_of S books c (clients c))
-      own =
-          there-own (c + 1) (servers j) p rest peer
-          ∙ ap (λ fs. frames_for (c + 1) (servers j) ++ fs) (sym comes) ∙ at.up c j low one most
-
-      mine : frames_for (c + 1) (now i) ++ changed j rest (m.up c) i ≡ frames_for i (sent_of S books c (clients c))
-      mine =
-          pick (λ b.
-          frames_for (c + 1) (cond b (servers j ++ p ∷ []) (servers i)) ++ cond b rest (m.up c i)
-          ≡ frames_for i (sent_of S books c (clients c))) (i == j)
-          (λ same.
-          subst (λ k.
-          frames_for (c + 1) (servers j ++ p ∷ []) ++ rest ≡ frames_for k (sent_of S books c (clients c)))
-          (sym (eqb-true i j same)) own)
-          (λ _. at.up c i low first last)
-
-      others : (d == c) ≡ false →
-          frames_for (d + 1) (now i) ++ m.up d i ≡ frames_for i (sent_of S books d (clients d))
-      others apart =
-          let other : p.peer ≡ d + 1 → ⊥ =
-          λ is.
-          let same : d ≡ c = omega (arith, peer, is) in
-          let clash : true ≡ false = sym (eq-eqb d c same) ∙ apart in
-          absurd (cc (clash))
-          in
-          pick (λ b.
-          frames_for (d + 1) (cond b (servers j ++ p ∷ []) (servers i)) ++ m.up d i
-          ≡ frames_for i (sent_of S books d (clients d))) (i == j)
-          (λ same.
-          ap (λ fs. fs ++ m.up d i) (there-other (d + 1) (servers j) p other)
-          ∙ subst (λ k. frames_for (d + 1) (servers j) ++ m.up d k ≡ frames_for k (sent_of S books d (clients d)))
-          (sym (eqb-true i j same)) (at.up d j within one most))
-          (λ _. at.up d i within first last)
+      link-same (λ k. k + 1) c j p rest servers m.up
+      (λ k is. let named : p.peer ≡ k + 1 = is in omega (arith, peer, named)) peer comes d i
+      ∙ at.up d i within first last
 
   pub server-steps : m.up c j ≡ p.bytes ∷ rest →
       IsAt S books clients now (happens S.shape books m (Up c j))

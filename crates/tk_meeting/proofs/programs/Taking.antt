@@ -14,7 +14,7 @@ use Rattle.tk_member.specs.Steps.{step}
 use Rattle.tk_member.specs.Courses.{stood_by, sent_by, member_next, sends_next}
 use Rattle.tk_meeting.specs.Meeting.{Meeting, changed, member_went, for_peer, frames_for}
 use Rattle.tk_meeting.specs.Programs.{first_member, member_after}
-use Rattle.tk_meeting.proofs.courses.Picks.{pick, unchanged}
+use Rattle.tk_meeting.proofs.courses.Picks.{at-place, pick, unchanged}
 use Rattle.tk_meeting.proofs.members.Packets.{peer-append, frames-append}
 use Rattle.tk_meeting.proofs.programs.Moments.{state-one, sent-one}
 use Rattle.tk_meeting.proofs.programs.Doings.{one_more}
@@ -111,23 +111,16 @@ module _ (S : Script) (books : ℕ → WordBook) (clients servers : ℕ → List
     members-are : (k : ℕ) → k < S.shape.clients → then.members k ≡ member_after S books k (now k)
     members-are k within =
         w.members k
-        ∙ pick (λ b.
-        cond b (stood_by (left.members c) r) (left.members k)
-        ≡ member_after S books k (cond b (clients c ++ p ∷ []) (clients k))) (k == c)
-        (λ same.
-        subst (λ n. stood_by (left.members c) r ≡ member_after S books n (clients c ++ p ∷ []))
-        (sym (eqb-true k c same)) stood-more)
+        ∙ at-place (λ n b.
+        cond b (stood_by (left.members c) r) (left.members n)
+        ≡ member_after S books n (cond b (clients c ++ p ∷ []) (clients n))) c k stood-more
         (λ _. ap (λ (f : ℕ → MemberState). f k) like.members ∙ at.members k within)
 
     going-on : (k : ℕ) → k < S.shape.clients → AllTaken (books k) (first_member S k) (now k) →
         then.ended k ≡ None
     going-on k within =
-        pick (λ b.
-        AllTaken (books k) (first_member S k) (cond b (clients c ++ p ∷ []) (clients k)) → then.ended k ≡ None)
-        (k == c)
-        (λ same.
-        subst (λ n. AllTaken (books n) (first_member S n) (clients c ++ p ∷ []) → then.ended n ≡ None)
-        (sym (eqb-true k c same)) own)
+        at-place (λ n b.
+        AllTaken (books n) (first_member S n) (cond b (clients c ++ p ∷ []) (clients n)) → then.ended n ≡ None) c k own
         (λ other all.
         w.apart k other ∙ ap (λ (f : ℕ → Option Fault). f k) like.ended ∙ at.going k within all)
       where
@@ -141,13 +134,9 @@ module _ (S : Script) (books : ℕ → WordBook) (clients servers : ℕ → List
     told-are : (k : ℕ) → k < S.shape.clients → then.told k ≡ for_peer 0 (sent_of S books k (now k))
     told-are k within =
         w.told k
-        ∙ pick (λ b.
-        cond b (left.told c ++ for_peer 0 (sent_by r)) (left.told k)
-        ≡ for_peer 0 (sent_of S books k (cond b (clients c ++ p ∷ []) (clients k)))) (k == c)
-        (λ same.
-        subst (λ n.
-        left.told c ++ for_peer 0 (sent_by r) ≡ for_peer 0 (sent_of S books n (clients c ++ p ∷ [])))
-        (sym (eqb-true k c same)) own)
+        ∙ at-place (λ n b.
+        cond b (left.told c ++ for_peer 0 (sent_by r)) (left.told n)
+        ≡ for_peer 0 (sent_of S books n (cond b (clients c ++ p ∷ []) (clients n)))) c k own
         (λ _. ap (λ (f : ℕ → List PacketView). f k) like.told ∙ at.told k within)
       where
         own : left.told c ++ for_peer 0 (sent_by r) ≡ for_peer 0 (sent_of S books c (clients c ++ p ∷ []))
@@ -160,13 +149,9 @@ module _ (S : Script) (books : ℕ → WordBook) (clients servers : ℕ → List
         frames_for (k + 1) (servers j) ++ then.up k j ≡ frames_for j (sent_of S books k (now k))
     up-are k j within one most =
         ap (λ fs. frames_for (k + 1) (servers j) ++ fs) (w.up k j)
-        ∙ pick (λ b.
-        frames_for (k + 1) (servers j) ++ cond b (left.up c j ++ frames_for j (sent_by r)) (left.up k j)
-        ≡ frames_for j (sent_of S books k (cond b (clients c ++ p ∷ []) (clients k)))) (k == c)
-        (λ same.
-        subst (λ n.
-        frames_for (n + 1) (servers j) ++ (left.up c j ++ frames_for j (sent_by r))
-        ≡ frames_for j (sent_of S books n (clients c ++ p ∷ []))) (sym (eqb-true k c same)) own)
+        ∙ at-place (λ n b.
+        frames_for (n + 1) (servers j) ++ cond b (left.up c j ++ frames_for j (sent_by r)) (left.up n j)
+        ≡ frames_for j (sent_of S books n (cond b (clients c ++ p ∷ []) (clients n)))) c k own
         (λ _.
         ap (λ (f : ℕ → ℕ → List (List ℕ)). frames_for (k + 1) (servers j) ++ f k j) like.up
         ∙ at.up k j within one most)

@@ -13,7 +13,7 @@ use Rattle.tk_words.specs.Words.{WordBook, BookWords, words_of}
 use Rattle.tk_client.specs.declared.say_error.SayError.{SayError}
 use Rattle.tk_client.specs.declared.take_error.TakeError.{TakeError}
 use Rattle.tk_client.specs.Asked.{asked}
-use Rattle.tk_client.specs.Saying.{fault_of}
+use Rattle.tk_client.specs.Writing.{Writing}
 use Rattle.tk_client.specs.Client.{after_replies, refusal_in, target_over}
 use Rattle.tk_client.proofs.Offers.{length-asked}
 use Rattle.tk_packets.specs.Packets.{PacketView, packet}
@@ -30,8 +30,10 @@ use Rattle.tk_member.specs.Acting.{turns_known, ahead_due, goes_ahead, ticks_due
 use Rattle.tk_member.specs.Steps.{tells_and_acts, said, heard, all_of, settled, settled_by, with_reply, replied}
 use Rattle.tk_member.specs.Steps.{told_after, after_settling, told_epoch, served, step}
 use Rattle.tk_meeting.specs.Meeting.{for_peer, frames_for}
-use Rattle.tk_meeting.proofs.members.Packets.{frames-append, none-below, AreToHost, host-alone}
-use Rattle.tk_meeting.proofs.members.Told.{news-tell, tell-to_host}
+use Rattle.tk_meeting.specs.Shown.{Stand}
+use Rattle.tk_meeting.proofs.members.Packets.{frames-append, own-at, AreToHost, host-alone}
+use Rattle.tk_meeting.proofs.members.Wrote.{wrote-so}
+use Rattle.tk_meeting.proofs.shown.Steps.{EndsOrReadies, heard_writing, heard-readies, served-readies}
 
 -- nothing is due
 pub record IsResting (m : MemberState) : Type 0 where
@@ -67,33 +69,6 @@ module _ (b : WordBook) (m : MemberState) (rests : IsResting m) where
 
 -- ---- writing
 
--- a member that wrote in so many turns more, but for what it has to write
-record Wrote (m : MemberState) (n : ℕ) (l : MemberState) : Type 0 where
-  pub shape : l.client.shape ≡ m.client.shape
-  pub read : l.client.read ≡ m.client.read
-  pub written : l.written ≡ m.written + n
-  pub asked : l.asked ≡ m.asked
-  pub ticks : l.ticks ≡ m.ticks
-  pub ahead : l.ahead ≡ m.ahead
-  pub told : l.told ≡ m.told
-
-wrote-so : (w : BookWords) (n : ℕ) (m : MemberState) → Wrote m n (wrote w n m).member
-unfolding wrote
-wrote-so w zero m =
-    record { shape = refl; read = refl; written = omega arith; asked = refl; ticks = refl; ahead = refl; told = refl }
-wrote-so w (suc n) m =
-    let rest = wrote-so w n (after_turn m) in
-    let more = rest.written in
-    record {
-      shape = rest.shape;
-      read = rest.read;
-      written = omega (arith, more);
-      asked = rest.asked;
-      ticks = rest.ticks;
-      ahead = rest.ahead;
-      told = rest.told;
-    }
-
 -- where as many are taken of what is left as may be, no more may be
 none-left : (some left done now rest left_then done_then : ℕ) → now ≡ min some (left - done) → rest ≡ some - now →
     left_then ≡ left → done + now ≤ done_then → min rest (left_then - done_then) ≡ 0
@@ -107,20 +82,7 @@ known-same m l shape told =
 
 pub one-each : (j a : ℕ) (frames : List (List ℕ)) → a ≤ j → j < a + length frames →
     length (frames_for j (packets_from a frames)) ≡ 1
-one-each j a [] low high = absurd (omega (arith, low, high))
-one-each j a (x ∷ xs) low high =
-    let rest = for_peer j (packets_from (a + 1) xs) in
-    let bytes = λ (ps : List PacketView). map (λ (p : PacketView). p.bytes) ps in
-    elim (cases_lt a j) [
-      | inl above ↦
-          let other : (a == j) ≡ false = ne_eqb a j (λ e. omega (arith, above, e)) in
-          ap (λ k. length (bytes (cond k (packet a x ∷ rest) rest))) other
-          ∙ one-each j (a + 1) xs (omega (arith, above)) (omega (arith, high))
-      | inr at ↦
-          let same : a ≡ j = omega (arith, low, at) in
-          ap (λ k. length (bytes (cond k (packet a x ∷ rest) rest))) (eq-eqb a j same)
-          ∙ ap (λ ps. length (bytes (packet a x ∷ ps))) (none-below j (a + 1) xs (omega (arith, same)))
-    ]
+one-each j a frames low high = ap length (own-at a frames j low high)
 
 frames-both : (j : ℕ) (xs ys : List PacketView) →
     length (frames_for j (xs ++ ys)) ≡ length (frames_for j xs) + length (frames_for j ys)
@@ -278,54 +240,13 @@ module _ (j : ℕ) (low : 1 ≤ j) where
           counted = omega (arith, counted, none, both, written, asked);
         }
 
-    same : Alike m
-    same = record { shape = refl; written = refl; asked = refl }
-
-    said-puts : (log : ℕ) (text : List ℕ) (o : Option SayError) → PutsIf (said b m log text o)
-    said-puts log text None = told-puts [] _ tt (record { shape = refl; written = refl; asked = refl })
-    said-puts log text (Some error) = told-puts (refused_packet log error ∷ []) m (refl, tt) same
-
-    heard-puts : (word : Option HostWord) → PutsIf (heard b m word)
-    heard-puts None = tt
-    heard-puts (Some (Say log text)) = said-puts log text (fault_of m.client.shape m.client.writing.logs log text)
-    heard-puts (Some Tick) = told-puts [] _ tt (record { shape = refl; written = refl; asked = refl })
-    heard-puts (Some (Ahead turns)) = told-puts [] _ tt (record { shape = refl; written = refl; asked = refl })
-    heard-puts (Some (Has packets)) =
-        either (nat_lt (m.written + m.asked) packets) (Err Older) (tells_and_acts b [] m) tt (told-puts [] m tt same)
-
-    settled-puts : (n : MemberState) (replies : List (List ℕ)) (o : Option TakeError) → Alike n →
-        PutsIf (settled b n replies o)
-    settled-puts n replies None like =
-        let w = words_of n.client.shape b in
-        let told = told_after w replies n in
-        told-puts told (after_settling w replies n)
-        (tell-to_host told (news-tell n.client.shape n.client.reader (after_replies w replies n.client).reader))
-        (record { shape = like.shape; written = like.written; asked = like.asked })
-    settled-puts n replies (Some error) like = tt
-
-    settled_by-puts : (n : MemberState) (o : Option (List (List ℕ))) → Alike n → PutsIf (settled_by b n o)
-    settled_by-puts n None like = told-puts [] n tt like
-    settled_by-puts n (Some replies) like = settled-puts n replies (refusal_in replies n.client) like
-
-    epoch-puts : (r : Result (List Telling) Fault) → PutsIf (told_epoch b m r)
-    epoch-puts (Ok told) = told-puts [] _ tt (record { shape = refl; written = refl; asked = refl })
-    epoch-puts (Err e) = tt
-
-    replied-puts : (k : ℕ) (reply : List ℕ) → PutsIf (replied b m k reply)
-    replied-puts k reply =
-        let now = with_reply m k reply in
-        either (is_none m.client.read || is_some (slice_index_or m.replies (k - 1) None)) (Err Peer)
-        (settled_by b now (all_of now.replies)) tt
-        (settled_by-puts now (all_of now.replies) (record { shape = refl; written = refl; asked = refl }))
-
-    served-puts : (k : ℕ) (frame : List ℕ) → PutsIf (served b m k frame)
-    served-puts k frame =
-        let kind = slice_index frame 0 in
-        let epoch = told_epoch b m (with_epoch m.client.shape m.told k frame) in
-        let other : Result Turned Fault = cond (kind == 0x0c) (Err Refused) (Err Peer) in
-        either (kind == 3) (replied b m k frame) (cond (kind == 0x0b) epoch other) (replied-puts k frame)
-        (either (kind == 0x0b) epoch other (epoch-puts (with_epoch m.client.shape m.told k frame))
-        (either (kind == 0x0c) (Err Refused) (Err Peer) tt tt))
+    goes-puts : (writing : Writing) (r : Result Turned Fault) (s : Result Stand Fault) →
+        EndsOrReadies b writing m r s → PutsIf r
+    goes-puts writing r s (inl e) = subst PutsIf (sym e.is) tt
+    goes-puts writing r s (inr e) =
+        subst PutsIf (sym e.is)
+        (told-puts e.told e.first e.to_host
+        (record { shape = e.shape_is; written = e.written_is; asked = e.asked_is }))
 
     pub step-puts : (p : PacketView) → PutsIf (step b m p)
     unfolding step
@@ -333,6 +254,7 @@ module _ (j : ℕ) (low : 1 ≤ j) where
         let serves : Result Turned Fault =
         cond (nat_le p.peer m.client.shape.servers) (served b m p.peer p.bytes) (Err Peer)
         in
-        either (p.peer == 0) (heard b m (word_in p.bytes)) serves (heard-puts (word_in p.bytes))
+        either (p.peer == 0) (heard b m (word_in p.bytes)) serves
+        (goes-puts (heard_writing m (word_in p.bytes)) (heard b m (word_in p.bytes)) _ (heard-readies b m (word_in p.bytes)))
         (either (nat_le p.peer m.client.shape.servers) (served b m p.peer p.bytes) (Err Peer)
-        (served-puts p.peer p.bytes) tt)
+        (goes-puts m.client.writing (served b m p.peer p.bytes) _ (served-readies b m p.peer p.bytes)) tt)

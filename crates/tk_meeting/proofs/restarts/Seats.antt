@@ -13,6 +13,7 @@ use Rattle.tk_serve.specs.Seats.{Seat, empty_seat, empty_seats, seat_of, seat_wi
 use Rattle.tk_serve.specs.Refusals.{refusal_by, refusal_of}
 use Rattle.tk_serve.specs.Steps.{with_frame, step_by, step, IsOfClient}
 use Rattle.tk_serve.specs.Courses.{seats_next}
+use Rattle.tk_serve.proofs.Offers.{empty-counted}
 use Rattle.tk_meeting.specs.Meeting.{frames_for, for_peer}
 use Rattle.tk_meeting.specs.Programs.{state_after, seats_from}
 use Rattle.tk_meeting.specs.Restarts.{ServersStandAgain}
@@ -137,10 +138,6 @@ module _ (shape : Shape) where
 
 -- ---- from the first packet on
 
-first-many : (shape : Shape) → length (empty_seats shape) ≡ shape.clients
-unfolding empty_seats
-first-many shape = length-replicate shape.clients empty_seat
-
 pub stand-again : ServersStandAgain
 stand-again shape before again were are same =
     let none = empty_seats shape in
@@ -148,7 +145,7 @@ stand-again shape before again were are same =
     let other = as-many-then shape none before in
     ext_get_or empty_seat (seats_from shape again) (seats_from shape before) (one ∙ sym other) (λ c low.
     let there : c < length none = omega (arith, low, one) in
-    let client : c < shape.clients = omega (arith, there, first-many shape) in
+    let client : c < shape.clients = omega (arith, there, empty-counted shape) in
     seat-then shape none again c there are
     ∙ ap (λ frames. seat_by shape c (seat_of none c) frames) (same c client)
     ∙ sym (seat-then shape none before c there were))

@@ -7,34 +7,28 @@ use Rattle.std.proofs.Math.Seq.{drop-append_seam}
 use Rattle.std.proofs.lemmas.Bool.{ne_eqb}
 use Rattle.tk_shape.specs.declared.shape.Shape.{Shape}
 use Rattle.tk_frames.specs.Laws.{AreBytes}
-use Rattle.tk_script.proofs.FeedLaws.{all-append}
+use Rattle.tk_report.proofs.Offers.{each-append, each-behind}
 use Rattle.tk_packets.specs.Packets.{PacketView}
 use Rattle.tk_serve.specs.Seats.{empty_seats}
 use Rattle.tk_serve.specs.Steps.{IsOfClient, packets_to}
 use Rattle.tk_serve.specs.Laws.{Comes}
 use Rattle.tk_serve.specs.Told.{told}
-use Rattle.tk_serve.proofs.Offers.{flat_map-one}
-use Rattle.tk_serve.proofs.GrowthLaws.{told-stays}
+use Rattle.tk_serve.proofs.Offers.{flat_map-one, told-stays, after-is}
 use Rattle.tk_meeting.specs.Meeting.{for_peer, frames_for}
 use Rattle.tk_meeting.specs.Programs.{seats_from, IsFront}
 use Rattle.tk_meeting.specs.Restarts.{ComesOf, ServersTellAgain}
 use Rattle.tk_meeting.proofs.courses.Picks.{pick}
 use Rattle.tk_meeting.proofs.members.Packets.{frames-append}
 use Rattle.tk_meeting.proofs.servers.Gains.{frames-own, frames-none, frames-each}
-use Rattle.tk_meeting.proofs.programs.Meeting.{after-is}
 use Rattle.tk_meeting.proofs.restarts.Seats.{stand-again}
 
 -- ---- what holds of all
-
-all-last : {X : Type 0} (P : X → Type 0) (xs ys : List X) → AllByRecursion P (xs ++ ys) → AllByRecursion P ys
-all-last P [] ys all = all
-all-last P (x ∷ xs) ys all = all-last P xs ys all.1
 
 all-numbers : {X : Type 0} (P : X → Type 0) (f : ℕ → List X) (a n : ℕ) →
     ((k : ℕ) → a ≤ k → k < a + n → AllByRecursion P (f k)) → AllByRecursion P (flat_map f (range_with_len a n))
 all-numbers P f a zero each = tt
 all-numbers P f a (suc n) each =
-    all-append P (f a) (flat_map f (range_with_len (a + 1) n)) (each a (omega arith) (omega arith))
+    each-append P (f a) (flat_map f (range_with_len (a + 1) n)) (each a (omega arith) (omega arith))
     (all-numbers P f (a + 1) n (λ k low high. each k (omega (arith, low)) (omega (arith, high))))
 
 module _ (shape : Shape) where
@@ -83,7 +77,7 @@ module _ (shape : Shape) where
         let low : c < shape.clients = omega (arith, high) in
         let front = of.fronts c low in
         let bytes : AllByRecursion AreBytes front.rest =
-        all-last AreBytes (frames_for (c + 1) came) front.rest
+        each-behind AreBytes (frames_for (c + 1) came) front.rest
         (subst (AllByRecursion AreBytes) (sym front.whole) (of-bytes (c + 1) sent all))
         in
         frames-come c (rest_of c) low (subst (AllByRecursion AreBytes) (sym (rest-is c low)) bytes))
@@ -105,7 +99,7 @@ module _ (shape : Shape) where
         ∙ ap (λ l. here ++ l) (rest-frames c low ∙ rest-is c low) ∙ (of.fronts c low).whole
 
     all-come : AllByRecursion (Comes shape) (came ++ rest_packets)
-    all-come = all-append (Comes shape) came rest_packets of.comes rest-comes
+    all-come = each-append (Comes shape) came rest_packets of.comes rest-comes
 
     pub tells : (c : ℕ) → c < shape.clients →
         IsFront (told shape (seats_from shape came) c) (told shape (seats_from shape sent) c)

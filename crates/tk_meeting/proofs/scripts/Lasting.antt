@@ -1,25 +1,27 @@
 -- No step of a member changes its shape or the logs that it writes.
-use Rattle.std.proofs.Common.{◌≡◌, refl, ap, ◌∙◌, ℕ, zero, suc, ◌+◌, ◌-◌, true, false, cond}
-use Rattle.std.proofs.Common.{List, [], ◌∷◌, map, Option, Some, None, Result, Ok, Err}
-use Rattle.std.specs.Prelude.{slice_index, nat_lt, ◌==◌}
+use Rattle.std.proofs.Common.{◌≡◌, refl, ap, sym, subst, ◌∙◌, inl, inr, ℕ, zero, suc, ◌-◌}
+use Rattle.std.proofs.Common.{List, map, Option, Some, None, Result, Ok, Err}
+use Rattle.std.specs.Prelude.{nat_le, ◌==◌}
 use Rattle.tk_shape.specs.declared.shape.Shape.{Shape}
 use Rattle.tk_words.specs.Words.{WordBook, BookWords, words_of}
 use Rattle.tk_client.specs.declared.say_error.SayError.{SayError}
-use Rattle.tk_client.specs.declared.take_error.TakeError.{TakeError}
 use Rattle.tk_client.specs.declared.written.Written.{Written}
 use Rattle.tk_client.specs.Saying.{fault_of}
-use Rattle.tk_client.specs.Writing.{one_more_of, with_text}
-use Rattle.tk_client.specs.Client.{refusal_in}
+use Rattle.tk_client.specs.Writing.{Writing}
+use Rattle.tk_report.proofs.Offers.{one_more-logs}
+use Rattle.tk_packets.specs.Packets.{PacketView}
 use Rattle.tk_member.specs.declared.fault.Fault.{Fault}
-use Rattle.tk_member.specs.declared.fault.Fault.TheVariants.{Peer, Refused, Older}
+use Rattle.tk_member.specs.declared.fault.Fault.TheVariants.{Peer}
 use Rattle.tk_member.specs.declared.word.HostWord.{HostWord}
 use Rattle.tk_member.specs.declared.word.HostWord.TheVariants.{Say, Tick, Ahead, Has}
-use Rattle.tk_member.specs.Epochs.{Telling, with_epoch}
+use Rattle.tk_member.specs.Words.{word_in}
 use Rattle.tk_member.specs.Members.{MemberState}
 use Rattle.tk_member.specs.Acting.{Turned, after_turn, wrote, goes_ahead, goes_by_ticks, may_ask, asks, unmoved}
 use Rattle.tk_member.specs.Acting.{asks_if_due, ahead_due, ticks_due, acts}
-use Rattle.tk_member.specs.Steps.{tells_and_acts, said, heard, all_of, settled, settled_by, with_reply, replied}
-use Rattle.tk_member.specs.Steps.{told_epoch, served}
+use Rattle.tk_member.specs.Steps.{heard, served, step}
+use Rattle.tk_meeting.specs.Shown.{Stand, stand, word_shown, frame_shown}
+use Rattle.tk_meeting.proofs.shown.Steps.{EndsOrReadies, heard_so, served_so, said_writing, heard_writing}
+use Rattle.tk_meeting.proofs.shown.Steps.{heard-readies, served-readies}
 use Rattle.tk_meeting.proofs.telling.Rising.{cond-has}
 
 -- a member's shape, and the logs that it writes
@@ -50,17 +52,6 @@ acts-lasts b m =
     ∙ wrote-lasts words (ticks_due n) (record n { ticks = n.ticks - ticks_due n })
     ∙ wrote-lasts words (ahead_due m) (record m { ahead = m.ahead - ahead_due m })
 
--- ---- texts
-
-more-log : (log : ℕ) (f : Written) → (one_more_of log f).log ≡ f.log
-more-log log f =
-    elim (f.log == log) as (λ b. (cond b (record f { count = f.count + 1 }) f).log ≡ f.log)
-    [ true ↦ refl | false ↦ refl ]
-
-more-logs : (log : ℕ) (fs : List Written) → logs_of (map (one_more_of log) fs) ≡ logs_of fs
-more-logs log [] = refl
-more-logs log (f ∷ fs) = λ i. more-log log f i ∷ more-logs log fs i
-
 -- ---- packets
 
 -- a member that is turned so has this shape and these logs still
@@ -68,51 +59,45 @@ abbrev pub LastsIn : Shape × List ℕ → Result Turned Fault → Type 0
 LastsIn x (Ok t) = base_of t.member ≡ x
 LastsIn x (Err fault) = Unit {0}
 
-said-lasts : (b : WordBook) (m : MemberState) (log : ℕ) (text : List ℕ) (o : Option SayError) →
-    LastsIn (base_of m) (said b m log text o)
-said-lasts b m log text (Some error) = acts-lasts b m
-said-lasts b m log text None =
-    let client = record m.client { writing = with_text log text m.client.writing } in
-    let now : MemberState = record m { client = client } in
-    acts-lasts b now
-    ∙ ap (λ (logs : List ℕ). (m.client.shape, logs)) (more-logs log m.client.writing.logs)
+goes-lasts : (b : WordBook) (writing : Writing) (m : MemberState) (r : Result Turned Fault) (s : Result Stand Fault) →
+    logs_of writing.logs ≡ logs_of m.client.writing.logs → EndsOrReadies b writing m r s → LastsIn (base_of m) r
+goes-lasts b writing m r s same (inl e) = subst (LastsIn (base_of m)) (sym e.is) tt
+goes-lasts b writing m r s same (inr e) =
+    subst (LastsIn (base_of m)) (sym e.is)
+    (acts-lasts b e.first
+    ∙ (λ i. (e.shape_is i, logs_of (e.writing_is i).logs))
+    ∙ ap (λ (logs : List ℕ). (m.client.shape, logs)) same)
+
+said-logs : (log : ℕ) (text : List ℕ) (o : Option SayError) (w : Writing) →
+    logs_of (said_writing log text o w).logs ≡ logs_of w.logs
+unfolding said_writing
+said-logs log text (Some error) w = refl
+said-logs log text None w = one_more-logs log w.logs
+
+heard-logs : (m : MemberState) (o : Option HostWord) →
+    logs_of (heard_writing m o).logs ≡ logs_of m.client.writing.logs
+unfolding heard_writing
+heard-logs m None = refl
+heard-logs m (Some (Say log text)) =
+    said-logs log text (fault_of m.client.shape m.client.writing.logs log text) m.client.writing
+heard-logs m (Some Tick) = refl
+heard-logs m (Some (Ahead turns)) = refl
+heard-logs m (Some (Has packets)) = refl
 
 pub heard-lasts : (b : WordBook) (m : MemberState) (o : Option HostWord) → LastsIn (base_of m) (heard b m o)
-heard-lasts b m None = tt
-heard-lasts b m (Some (Say log text)) =
-    said-lasts b m log text (fault_of m.client.shape m.client.writing.logs log text)
-heard-lasts b m (Some Tick) = acts-lasts b _
-heard-lasts b m (Some (Ahead turns)) = acts-lasts b _
-heard-lasts b m (Some (Has packets)) =
-    cond-has (LastsIn (base_of m)) (nat_lt (m.written + m.asked) packets) (Err Older)
-    (tells_and_acts b [] m) tt (acts-lasts b m)
-
-settled-lasts : (b : WordBook) (m : MemberState) (replies : List (List ℕ)) (o : Option TakeError) →
-    LastsIn (base_of m) (settled b m replies o)
-settled-lasts b m replies (Some error) = tt
-settled-lasts b m replies None = acts-lasts b _
-
-settled_by-lasts : (b : WordBook) (m : MemberState) (o : Option (List (List ℕ))) →
-    LastsIn (base_of m) (settled_by b m o)
-settled_by-lasts b m None = acts-lasts b m
-settled_by-lasts b m (Some replies) = settled-lasts b m replies (refusal_in replies m.client)
-
-replied-lasts : (b : WordBook) (m : MemberState) (j : ℕ) (reply : List ℕ) →
-    LastsIn (base_of m) (replied b m j reply)
-replied-lasts b m j reply =
-    let now : MemberState = with_reply m j reply in
-    cond-has (LastsIn (base_of m)) _ (Err Peer) (settled_by b now (all_of now.replies)) tt
-    (settled_by-lasts b now (all_of now.replies))
-
-epoch-lasts : (b : WordBook) (m : MemberState) (r : Result (List Telling) Fault) →
-    LastsIn (base_of m) (told_epoch b m r)
-epoch-lasts b m (Err fault) = tt
-epoch-lasts b m (Ok told) = acts-lasts b _
+heard-lasts b m o =
+    goes-lasts b (heard_writing m o) m (heard b m o) (heard_so (stand m) (word_shown o)) (heard-logs m o)
+    (heard-readies b m o)
 
 pub served-lasts : (b : WordBook) (m : MemberState) (j : ℕ) (frame : List ℕ) →
     LastsIn (base_of m) (served b m j frame)
 served-lasts b m j frame =
-    cond-has (LastsIn (base_of m)) (slice_index frame 0 == 3) _ _ (replied-lasts b m j frame)
-    (cond-has (LastsIn (base_of m)) (slice_index frame 0 == 0x0b) _ _
-    (epoch-lasts b m (with_epoch m.client.shape m.told j frame))
-    (cond-has (LastsIn (base_of m)) (slice_index frame 0 == 0x0c) (Err Refused) (Err Peer) tt tt))
+    goes-lasts b m.client.writing m (served b m j frame) (served_so (stand m) j (frame_shown m.client.shape frame))
+    refl (served-readies b m j frame)
+
+pub step-lasts : (b : WordBook) (m : MemberState) (p : PacketView) → LastsIn (base_of m) (step b m p)
+unfolding step
+step-lasts b m p =
+    cond-has (LastsIn (base_of m)) (p.peer == 0) (heard b m (word_in p.bytes)) _ (heard-lasts b m (word_in p.bytes))
+    (cond-has (LastsIn (base_of m)) (nat_le p.peer m.client.shape.servers) (served b m p.peer p.bytes) (Err Peer)
+    (served-lasts b m p.peer p.bytes) tt)

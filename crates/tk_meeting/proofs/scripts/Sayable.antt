@@ -20,6 +20,7 @@ use Rattle.tk_member.specs.declared.word.HostWord.{HostWord}
 use Rattle.tk_member.specs.declared.word.HostWord.TheVariants.{Say, Tick, Ahead, Has}
 use Rattle.tk_member.specs.Acting.{Turned}
 use Rattle.tk_member.specs.Steps.{heard, served}
+use Rattle.tk_report.proofs.Offers.{unwritten-logs, each-append}
 use Rattle.tk_meeting.specs.Meeting.{Meeting, Saying, opening, changed, member_went}
 use Rattle.tk_meeting.specs.Events.{Event, Said, Ticked, WentAhead, Greeted, Up, Down, noted, say_fault, hears}
 use Rattle.tk_meeting.specs.Events.{greeting_of, comes_up, comes_down, unless_ended, is_client, is_server}
@@ -27,6 +28,7 @@ use Rattle.tk_meeting.specs.Events.{client_does, happens, after_events, met}
 use Rattle.tk_meeting.proofs.own.Openings.{kept}
 use Rattle.tk_meeting.proofs.telling.Rising.{cond-has}
 use Rattle.tk_meeting.proofs.scripts.Lasting.{base_of, logs_of, LastsIn, heard-lasts, served-lasts}
+use Rattle.tk_meeting.proofs.telling.Ways.{event-has}
 
 -- client c writes the log
 pub record IsMine (S : Script) (c log : ℕ) : Type 0 where
@@ -44,14 +46,10 @@ pub record IsSayable (S : Script) (m : Meeting) : Type 0 where
 
 -- ---- the opening
 
-logs-unwritten : (logs : List ℕ) → logs_of (map unwritten logs) ≡ logs
-logs-unwritten [] = refl
-logs-unwritten (log ∷ logs) = ap (λ (xs : List ℕ). log ∷ xs) (logs-unwritten logs)
-
 pub opening-sayable : (S : Script) → IsSayable S (opening S)
 opening-sayable S =
     record {
-      bases = λ c. ap (λ (logs : List ℕ). (S.shape, logs)) (logs-unwritten (writes_of S c));
+      bases = λ c. ap (λ (logs : List ℕ). (S.shape, logs)) (unwritten-logs (writes_of S c));
       each = λ c g. tt;
     }
 
@@ -94,18 +92,13 @@ free-said S m c log text is none =
     (subst (AllByRecursion (IsMine S c)) (sym logs_are) (writes-mine S c))
     (subst (λ (s : Shape). fault_of s k.writing.logs log text ≡ None) shape_is none)
 
-one-more : (S : Script) (c : ℕ) (ys : List Saying) (y : Saying) → AllByRecursion (MaySay S c) ys →
-    MaySay S c y → AllByRecursion (MaySay S c) (ys ++ y ∷ [])
-one-more S c [] y all may = (may, tt)
-one-more S c (x ∷ xs) y all may = (all.0, one-more S c xs y all.1 may)
-
 noted-at : (S : Script) (m : Meeting) (c g : ℕ) (y : Saying) → IsSayable S m → MaySay S c y →
     (d k : ℕ) → AllByRecursion (MaySay S d)
     (changed c (changed g (m.said c g ++ y ∷ []) (m.said c)) m.said d k)
 noted-at S m c g y is may d k = by (d == c) refl
   where
     here : (t : Bool) → AllByRecursion (MaySay S c) (cond t (m.said c g ++ y ∷ []) (m.said c k))
-    here true = one-more S c (m.said c g) y (is.each c g) may
+    here true = each-append (MaySay S c) (m.said c g) (y ∷ []) (is.each c g) (may, tt)
     here false = is.each c k
 
     by : (t : Bool) → (d == c) ≡ t →
@@ -160,41 +153,20 @@ down-sayable S b m j c (frame ∷ frames) is =
 
 -- ---- events
 
-unless-sayable : (S : Script) (o : Option Fault) (m after : Meeting) → IsSayable S m → IsSayable S after →
-    IsSayable S (unless_ended o m after)
-unless-sayable S None m after is later = later
-unless-sayable S (Some fault) m after is later = is
-
-pub client-sayable : (S : Script) (m : Meeting) (c : ℕ) (after : Meeting) → IsSayable S m → IsSayable S after →
-    IsSayable S (client_does S.shape m c after)
-client-sayable S m c after is later =
-    cond-has (IsSayable S) (is_client S.shape c) (unless_ended (m.ended c) m after) m
-    (unless-sayable S (m.ended c) m after is later) is
-
 event-sayable : (S : Script) (b : ℕ → WordBook) (m : Meeting) (x : Event) → IsSayable S m →
     IsSayable S (happens S.shape b m x)
-unfolding happens
-event-sayable S b m (Said c log text) is =
-    let y : Saying = record { log = log; text = text } in
-    let n : Meeting = noted c y (say_fault m c log text) m in
-    client-sayable S m c (hears b n c (Say log text)) is
-    (hears-sayable S b n c (Say log text)
-    (noted-sayable S m c y (say_fault m c log text) is (free-said S m c log text is)))
-event-sayable S b m (Ticked c) is =
-    client-sayable S m c (hears b m c Tick) is (hears-sayable S b m c Tick is)
-event-sayable S b m (WentAhead c turns) is =
-    client-sayable S m c (hears b m c (Ahead turns)) is (hears-sayable S b m c (Ahead turns) is)
-event-sayable S b m (Greeted c j count) is =
-    let word : HostWord = Has (greeting_of m c j count) in
-    cond-has (IsSayable S) (is_server S.shape j) (client_does S.shape m c (hears b m c word)) m
-    (client-sayable S m c (hears b m c word) is (hears-sayable S b m c word is)) is
-event-sayable S b m (Up c j) is =
-    cond-has (IsSayable S) (is_client S.shape c && is_server S.shape j)
-    (comes_up S.shape m c j (m.up c j)) m (up-sayable S m c j (m.up c j) is) is
-event-sayable S b m (Down j c) is =
-    let after : Meeting = comes_down b m j c (m.down j c) in
-    cond-has (IsSayable S) (is_server S.shape j) (client_does S.shape m c after) m
-    (client-sayable S m c after is (down-sayable S b m j c (m.down j c) is)) is
+event-sayable S b m x is =
+    event-has S.shape b m (IsSayable S) (record {
+      stays = is;
+      says = λ c log text.
+          let y : Saying = record { log = log; text = text } in
+          let n : Meeting = noted c y (say_fault m c log text) m in
+          hears-sayable S b n c (Say log text)
+          (noted-sayable S m c y (say_fault m c log text) is (free-said S m c log text is));
+      hears_word = λ c word. hears-sayable S b m c word is;
+      goes_up = λ c j. up-sayable S m c j (m.up c j) is;
+      goes_down = λ j c. down-sayable S b m j c (m.down j c) is;
+    }) x
 
 after-sayable : (S : Script) (b : ℕ → WordBook) (m : Meeting) (events : List Event) → IsSayable S m →
     IsSayable S (after_events S.shape b m events)

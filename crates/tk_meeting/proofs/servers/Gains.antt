@@ -20,18 +20,12 @@ use Rattle.tk_meeting.proofs.Canonical.{AreFronts, stream}
 use Rattle.tk_meeting.proofs.Course.{newest_by}
 use Rattle.tk_meeting.proofs.servers.Streams.{told-is}
 use Rattle.tk_meeting.proofs.servers.Numbers.{stream-grows}
+use Rattle.tk_meeting.proofs.members.Packets.{frames-append}
 
 -- ---- the frames for one peer
 
 abbrev bytes_in : PacketView → List ℕ
 bytes_in p = p.bytes
-
-frames-append : (peer : ℕ) (xs ys : List PacketView) →
-    frames_for peer (xs ++ ys) ≡ frames_for peer xs ++ frames_for peer ys
-frames-append peer xs ys =
-    ap (map bytes_in) (filter-append (λ (p : PacketView). p.peer == peer) xs ys)
-    ∙ map-append bytes_in (filter (λ (p : PacketView). p.peer == peer) xs)
-    (filter (λ (p : PacketView). p.peer == peer) ys)
 
 -- of packets for the peer all frames, and of packets for another none
 pub frames-own : (peer other : ℕ) (frames : List (List ℕ)) → (other == peer) ≡ true →

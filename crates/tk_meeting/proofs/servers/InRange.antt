@@ -22,6 +22,7 @@ use Rattle.tk_report.specs.Entries.{write_at}
 use Rattle.tk_report.specs.Exchange.{read_at, read_pair}
 use Rattle.tk_report.proofs.Offers.{write_at-client, write_at-turn, pair-low, length-written}
 use Rattle.tk_serve.proofs.Offers.{phase-before}
+use Rattle.tk_report.proofs.Offers.{some_buckets}
 use Rattle.tk_meeting.proofs.Canonical.{serial, write_in, read_from}
 use Rattle.tk_meeting.proofs.servers.Streams.{read-epoch}
 
@@ -37,9 +38,6 @@ remainders : (f : ℕ → ℕ) (n a count : ℕ) → 0 < n →
     AllByRecursion (λ h. h < n) (map (λ i. f i % n) (range_with_len a count))
 remainders f n a zero some = tt
 remainders f n a (suc count) some = (mod-lt (f a) some, remainders f n (a + 1) count some)
-
-some_buckets : (shape : Shape) → 0 < shape.buckets
-some_buckets shape = let low = shape.in_range.buckets_low in omega (arith, low)
 
 some_bits : (shape : Shape) → 0 < shape.filter_bits
 some_bits shape = let low = shape.in_range.filter_low in omega (arith, low)

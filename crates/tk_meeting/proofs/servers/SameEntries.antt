@@ -16,21 +16,7 @@ use Rattle.tk_frames.specs.declared.entry.Placed.{Placed}
 use Rattle.tk_frames.specs.declared.entry.Entry.TheVariants.{Write, Mark}
 use Rattle.tk_frames.specs.Order.{is_mark_entry}
 use Rattle.tk_report.specs.Entries.{placed_from, placed_after, entries_before}
-
-same-placed : (f g : ℕ → WriteFrame) (n : ℕ) → ((c : ℕ) → c < n → f c ≡ g c) →
-    (position e : ℕ) (items : List Item) →
-    list_all (is_within n) items ≡ true →
-    placed_from f position e items ≡ placed_from g position e items
-unfolding placed_from
-same-placed f g n same position e [] within = refl
-same-placed f g n same position e (Client c ∷ items) within =
-    let split = and_parts (nat_lt c n) (list_all (is_within n) items) within in
-    ap₂ (λ (w : WriteFrame) (rest : List Placed). record { position = position; entry = Write w }
-    ∷ rest)
-    (same c (ltb-true c n split.0)) (same-placed f g n same (position + 1) e items split.1)
-same-placed f g n same position e (Publish ∷ items) within =
-    ap (λ (rest : List Placed). record { position = position; entry = Mark e } ∷ rest)
-    (same-placed f g n same (position + 1) (e + 1) items within)
+use Rattle.tk_privacy.proofs.Offers.{same-placed}
 
 -- the entries of the first n turns are made of the writes of these turns
 pub same-entries : (shape : Shape) (H : History) (f g : ℕ → ℕ → WriteFrame) (n : ℕ) →

@@ -28,6 +28,7 @@ use Rattle.tk_serve.proofs.Offers.{closing-none, closing-some}
 use Rattle.tk_meeting.proofs.Canonical.{serial, write_in, read_from, whole, told_in_turn, stream, AreFronts}
 use Rattle.tk_meeting.proofs.Course.{newest_by}
 use Rattle.tk_meeting.proofs.servers.SameEntries.{same-entries}
+use Rattle.tk_meeting.proofs.members.Asking.{serial-epoch}
 
 -- the first m of what a function gives for the numbers below k
 take-numbers : {X : Type 0} (f : ℕ → X) (k m : ℕ) →
@@ -45,11 +46,9 @@ take-numbers f k m = elim (cases_lt k m) [
 -- the read of a turn is over the epoch before its phase's
 pub read-epoch : (S : Script) (b : WordBook) (c j g : ℕ) → c < S.shape.clients → g < turn_count S.shape →
     (read_from S b c j g).epoch ≡ phases_over S.shape g
-unfolding read_at frame_with serial_history
+unfolding read_at frame_with
 read-epoch S b c j g client turn =
-    ap (λ (t : TurnOrder). slice_index t.epochs c)
-    (get_or-map-range_with_len (serial_turn S.shape) 0 (turn_count S.shape) g g blank_turn turn (omega arith))
-    ∙ get_or-replicate S.shape.clients c (phases_over S.shape g) 0 client
+    serial-epoch S g c turn client
 
 abbrev writes_count : Seat → ℕ
 writes_count s = length s.writes

@@ -24,7 +24,7 @@ use Rattle.tk_serve.specs.Seats.{Seat, seat_of, with_write, with_read}
 use Rattle.tk_serve.specs.Refusals.{unless, write_misplaced, read_misplaced, write_refusal, read_refusal}
 use Rattle.tk_serve.specs.Refusals.{is_read_kind, refusal_by, due_of}
 use Rattle.tk_serve.specs.Steps.{Step, step_by, step, with_frame}
-use Rattle.tk_serve.proofs.Offers.{write-placed, read-placed_by, told_step}
+use Rattle.tk_serve.proofs.Offers.{write-placed, read-placed_by, told_step, step-none}
 use Rattle.tk_meeting.specs.Meeting.{changed}
 use Rattle.tk_meeting.proofs.Canonical.{write_in, read_from, AreFronts}
 use Rattle.tk_meeting.proofs.servers.Bumps.{bumped, bumped-above, newest-grows}
@@ -39,13 +39,6 @@ holds : (test : Bool) (cause : Refusal) (behind : Option Refusal) → test ≡ t
     None ≡ unless test cause behind
 holds test cause behind held none =
     sym none ∙ ap (λ (b : Bool). cond b behind (Some cause)) (sym held)
-
--- what nothing refuses is taken
-step-none : (shape : Shape) (seats : List Seat) (c : ℕ) (bytes : List ℕ) →
-    refusal_by shape (due_of seats c) bytes ≡ None →
-    step shape seats c bytes ≡ told_step shape seats (with_frame shape seats c bytes)
-unfolding step
-step-none shape seats c bytes none = ap (step_by shape seats c bytes) none
 
 -- ---- writes
 

@@ -27,69 +27,7 @@ use Rattle.tk_meeting.proofs.shown.Steps.{heard_so}
 use Rattle.tk_meeting.proofs.shown.Steps.{settled_so, settled_by_so, replied_so, told_so, served_so, step_so}
 use Rattle.tk_meeting.proofs.shown.Steps.{step-outcome}
 use Rattle.tk_meeting.proofs.telling.Rising.{cond-has}
-
--- ---- the shape stays
-
-acted-shape : (s : Stand) → (acted s).shape ≡ s.shape
-acted-shape s = either (asks_due (gone_by_ticks (gone_ahead s)))
-  where
-    either : (t : Bool) →
-        (cond t (has_asked (gone_by_ticks (gone_ahead s))) (gone_by_ticks (gone_ahead s))).shape ≡ s.shape
-    either true = refl
-    either false = refl
-
-abbrev HasShape : Shape → Result Stand Fault → Type 0
-HasShape shape (Ok s) = s.shape ≡ shape
-HasShape shape (Err fault) = Unit {0}
-
-heard-shape : (s : Stand) (word : Option HostWord) → HasShape s.shape (heard_so s word)
-unfolding heard_so
-heard-shape s None = tt
-heard-shape s (Some (Say log text)) = refl
-heard-shape s (Some Tick) = refl
-heard-shape s (Some (Ahead turns)) = refl
-heard-shape s (Some (Has packets)) =
-    cond-has (HasShape s.shape) (nat_lt (s.written + s.asked) packets) (Err Older) (Ok s) tt refl
-
-settled-shape : (s : Stand) (o : Option TakeError) → HasShape s.shape (settled_so s o)
-unfolding settled_so
-settled-shape s (Some error) = tt
-settled-shape s None = refl
-
-settled_by-shape : (s : Stand) (o : Option (List Face)) → HasShape s.shape (settled_by_so s o)
-unfolding settled_by_so
-settled_by-shape s None = refl
-settled_by-shape s (Some faces) = settled-shape s (refused_by s.number faces s.read)
-
-replied-shape : (s : Stand) (j : ℕ) (f : Face) → HasShape s.shape (replied_so s j f)
-unfolding replied_so
-replied-shape s j f =
-    let now : Stand = record s { replies = slice_set s.replies (j - 1) (Some f) } in
-    cond-has (HasShape s.shape) (is_none s.read || is_some (slice_index_or s.replies (j - 1) None)) (Err Peer)
-    (settled_by_so now (all_of now.replies)) tt (settled_by-shape now (all_of now.replies))
-
-told-shape : (s : Stand) (r : Result (List Telling) Fault) → HasShape s.shape (told_so s r)
-unfolding told_so
-told-shape s (Err fault) = tt
-told-shape s (Ok told) = refl
-
-served-shape : (s : Stand) (j : ℕ) (sent : Sent) → HasShape s.shape (served_so s j sent)
-unfolding served_so
-served-shape s j (Replied f) = replied-shape s j f
-served-shape s j (Told frame) =
-    cond-has (HasShape s.shape) (slice_index frame 0 == 0x0b) (told_so s (with_epoch s.shape s.told j frame)) _
-    (told-shape s (with_epoch s.shape s.told j frame))
-    (cond-has (HasShape s.shape) (slice_index frame 0 == 0x0c) (Err Refused) (Err Peer) tt tt)
-
-step-shape : (s : Stand) (x : Came) → HasShape s.shape (step_so s x)
-unfolding step_so
-step-shape s (OfHost word) = heard-shape s word
-step-shape s (OfServer j sent) =
-    cond-has (HasShape s.shape) (nat_le j s.shape.servers) (served_so s j sent) (Err Peer) (served-shape s j sent) tt
-
-acting-shape : (shape : Shape) (r : Result Stand Fault) → HasShape shape r → HasShape shape (acting r)
-acting-shape shape (Ok s) has = acted-shape s ∙ has
-acting-shape shape (Err fault) has = tt
+use Rattle.tk_meeting.proofs.scripts.Lasting.{base_of, LastsIn, step-lasts}
 
 -- ---- one packet
 
@@ -118,26 +56,23 @@ kept-shown t (Ok u) = refl
 kept-shown t (Err fault) = refl
 
 -- one that takes more has this shape
-abbrev IsOfShape : Shape → Option Stand → Type 0
+abbrev IsOfShape : Shape → Option Turned → Type 0
 IsOfShape shape None = Unit {0}
-IsOfShape shape (Some s) = s.shape ≡ shape
+IsOfShape shape (Some t) = t.member.client.shape ≡ shape
 
-kept-of_shape : (shape : Shape) (r : Result Stand Fault) → HasShape shape r → IsOfShape shape (kept r)
-unfolding kept
-kept-of_shape shape (Ok s) has = has
-kept-of_shape shape (Err fault) has = tt
+behind-of_shape : (shape : Shape) (t : Turned) (m : MemberState) (r : Result Turned Fault) → m.client.shape ≡ shape →
+    LastsIn (base_of m) r → IsOfShape shape (behind_if t r)
+behind-of_shape shape t m (Ok u) has lasts = ap (λ (x : Shape × List ℕ). x.0) lasts ∙ has
+behind-of_shape shape t m (Err fault) has lasts = tt
 
-packet-of_shape : (shape : Shape) (o : Option Stand) (x : Came) → IsOfShape shape o →
-    IsOfShape shape (packet_so o x)
-unfolding packet_so
-packet-of_shape shape None x has = tt
-packet-of_shape shape (Some s) x has =
-    cond-has (IsOfShape shape) (over_so s) None (kept (acting (step_so s x))) tt
-    (kept-of_shape shape (acting (step_so s x))
-    (acting-shape shape (step_so s x) (subst (λ (k : Shape). HasShape k (step_so s x)) has (step-shape s x))))
+packet-of_shape : (b : WordBook) (shape : Shape) (o : Option Turned) (p : PacketView) → IsOfShape shape o →
+    IsOfShape shape (after_packet b o p)
+packet-of_shape b shape None p has = tt
+packet-of_shape b shape (Some t) p has =
+    cond-has (IsOfShape shape) (is_over t.member) None (behind_if t (step b t.member p)) tt
+    (behind-of_shape shape t t.member (step b t.member p) has (step-lasts b t.member p))
 
-packet-after : (b : WordBook) (shape : Shape) (o : Option Turned) (p : PacketView) →
-    IsOfShape shape (stand_after o) →
+packet-after : (b : WordBook) (shape : Shape) (o : Option Turned) (p : PacketView) → IsOfShape shape o →
     stand_after (after_packet b o p) ≡ packet_so (stand_after o) (packet_shown shape p)
 unfolding packet_so
 packet-after b shape None p has = refl
@@ -154,16 +89,13 @@ packet-after b shape (Some t) p has =
 
 -- ---- any number of packets
 
-packets-after : (b : WordBook) (shape : Shape) (o : Option Turned) (ps : List PacketView) →
-    IsOfShape shape (stand_after o) →
+packets-after : (b : WordBook) (shape : Shape) (o : Option Turned) (ps : List PacketView) → IsOfShape shape o →
     stand_after (fold_l (after_packet b) o ps)
     ≡ fold_l packet_so (stand_after o) (map (packet_shown shape) ps)
 packets-after b shape o [] has = refl
 packets-after b shape o (p ∷ ps) has =
-    let one = packet-after b shape o p has in
-    packets-after b shape (after_packet b o p) ps
-    (subst (IsOfShape shape) (sym one) (packet-of_shape shape (stand_after o) (packet_shown shape p) has))
-    ∙ ap (λ (s : Option Stand). fold_l packet_so s (map (packet_shown shape) ps)) one
+    packets-after b shape (after_packet b o p) ps (packet-of_shape b shape o p has)
+    ∙ ap (λ (s : Option Stand). fold_l packet_so s (map (packet_shown shape) ps)) (packet-after b shape o p has)
 
 pub act-alike : MembersActAlike
 unfolding after_packets

@@ -99,6 +99,32 @@ acts-stands b m =
     in
     asks-stands b second ∙ ap asked_if_due (two ∙ ap gone_by_ticks one)
 
+-- ---- how many writes are due
+
+abbrev pub ahead_of : Stand → ℕ
+ahead_of s = min s.ahead (turn_count s.shape - s.written)
+
+abbrev pub ticks_of : Stand → ℕ
+ticks_of s =
+    min s.ticks
+    (min (turn_count s.shape) ((known s.shape s.told + 1) * s.shape.ticks) - (s.written + ahead_of s))
+
+acted-written : (s : Stand) → (acted s).written ≡ s.written + ahead_of s + ticks_of s
+acted-written s = either (asks_due (gone_by_ticks (gone_ahead s)))
+  where
+    either : (t : Bool) →
+        (cond t (has_asked (gone_by_ticks (gone_ahead s))) (gone_by_ticks (gone_ahead s))).written
+        ≡ s.written + ahead_of s + ticks_of s
+    either true = refl
+    either false = refl
+
+-- so many turns it wrote when it has acted
+abbrev pub written_then : MemberState → ℕ
+written_then m = m.written + ahead_of (stand m) + ticks_of (stand m)
+
+pub acts-written : (b : WordBook) (m : MemberState) → (acts b m).member.written ≡ written_then m
+acts-written b m = ap (λ (s : Stand). s.written) (acts-stands b m) ∙ acted-written (stand m)
+
 -- what becomes of it once it has acted
 abbrev pub acting : Result Stand Fault → Result Stand Fault
 acting (Ok s) = Ok (acted s)
@@ -143,15 +169,17 @@ step_so s (OfServer j sent) = cond (nat_le j s.shape.servers) (served_so s j sen
 
 -- ---- a member before it acts
 
--- it goes on to act, with this to write after so many turns, and stands so
-pub record Readies (b : WordBook) (writing : Writing) (written : ℕ) (shape : Shape) (number : ℕ)
-    (result : Result Turned Fault) (ready : Result Stand Fault) : Type 0 where
+-- it goes on to act, with this to write after so many turns, and stands so; its read is that one still, or closed
+pub record Readies (b : WordBook) (writing : Writing) (written asked : ℕ) (read : Option OpenRead) (shape : Shape)
+    (number : ℕ) (result : Result Turned Fault) (ready : Result Stand Fault) : Type 0 where
   pub first : MemberState
   pub told : List PacketView
   pub is : result ≡ tells_and_acts b told first
   pub stands : ready ≡ Ok (stand first)
   pub writing_is : first.client.writing ≡ writing
   pub written_is : first.written ≡ written
+  pub asked_is : first.asked ≡ asked
+  pub read_is : (first.client.read ≡ read) ⊎ (first.client.read ≡ None)
   pub shape_is : first.client.shape ≡ shape
   pub number_is : first.client.number ≡ number
   pub to_host : AreToHost told
@@ -162,14 +190,20 @@ pub record Ends (result : Result Turned Fault) (ready : Result Stand Fault) : Ty
   pub is : result ≡ Err fault
   pub ready_is : ready ≡ Err fault
 
-abbrev pub EndsOrReadies : WordBook → Writing → MemberState → Result Turned Fault → Result Stand Fault → Type 0
-EndsOrReadies b writing m result ready =
-    Ends result ready ⊎ Readies b writing m.written m.client.shape m.client.number result ready
+-- as a member that was so before
+abbrev pub ReadiesFrom : WordBook → Writing → MemberState → Result Turned Fault → Result Stand Fault → Type 0
+ReadiesFrom b writing m result ready =
+    Readies b writing m.written m.asked m.client.read m.client.shape m.client.number result ready
 
--- a member that acts as it is
-as-is : (b : WordBook) (told : List PacketView) (m : MemberState) → AreToHost told →
-    Readies b m.client.writing m.written m.client.shape m.client.number (tells_and_acts b told m) (Ok (stand m))
-as-is b told m to_host =
+abbrev pub EndsOrReadies : WordBook → Writing → MemberState → Result Turned Fault → Result Stand Fault → Type 0
+EndsOrReadies b writing m result ready = Ends result ready ⊎ ReadiesFrom b writing m result ready
+
+-- a member that acts as it is, whose read was this one
+as-read : (b : WordBook) (told : List PacketView) (m : MemberState) (read : Option OpenRead) → AreToHost told →
+    (m.client.read ≡ read) ⊎ (m.client.read ≡ None) →
+    Readies b m.client.writing m.written m.asked read m.client.shape m.client.number (tells_and_acts b told m)
+    (Ok (stand m))
+as-read b told m read to_host read_is =
     record {
       first = m;
       told = told;
@@ -177,10 +211,16 @@ as-is b told m to_host =
       stands = refl;
       writing_is = refl;
       written_is = refl;
+      asked_is = refl;
+      read_is = read_is;
       shape_is = refl;
       number_is = refl;
       to_host = to_host;
     }
+
+as-is : (b : WordBook) (told : List PacketView) (m : MemberState) → AreToHost told →
+    ReadiesFrom b m.client.writing m (tells_and_acts b told m) (Ok (stand m))
+as-is b told m to_host = as-read b told m m.client.read to_host (inl refl)
 
 -- by a test it ends or not
 unless-ends : (b : WordBook) (writing : Writing) (m : MemberState) (t : Bool) (fault : Fault)
@@ -250,8 +290,8 @@ settled-readies b m replies None =
     subst (λ (faces : List (Option Face)).
     EndsOrReadies b m.client.writing m (tells_and_acts b (told_after words replies m) after) (ready faces))
     (none-faces shape shape.servers)
-    (inr (as-is b (told_after words replies m) after
-    (tell-to_host (told_after words replies m) (news-tell shape m.client.reader after.client.reader))))
+    (inr (as-read b (told_after words replies m) after m.client.read
+    (tell-to_host (told_after words replies m) (news-tell shape m.client.reader after.client.reader)) (inr refl)))
 
 settled_by-readies : (b : WordBook) (m : MemberState) (o : Option (List (List ℕ))) →
     EndsOrReadies b m.client.writing m (settled_by b m o)

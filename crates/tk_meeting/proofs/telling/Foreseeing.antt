@@ -19,18 +19,10 @@ pub record ForeseesOf (S : Script) (c g : ℕ) (said : ℕ → List Saying) : Ty
 pub record Foresees (S : Script) (m : Meeting) : Type 0 where
   pub each : (c : ℕ) → c < S.shape.clients → ForeseesOf S c (m.members c).written (m.said c)
 
--- At any time this much of the script is said, where the script has the texts of all events, also of those
--- that are still to come.
-pub foresees : (S : Script) (books : ℕ → WordBook) (events more : List Event) →
-    Tells S (met S books (events ++ more)) → Foresees S (met S books events)
-foresees S books events more tells =
-    let now : Meeting = met S books events in
-    let last : Meeting = after_events S.shape books now more in
-    let first : Grows (opening S) now = grows-events S.shape books (opening S) events in
-    let next : Grows now last = grows-events S.shape books now more in
-    let is : met S books (events ++ more) ≡ last
-    = after-append S.shape books (opening S) events more in
-    let all : Tells S last = subst (Tells S) is tells in
+-- At any time this much of the script is said, where the script has all texts, also those that are still to come.
+pub foresees-by : (S : Script) (now last : Meeting) → Grows (opening S) now → Grows now last → Tells S last →
+    Foresees S now
+foresees-by S now last first next all =
     record {
       each = λ c in_clients. let a = first c in let n = next c in record {
         before = λ k low in_turns. sym (n.past k low) ∙ all c k in_clients in_turns;
@@ -39,3 +31,11 @@ foresees S books events more tells =
         behind = λ k high. a.behind k high;
       };
     }
+
+pub foresees : (S : Script) (books : ℕ → WordBook) (events more : List Event) →
+    Tells S (met S books (events ++ more)) → Foresees S (met S books events)
+foresees S books events more tells =
+    let now : Meeting = met S books events in
+    foresees-by S now (after_events S.shape books now more) (grows-events S.shape books (opening S) events)
+    (grows-events S.shape books now more)
+    (subst (Tells S) (after-append S.shape books (opening S) events more) tells)

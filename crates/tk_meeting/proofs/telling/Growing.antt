@@ -17,6 +17,7 @@ use Rattle.tk_meeting.specs.Events.{Event, Said, Ticked, WentAhead, Greeted, Up,
 use Rattle.tk_meeting.specs.Events.{greeting_of, comes_up, comes_down, unless_ended, is_client, is_server}
 use Rattle.tk_meeting.specs.Events.{client_does, happens, after_events}
 use Rattle.tk_meeting.proofs.telling.Rising.{RisesIn, cond-has, heard-rises, served-rises}
+use Rattle.tk_meeting.proofs.telling.Ways.{event-has}
 
 -- A client that wrote g turns wrote n turns later. What was said for earlier turns stays; for turn g more
 -- may be said; and nothing was said for a turn that is still to come.
@@ -158,39 +159,20 @@ grows-down b m j c (frame ∷ frames) =
 
 -- ---- events
 
-unless-grows : (o : Option Fault) (m after : Meeting) → Grows m after → Grows m (unless_ended o m after)
-unless-grows None m after h = h
-unless-grows (Some fault) m after h = grows-none m
-
-client-grows : (shape : Shape) (m : Meeting) (c : ℕ) (after : Meeting) → Grows m after →
-    Grows m (client_does shape m c after)
-client-grows shape m c after h =
-    cond-has (Grows m) (is_client shape c) (unless_ended (m.ended c) m after) m
-    (unless-grows (m.ended c) m after h) (grows-none m)
-
 pub grows-event : (shape : Shape) (b : ℕ → WordBook) (m : Meeting) (x : Event) →
     Grows m (happens shape b m x)
-unfolding happens
-grows-event shape b m (Said c log text) =
-    let y : Saying = record { log = log; text = text } in
-    let n : Meeting = noted c y (say_fault m c log text) m in
-    client-grows shape m c (hears b n c (Say log text))
-    (grows-next m n (hears b n c (Say log text)) (grows-noted c y (say_fault m c log text) m)
-    (grows-hears b n c (Say log text)))
-grows-event shape b m (Ticked c) = client-grows shape m c (hears b m c Tick) (grows-hears b m c Tick)
-grows-event shape b m (WentAhead c turns) =
-    client-grows shape m c (hears b m c (Ahead turns)) (grows-hears b m c (Ahead turns))
-grows-event shape b m (Greeted c j count) =
-    let word : HostWord = Has (greeting_of m c j count) in
-    cond-has (Grows m) (is_server shape j) (client_does shape m c (hears b m c word)) m
-    (client-grows shape m c (hears b m c word) (grows-hears b m c word)) (grows-none m)
-grows-event shape b m (Up c j) =
-    cond-has (Grows m) (is_client shape c && is_server shape j) (comes_up shape m c j (m.up c j)) m
-    (grows-up shape m c j (m.up c j)) (grows-none m)
-grows-event shape b m (Down j c) =
-    let after : Meeting = comes_down b m j c (m.down j c) in
-    cond-has (Grows m) (is_server shape j) (client_does shape m c after) m
-    (client-grows shape m c after (grows-down b m j c (m.down j c))) (grows-none m)
+grows-event shape b m x =
+    event-has shape b m (Grows m) (record {
+      stays = grows-none m;
+      says = λ c log text.
+          let y : Saying = record { log = log; text = text } in
+          let n : Meeting = noted c y (say_fault m c log text) m in
+          grows-next m n (hears b n c (Say log text)) (grows-noted c y (say_fault m c log text) m)
+          (grows-hears b n c (Say log text));
+      hears_word = λ c word. grows-hears b m c word;
+      goes_up = λ c j. grows-up shape m c j (m.up c j);
+      goes_down = λ j c. grows-down b m j c (m.down j c);
+    }) x
 
 pub grows-events : (shape : Shape) (b : ℕ → WordBook) (m : Meeting) (events : List Event) →
     Grows m (after_events shape b m events)

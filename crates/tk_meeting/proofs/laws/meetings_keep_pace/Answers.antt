@@ -1,6 +1,5 @@
-use Rattle.tk_meeting.proofs.courses.Together.{are-kept}
 use Rattle.tk_meeting.proofs.hidden.Pacing.{keep-pace}
 use Rattle.tk_meeting.proofs.laws.meetings_keep_pace.Goals as goal
 
 pub returns : goal.returns
-returns c = keep-pace are-kept
+returns c = keep-pace

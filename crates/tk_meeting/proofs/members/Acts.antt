@@ -1,44 +1,56 @@
 -- What any member does when it acts: it writes what the serial run has it write, and then asks if a read is due.
-use Rattle.std.proofs.Common.{◌≡◌, refl, ap, ◌∙◌, arith, ℕ, ◌+◌, ◌-◌, ◌*◌, ◌≤◌, Bool, true}
-use Rattle.std.proofs.Common.{false, cond}
-use Rattle.std.proofs.Common.{List}
-use Rattle.std.specs.Prelude.{min}
+use Rattle.std.proofs.Common.{◌≡◌, refl, ap, ap₂, sym, ◌∙◌, arith, ℕ, zero, suc, ◌+◌, ◌-◌, ◌≤◌, ◌<◌, List, []}
 use Rattle.tk_shape.specs.Lengths.{turn_count}
 use Rattle.tk_script.specs.declared.script.Script.{Script}
 use Rattle.tk_words.specs.Words.{WordBook, words_of}
 use Rattle.tk_client.specs.Writing.{Writing}
 use Rattle.tk_packets.specs.Packets.{PacketView}
-use Rattle.tk_member.specs.Epochs.{known}
 use Rattle.tk_member.specs.Members.{MemberState}
 use Rattle.tk_member.specs.Acting.{Turned, behind, followed_by, wrote, goes_ahead, goes_by_ticks}
 use Rattle.tk_member.specs.Acting.{asks_if_due, acts}
 use Rattle.tk_meeting.specs.Meeting.{Saying}
+use Rattle.tk_meeting.specs.Laws.{sayings}
 use Rattle.tk_meeting.proofs.Standing.{IsForetold, said_on}
 use Rattle.tk_meeting.proofs.members.Writing.{packets_on, packets-both}
-use Rattle.tk_meeting.specs.Shown.{Stand, stand}
-use Rattle.tk_meeting.proofs.shown.Steps.{gone_ahead, gone_by_ticks, asks_due, has_asked, acted}
+use Rattle.tk_meeting.specs.Shown.{stand}
+use Rattle.tk_meeting.proofs.shown.Steps.{gone_ahead, gone_by_ticks, ahead_of, ticks_of}
 use Rattle.tk_meeting.proofs.members.Writing.{queue, with_writing, turned_with, wrote-so}
-use Rattle.tk_meeting.proofs.members.Acting.{said-both, foretold-front, foretold-on}
+use Rattle.tk_meeting.proofs.members.Writing.{nothing-said, said-later, said-still}
 
--- ---- how many writes are due
+-- ---- what is said and foretold, in two steps
 
-abbrev pub ahead_of : Stand → ℕ
-ahead_of s = min s.ahead (turn_count s.shape - s.written)
+pub said-both : (g n k : ℕ) (saids : List Saying) →
+    said_on (g + n) (g + n + k) (said_on g (g + n) saids) ≡ said_on g (g + n + k) saids
+said-both g zero k saids =
+    let e : g ≡ g + 0 = omega arith in
+    ap₂ (λ x ys. said_on x (g + 0 + k) ys) (sym e) (said-still g (g + 0) saids e)
+said-both g (suc n) k saids =
+    ap (said_on (g + suc n) (g + suc n + k)) (said-later g (g + suc n) saids (omega arith))
+    ∙ nothing-said (g + suc n) (g + suc n + k)
+    ∙ sym (said-later g (g + suc n + k) saids (omega arith))
 
-abbrev pub ticks_of : Stand → ℕ
-ticks_of s =
-    min s.ticks
-    (min (turn_count s.shape) ((known s.shape s.told + 1) * s.shape.ticks) - (s.written + ahead_of s))
+pub foretold-front : (S : Script) (c g n k : ℕ) (saids : List Saying) → k ≤ n →
+    IsForetold S c g n saids → IsForetold S c g k saids
+foretold-front S c g n k saids within told =
+    record {
+      here = λ low. told.here (omega (arith, low, within));
+      behind = λ i above low. told.behind i above (omega (arith, low, within));
+    }
 
--- so many turns it has written then
-pub acted-written : (s : Stand) → (acted s).written ≡ s.written + ahead_of s + ticks_of s
-acted-written s = either (asks_due (gone_by_ticks (gone_ahead s)))
-  where
-    either : (t : Bool) →
-        (cond t (has_asked (gone_by_ticks (gone_ahead s))) (gone_by_ticks (gone_ahead s))).written
-        ≡ s.written + ahead_of s + ticks_of s
-    either true = refl
-    either false = refl
+pub foretold-on : (S : Script) (c g n k : ℕ) (saids : List Saying) → IsForetold S c g (g + n + k) saids →
+    IsForetold S c (g + n) (g + n + k) (said_on g (g + n) saids)
+foretold-on S c g zero k saids told =
+    let e : g ≡ g + 0 = omega arith in
+    record {
+      here = λ low. said-still g (g + 0) saids e ∙ told.here (omega (arith, low)) ∙ ap (sayings S c) e;
+      behind = λ i above low. told.behind i (omega (arith, above)) low;
+    }
+foretold-on S c g (suc n) k saids told =
+    record {
+      here = λ low.
+          said-later g (g + suc n) saids (omega arith) ∙ sym (told.behind (g + suc n) (omega arith) low);
+      behind = λ i above low. told.behind i (omega (arith, above)) low;
+    }
 
 -- ---- acting
 
@@ -97,7 +109,7 @@ module _ (S : Script) (b : WordBook) (c : ℕ) (m : MemberState) (saids : List S
       wrote-so S b c fewer_ticks shape number ticking (m.written + ahead) said_then within
       (foretold-on S c m.written ahead ticking saids told)
 
-  both-go : followed_by (goes_ahead (words_of S.shape b) m) (goes_by_ticks (words_of S.shape b))
+  pub both-go : followed_by (goes_ahead (words_of S.shape b) m) (goes_by_ticks (words_of S.shape b))
       ≡ turned_then (packets_on S b c m.written (ahead + ticking))
   both-go =
       ap (λ (t : Turned). followed_by t (goes_by_ticks (words_of S.shape b))) first-goes
