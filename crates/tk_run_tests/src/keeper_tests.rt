@@ -3,7 +3,7 @@ ghost use Rattle.std.specs.Prelude.{cond, nat_lt};
 use std::alloc::Global;
 use std::test::Fail;
 use tk_io::NoTaps;
-use tk_run::{Ended, Keeper, ResumeError, resumed_by};
+use tk_run::{Ended, Keeper, ResumeError, resumed, resumed_by};
 use tk_script::{Form, Input, parse};
 use tk_shape::{Bytes, Memory};
 use tk_words::Book;
@@ -115,6 +115,33 @@ fn left<K: Keeper>(
     Ok(resumed_by(alloc, &script, &draws, &mut NoTaps, epoch, keeper))
 }
 
+/// How many numbers of the log client 1 gets where the run itself keeps the checkpoint.
+fn got_alone(alloc: Global, epoch: u32) -> Result<usize, Fail> {
+    let Ok(
+        Input {
+            first: script,
+            tape,
+            ..
+        },
+    ) = parse(alloc, ONE_TEXT, Form::Run)
+    else {
+        return Err(Fail::from("a script"));
+    };
+    let Ok(Book::Drawn(draws)) = script.book(alloc, tape) else {
+        return Err(Fail::from("drawn words"));
+    };
+    if epoch > script.shape.phases {
+        return Err(Fail::from("an epoch"));
+    }
+    let Ok(outcome) = resumed(alloc, &script, &draws, &mut NoTaps, epoch) else {
+        return Err(Fail::from("a run"));
+    };
+    match outcome.clients.as_slice().get(1) {
+        Some(client) => Ok(client.log(0).len()),
+        None => Ok(0),
+    }
+}
+
 /// What keeps nothing yet, and will change a byte for the servers from a number on.
 fn changing(alloc: Global, at: usize, from: u32) -> Changer {
     Changer {
@@ -175,6 +202,16 @@ fn other_checkpoints(rt: HostRuntime) -> Result<(), Fail> {
         };
         let refused = matches!(left(alloc, epoch, &mut other)?, Err(ResumeError::Refused));
         assert!(rt; refused, "from {made} at {epoch}");
+    }
+    Ok(())
+}
+
+/// Where the run itself keeps the checkpoint, client 1 gets the text, wherever the servers begin anew.
+#[test]
+fn own_checkpoints(rt: HostRuntime) -> Result<(), Fail> {
+    for epoch in [0, 1, 2] {
+        let got = got_alone(rt.alloc(), epoch)?;
+        assert!(rt; got == 1, "from {epoch} on");
     }
     Ok(())
 }
