@@ -39,6 +39,7 @@ use Rattle.tk_report.specs.Entries.{write_at}
 use Rattle.tk_report.proofs.MarkedLaws.{before-over}
 use Rattle.tk_report.specs.Turns.{placed_before}
 use Rattle.tk_report.proofs.JoiningLaws.{AreBlocks, replies_join}
+use Rattle.tk_report.proofs.Lists.{map_same}
 
 -- ---- what a read is over
 

@@ -57,7 +57,7 @@ found-again p q y (x ∷ xs) passes fails apart e =
     elim (p x) as (λ b. cond b (Some x) (find p xs) ≡ Some y →
     cond (q x) (Some x) (find q xs) ≡ Some y) [
       | true ↦ λ here.
-          let same : x ≡ y = some_inner x y here in
+          let same : x ≡ y = same_Some x y here in
           ap (λ b. cond b (Some x) (find q xs)) (ap q same ∙ passes) ∙ here
       | false ↦ λ later.
           let before = found-each (IsBefore x) p xs y apart.0 later in
@@ -254,7 +254,7 @@ sent-once S g c h d y z first other log number =
     let found : sent_as S y.log y.number ≡ Some z =
     ap (λ l. sent_as S l y.number) log ∙ ap (sent_as S z.log) number ∙ sent-found S h d z other
     in
-    let same : y ≡ z = some_inner y z (sym (sent-found S g c y first) ∙ found) in
+    let same : y ≡ z = same_Some y z (sym (sent-found S g c y first) ∙ found) in
     let one = sent-is S g c y first in
     let two = sent-is S h d z other in (
       sym one.turn ∙ ap (λ (x : Sending). x.turn) same ∙ two.turn,
