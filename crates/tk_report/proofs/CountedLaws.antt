@@ -9,7 +9,6 @@ use Rattle.tk_frames.specs.declared.entry.Placed.{Placed as AtPlace}
 use Rattle.tk_frames.specs.declared.entry.Entry.TheVariants.{Write, Mark}
 use Rattle.tk_frames.specs.InOrder.{IsNext}
 use Rattle.tk_frames.specs.Order.{Record, records}
-use Rattle.tk_frames.specs.Ranges.{IsEntry, IsWrite}
 use Rattle.tk_frames.proofs.Offers.{record_of, records-write, records-mark}
 use Rattle.tk_frames.proofs.Offers.{length-writes_and_marks, order-push}
 use Rattle.tk_table.specs.declared.table.Put.{Put}
@@ -24,8 +23,6 @@ use Rattle.tk_report.specs.Displaced.{displaced_on}
 use Rattle.tk_report.proofs.DisplacedLaws.{displaced-more, displaced-few}
 use Rattle.tk_report.proofs.OrderCounts.{next-few}
 
--- ---- it may come
-
 -- there are few enough displaced writes to count one more
 pub count-room : (p : AtPlace) (c : Count) → MayCount p c → c.displaced + 1 < 2 ^ 32
 count-room p c may =
@@ -36,20 +33,6 @@ count-room p c may =
       length-writes_and_marks may.E,
       next-few may.shape may.E p may.next,
     )
-
--- it comes behind those in the table
-pub next-above : (p : AtPlace) (c : Count) → MayCount p c → All (λ k. k < p.position) c.table.positions
-next-above p c may =
-    All-weaker (λ k. k ≤ c.entries) (λ k. k < p.position)
-    (λ k low. omega (arith, low, may.counted.entries, may.next.at)) c.table.positions
-    may.counted.latest
-
--- a write is in range
-pub next-write : (p : AtPlace) (c : Count) (w : WriteFrame) → MayCount p c → p.entry ≡ Write w →
-    IsWrite c.table.shape w
-next-write p c w may at =
-    subst (λ (shape : Shape). IsWrite shape w) (sym may.counted.same)
-    (subst (IsEntry may.shape) at may.next.in_range.entry)
 
 -- ---- it comes
 

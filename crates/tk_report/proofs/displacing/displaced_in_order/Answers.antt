@@ -1,22 +1,24 @@
 -- The entries are counted one after the other.
-use Rattle.std.proofs.Common.{◌≡◌, ◌∙◌, ◌<◌, ◌≤◌, ◌+◌, ◌++◌, ◌∷◌, [], ap, sym, arith, map, take, length}
+use Rattle.std.proofs.Common.{◌≡◌, ◌∙◌, ◌<◌, ◌≤◌, ◌+◌, ◌++◌, ◌∷◌, [], List, ap, sym, subst, arith, map}
+use Rattle.std.proofs.Common.{take, length}
 use Rattle.std.specs.Arc.{arc_value}
 use Rattle.std.specs.Prelude.{slice_index_or}
 use Rattle.std.proofs.lemmas.List.{take_all, length-map, get_or-map}
+use Rattle.tk_frames.specs.declared.entry.Placed.{Placed}
+use Rattle.tk_report.specs.Counts.{HasCounted}
 use Rattle.tk_report.specs.Displaced.{displaced_in}
-use Rattle.tk_report.proofs.CountedLaws.{counted-same}
-use Rattle.tk_report.proofs.OrderCounts.{front-none, front-next, front-ordered, front-more}
+use Rattle.tk_report.proofs.OrderCounts.{front-none, front-next, front-more}
 use Rattle.tk_report.proofs.displacing.displaced_in_order.Goals as goal
 
 pub entries-init : goal.entries-init
 entries-init c =
     let E = map (λ a. arc_value a) c.args.order.now in
-    counted-same c.args.shape.now [] (take 0 E) c.in_ok-count.count (front-none E)
+    subst (λ (ps : List Placed). HasCounted c.args.shape.now ps c.in_ok-count.count) (front-none E)
     c.in_ok-count.ensures
 
 -- the entry of the loop is the one at its place
-pub take_entry-requires : goal.take_entry-requires
-take_entry-requires c =
+pub take-requires : goal.take-requires
+take-requires c =
     let shape = c.args.shape.now in
     let order = c.args.order.now in
     let E = map (λ a. arc_value a) order in
@@ -46,10 +48,9 @@ entries-preserved c =
     c.deref.ensures ∙ ap (λ a. arc_value a) c.placed-item.is
     ∙ sym (get_or-map (λ a. arc_value a) order i c.placed-item.result p c.entries-test.true)
     in
-    counted-same shape (take i E ++ p ∷ []) (take (i + 1) E) c.take_entry.new.self
+    subst (λ (ps : List Placed). HasCounted shape ps c.take.new.self)
     (front-more shape E c.requires i p low at)
-    (c.take_entry.ensures shape (take i E) c.entries.invariant
-    (front-ordered shape E c.requires i p low at) (front-next shape E c.requires i p low at))
+    (c.take.ensures shape (take i E) c.entries.invariant (front-next shape E c.requires i p low at))
 
 pub returns : goal.returns
 returns c =
