@@ -122,12 +122,9 @@ module _ (S : Script) (b : WordBook) (paces : ArePaces S.shape) (laws : AreMembe
       came_of p i ≡ came_of pace i + one_if (i == j)) → (i : ℕ) → 1 ≤ i → i ≤ S.shape.servers →
       left_down i c ≡ drop (came_of p i) (told_to i)
   downs_left p came i first last =
-      pick (λ k. came_of p i ≡ came_of pace i + one_if k →
-      cond k (changed c rest (m.down j)) (m.down i) c ≡ drop (came_of p i) (told_to i)) (i == j)
-      (λ same more.
-      (λ k. cond (itself c k) rest (m.down j c))
-      ∙ subst (λ n. drop (came_of pace n + 1) (told_to n) ≡ drop (came_of p i) (told_to i)) (eqb-true i j same)
-      (ap (λ n. drop n (told_to i)) (sym more)))
+      at-place (λ n k. came_of p n ≡ came_of pace n + one_if k →
+      cond k (changed c rest (m.down j)) (m.down n) c ≡ drop (came_of p n) (told_to n)) j i
+      (λ more. (λ k. cond (itself c k) rest (m.down j c)) ∙ ap (λ n. drop n (told_to j)) (sym more))
       (λ other more.
       ((keeps.clients c low).links i first last).down_is
       ∙ ap (λ n. drop n (told_to i)) (omega (arith, more)))

@@ -1,13 +1,11 @@
 -- What holds of every course: the packets of each client are at a server or on their way to it, and no more
 -- frames of a server came than it told, in their order.
-use Rattle.std.proofs.Common.{◌≡◌, ◌∙◌, ◌⊎◌, inl, inr, refl, ap, sym, subst, ℕ, ◌+◌, ◌*◌, ◌/◌, ◌≤◌, ◌<◌, true}
+use Rattle.std.proofs.Common.{◌≡◌, ◌∙◌, ◌⊎◌, inl, inr, refl, ap, sym, ℕ, ◌+◌, ◌*◌, ◌/◌, ◌≤◌, ◌<◌, true}
 use Rattle.std.proofs.Common.{false, cond, arith}
 use Rattle.std.proofs.Common.{List, ◌++◌}
-use Rattle.std.specs.Prelude.{◌==◌}
-use Rattle.std.proofs.lemmas.Bool.{eqb-true}
 use Rattle.tk_shape.specs.declared.shape.Shape.{Shape}
 use Rattle.tk_meeting.proofs.Pace.{Pace, Kind, first_pace, acted, IsPace, IsIdle, ticked}
-use Rattle.tk_meeting.proofs.Pace.{sent_ahead, reply_came, epoch_came, settled}
+use Rattle.tk_meeting.proofs.Pace.{sent_ahead, reply_came, epoch_came}
 use Rattle.tk_meeting.proofs.Course.{Course, first_course, newest_by, replies_of, came_of, stream_len, goes_on}
 use Rattle.tk_meeting.proofs.courses.Picks.{at-place}
 use Rattle.tk_meeting.proofs.courses.Lengths.{over_first}
@@ -149,5 +147,6 @@ module _ (shape : Shape) (paces : ArePaces shape) where
         pace = paces.goes_ahead turns p r.pace;
         links = λ j low high.
             let l = r.links j low high in
-            linked-by c p (sent_ahead shape turns p) j (writes j) (reads j c) (kinds j) (kinds j) l.wrote l.asked refl refl l;
+            linked-by c p (sent_ahead shape turns p) j (writes j) (reads j c) (kinds j) (kinds j) l.wrote l.asked refl
+            refl l;
       }

@@ -17,7 +17,5 @@ pub itself : (k : ℕ) → (k == k) ≡ true
 itself k = eq-eqb k k refl
 
 -- a change to what stands there is none
-pub unchanged : {X : Type 0} (i : ℕ) (f : ℕ → X) (k : ℕ) (b : Bool) → (b ≡ true → f i ≡ f k) →
-    cond b (f i) (f k) ≡ f k
-unchanged i f k true same = same refl
-unchanged i f k false same = refl
+pub unchanged : {X : Type 0} (i : ℕ) (f : ℕ → X) (k : ℕ) → cond (k == i) (f i) (f k) ≡ f k
+unchanged i f k = at-place (λ n b. cond b (f i) (f n) ≡ f n) i k refl (λ _. refl)

@@ -1,19 +1,19 @@
 -- A frame of a client reaches a server, and every course stays balanced.
-use Rattle.std.proofs.Common.{◌≡◌, refl, ap, ap₂, sym, ◌∙◌, subst, ℕ, ◌+◌, ◌≤◌, ◌<◌, true, false, cond, arith, le_trans}
+use Rattle.std.proofs.Common.{◌≡◌, refl, ap, sym, ◌∙◌, ℕ, ◌+◌, ◌≤◌, ◌<◌, true, cond, arith, le_trans}
 use Rattle.std.proofs.Common.{List, [], ◌∷◌}
-use Rattle.std.specs.Prelude.{◌==◌, ◌&&◌, nat_lt, nat_le}
-use Rattle.std.proofs.lemmas.Bool.{eqb-true, and_parts, ltb-true, leb-true}
+use Rattle.std.specs.Prelude.{◌&&◌, nat_lt, nat_le}
+use Rattle.std.proofs.lemmas.Bool.{and_parts, ltb-true, leb-true}
 use Rattle.tk_shape.specs.declared.shape.Shape.{Shape}
 use Rattle.tk_meeting.specs.Events.{Event, Said, Ticked, WentAhead, Greeted, Up, Down, is_client, is_server}
 use Rattle.tk_meeting.specs.Meeting.{changed}
-use Rattle.tk_meeting.proofs.Pace.{Pace, Kind, Wrote, Asked, ticked, sent_ahead}
+use Rattle.tk_meeting.proofs.Pace.{Kind, Wrote, Asked, ticked, sent_ahead}
 use Rattle.tk_meeting.proofs.Course.{Course, first_course, newest_by, came_of, stream_len, goes_on, course_up}
 use Rattle.tk_meeting.proofs.Course.{pace_down, course_down, moves, moved, course_of}
 use Rattle.tk_meeting.proofs.courses.Acting.{wrote_in, asked_in}
 use Rattle.tk_meeting.proofs.courses.Picks.{at-place, pick, itself}
-use Rattle.tk_meeting.proofs.servers.Bumps.{newest-grows, bumped, bumped-above}
+use Rattle.tk_meeting.proofs.servers.Bumps.{newest-grows, bumped-above}
 use Rattle.tk_meeting.proofs.servers.Numbers.{length-grows}
-use Rattle.tk_meeting.proofs.courses.Balanced.{IsLinked, IsBalanced, IsBalancedAt, ArePaces}
+use Rattle.tk_meeting.proofs.courses.Balanced.{IsLinked, IsBalanced, ArePaces}
 use Rattle.tk_meeting.proofs.courses.Balanced.{first-balanced, goes_on-balanced, ticked-ready, ahead-ready}
 use Rattle.tk_meeting.proofs.courses.Coming.{down-ready}
 
@@ -77,7 +77,8 @@ module _ (c j : ℕ) (f : ℕ → ℕ → ℕ) (up : ℕ → ℕ → List Kind) 
       f i d + n (changed c (changed j left (up c)) up d i) ≡ f i d + n (up d i)
   as_before n same i d =
       at-place (λ y t. f i d + n (cond t (changed j left (up c)) (up y) i) ≡ f i d + n (up y i)) c d
-      (at-place (λ x s. f i d + n (cond s left (up c x)) ≡ f i d + n (up c x)) j i (ap (λ k. f i d + k) same) (λ _. refl))
+      (at-place (λ x s. f i d + n (cond s left (up c x)) ≡ f i d + n (up c x)) j i (ap (λ k. f i d + k) same)
+      (λ _. refl))
       (λ _. refl)
 
 pub up-balanced : (shape : Shape) (q : Course) (c j : ℕ) (kinds : List Kind) → q.up c j ≡ kinds →

@@ -3,7 +3,6 @@ use Rattle.std.proofs.Common.{◌≡◌, ◌∙◌, refl, ap, sym, subst, ℕ, �
 use Rattle.std.proofs.Common.{◌∷◌, ◌++◌}
 use Rattle.std.proofs.Common.{length}
 use Rattle.std.specs.Prelude.{◌==◌, drop}
-use Rattle.std.proofs.lemmas.Bool.{eqb-true}
 use Rattle.std.proofs.lemmas.List.{drop-append-le}
 use Rattle.tk_shape.specs.Lengths.{turn_count}
 use Rattle.tk_script.specs.declared.script.Script.{Script}
@@ -111,7 +110,7 @@ module _ (S : Script) (b : WordBook) (q : Course) (m : Meeting) (keeps : Keeps S
 
   -- no change
   stays : (f : ℕ → ℕ → ℕ) → changed j (f j) f ≡ f
-  stays f = λ i k. unchanged j f k (k == j) (λ same. ap f (sym (eqb-true k j same))) i
+  stays f = λ i k. unchanged j f k i
 
   up_by : IsBook S.shape b → (kinds : List Kind) → q.up c j ≡ kinds →
       Keeps S b (course_up q c j kinds) (comes_up S.shape m c j (m.up c j))

@@ -1,5 +1,5 @@
 -- What a host says keeps what a meeting has where its course is known.
-use Rattle.std.proofs.Common.{◌≡◌, ◌∙◌, refl, ap, sym, subst, ℕ, ◌+◌, ◌≤◌, ◌<◌, Bool, true, false, cond, arith}
+use Rattle.std.proofs.Common.{◌≡◌, ◌∙◌, refl, ap, sym, subst, ℕ, ◌+◌, ◌≤◌, ◌<◌, false, cond, arith}
 use Rattle.std.proofs.Common.{List, [], ◌∷◌, ◌++◌, filter}
 use Rattle.std.proofs.Common.{length, append-nil}
 use Rattle.std.specs.Prelude.{◌==◌, drop, Option, Some, None}
@@ -21,8 +21,7 @@ use Rattle.tk_meeting.proofs.Canonical.{stream, write_in, read_from}
 use Rattle.tk_meeting.proofs.Pace.{Pace, Paced, settled, IsIdle, ticked, sent_ahead}
 use Rattle.tk_meeting.proofs.Course.{Course, newest_by, came_of, goes_on}
 use Rattle.tk_meeting.proofs.telling.Foreseeing.{Foresees}
-use Rattle.tk_meeting.proofs.courses.Picks.{itself, unchanged}
-use Rattle.std.proofs.lemmas.Bool.{eqb-true}
+use Rattle.tk_meeting.proofs.courses.Picks.{at-place, itself, unchanged}
 use Rattle.tk_meeting.proofs.courses.Balanced.{IsReady, IsBalanced, ArePaces, ticked-ready, ahead-ready}
 use Rattle.tk_meeting.proofs.members.Hearing.{tick-readies, ahead-readies, greeted-readies, say-readies}
 use Rattle.tk_meeting.proofs.members.Hearing.{refused-readies}
@@ -39,16 +38,13 @@ idle-stays shape q c idle =
       up = changed c (λ j. q.up c j ++ t.kinds) q.up;
     }) idle
     ∙ (λ i. record q {
-      paces = λ d. unchanged c q.paces d (d == c) (λ e. ap q.paces (sym (eqb-true d c e))) i;
+      paces = λ d. unchanged c q.paces d i;
       up = λ d. kinds_stay d i;
     })
   where
-    kinds_same : (d : ℕ) (k : Bool) → (d == c) ≡ k → cond k (λ j. q.up c j ++ []) (q.up d) ≡ q.up d
-    kinds_same d true e = (λ i j. append-nil (q.up c j) i) ∙ ap q.up (sym (eqb-true d c e))
-    kinds_same d false e = refl
-
     kinds_stay : (d : ℕ) → cond (d == c) (λ j. q.up c j ++ []) (q.up d) ≡ q.up d
-    kinds_stay d = kinds_same d (d == c) refl
+    kinds_stay d =
+        at-place (λ x k. cond k (λ j. q.up c j ++ []) (q.up x) ≡ q.up x) c d (λ i j. append-nil (q.up c j) i) (λ _. refl)
 
 module _ (S : Script) (b : WordBook) (paces : ArePaces S.shape) (laws : AreMembers S b) (q : Course)
     (m : Meeting) (keeps : Keeps S b q m) (balanced : IsBalanced S.shape q) (now : Foresees S m) (c : ℕ)

@@ -4,12 +4,11 @@ use Rattle.tk_script.specs.declared.script.Script.{Script}
 use Rattle.tk_words.specs.Words.{WordBook}
 use Rattle.tk_meeting.specs.Meeting.{Meeting}
 use Rattle.tk_meeting.specs.Laws.{Tells, HasToldAll, IsSerial, MeetingsAreSerial}
-use Rattle.tk_meeting.specs.Hidden.{MeetingsLookAlike}
 use Rattle.tk_meeting.specs.Events.{met}
 use Rattle.tk_meeting.proofs.own.Meetings.{same-met}
 use Rattle.tk_meeting.proofs.gotten.Telling.{told-of, told-whole}
 use Rattle.tk_meeting.proofs.courses.Serially.{HasToldWhole, IsSerialWhole}
-use Rattle.tk_meeting.proofs.courses.Gathered.{course-balanced, meeting-keeps, meeting-serial}
+use Rattle.tk_meeting.proofs.courses.Gathered.{meeting-serial}
 
 -- log by log it tells what it tells as a whole
 told-all : (S : Script) (b : WordBook) (m : Meeting) (c : ℕ) → HasToldWhole S b m c → HasToldAll S b m c

@@ -1,8 +1,7 @@
 -- What a client told of a log is delivered: in a clear run each text as it was written, and each number that
 -- it told to be absent was rightly passed over.
-use Rattle.std.proofs.Common.{◌≡◌, refl, ap, sym, ◌∙◌, inl, inr, ℕ, ◌<◌}
-use Rattle.std.proofs.Common.{List, [], ◌∷◌, ◌++◌, slice_get, Option, Some, None}
-use Rattle.std.specs.Option.{option_or}
+use Rattle.std.proofs.Common.{◌≡◌, ap, sym, ◌∙◌, ℕ, ◌<◌}
+use Rattle.std.proofs.Common.{List, ◌++◌, slice_get, Some}
 use Rattle.std.proofs.lemmas.Option.{slice_get_within}
 use Rattle.tk_shape.specs.Lengths.{turn_count}
 use Rattle.tk_script.specs.declared.script.Script.{Script}
@@ -10,7 +9,6 @@ use Rattle.tk_words.specs.Words.{WordBook, IsBook, words_of, opened}
 use Rattle.tk_words.specs.Opening.{IsNumber}
 use Rattle.tk_words.specs.OpeningLaws.{opens_sealed}
 use Rattle.tk_frames.specs.Order.{records}
-use Rattle.tk_frames.specs.Lists.{first_some, IsIn}
 use Rattle.tk_frames.specs.Slots.{text_in}
 use Rattle.tk_frames.proofs.Offers.{contains_from_in}
 use Rattle.tk_table.specs.Table.{retained}
@@ -19,7 +17,8 @@ use Rattle.tk_client.specs.declared.got.Got.TheVariants.{Absent, Text}
 use Rattle.tk_report.specs.Entries.{entries}
 use Rattle.tk_report.specs.Report.{lookup, read_over, got_of}
 use Rattle.tk_report.specs.Delivered.{IsClear}
-use Rattle.tk_report.proofs.Offers.{retained-own, record-gives, first_some-gives, before-own, honest-passing_over, get-front}
+use Rattle.tk_report.proofs.Offers.{retained-own, record-gives, first_some-gives, before-own, get-front}
+use Rattle.tk_report.proofs.Offers.{honest-passing_over}
 use Rattle.tk_schedule.specs.Schedule.{epoch_at}
 use Rattle.tk_meeting.specs.Meeting.{Meeting}
 use Rattle.tk_meeting.specs.Events.{met}

@@ -1,7 +1,7 @@
 -- Each text that a log gave to a reader was found in some turn.
 use Rattle.std.proofs.Common.{◌≡◌, refl, ap, ap₂, sym, ◌∙◌, subst, arith, inl, inr, append_assoc, eqb-true}
-use Rattle.std.proofs.Common.{ℕ, zero, suc, ◌+◌, ◌-◌, ◌<◌, ◌==◌, Bool, true, false, cond, zero-add, suc-add}
-use Rattle.std.proofs.Common.{List, [], ◌∷◌, ◌++◌, length, map, filter, replicate, slice_get}
+use Rattle.std.proofs.Common.{ℕ, zero, suc, ◌+◌, ◌-◌, ◌<◌, ◌==◌, true, false, cond}
+use Rattle.std.proofs.Common.{List, [], ◌∷◌, ◌++◌, map, filter, replicate, slice_get}
 use Rattle.std.proofs.Common.{slice_index_or, slice_set, Option, Some, None}
 use Rattle.std.specs.List.{AllByRecursion}
 use Rattle.std.proofs.lemmas.Bool.{cases_lt}
@@ -15,7 +15,6 @@ use Rattle.tk_client.specs.declared.got.Got.TheVariants.{Absent, Text}
 use Rattle.tk_client.specs.declared.target.Target.{Target}
 use Rattle.tk_client.specs.Reader.{Follow, Reader, next_of, new_follow, untried, at_epoch, follow_at}
 use Rattle.tk_client.specs.Reader.{follow_after, after_read, target, first_got, got_in}
-use Rattle.tk_table.specs.Shown.{is_shown}
 use Rattle.tk_report.specs.Report.{lookup, follows_of, read_over, target_for, target_at, answer_for, reader_before}
 use Rattle.tk_report.specs.PassingOver.{Reads}
 use Rattle.tk_report.proofs.Offers.{target-is, shown_over, get-front, get-behind, absent_then, settled}

@@ -1,31 +1,26 @@
 -- The kinds and lengths of frames, which the shape gives.
 use Rattle.std.proofs.Common.{◌≡◌, ℕ, ◌+◌, ◌≤◌, ◌<◌, Bool, true, false, cond, List}
-use Rattle.std.proofs.Common.{length, refl, ap, sym, ◌∙◌, subst, arith, length-append, le_trans, div-mul-le_self}
-use Rattle.std.proofs.Common.{le_of_mul-le-mul_right, []}
-use Rattle.std.specs.Prelude.{slice_index, ◌==◌, nat_lt, ◌&&◌, flat_map}
-use Rattle.std.proofs.lemmas.List.{length-map, get_or_default}
+use Rattle.std.proofs.Common.{length, refl, ap, sym, ◌∙◌, subst, arith, length-append}
+use Rattle.std.proofs.Common.{[]}
+use Rattle.std.specs.Prelude.{slice_index, ◌==◌, nat_lt, ◌&&◌}
 use Rattle.std.proofs.lemmas.List.FromFn.{length-map-range_with_len}
-use Rattle.std.proofs.lemmas.List.Elements.{recursion_from_All}
 use Rattle.tk_shape.specs.declared.shape.Shape.{Shape}
 use Rattle.tk_shape.specs.Lengths.{turn_count, width, reply_len, write_len}
 use Rattle.tk_kernel.specs.Pieces.{AllSized}
 use Rattle.tk_kernel.specs.Chosen.{chosen_sum}
 use Rattle.tk_bits.proofs.Offers.{length-chosen_sum}
-use Rattle.tk_schedule.specs.Schedule.{epoch_at, phases_over}
 use Rattle.tk_schedule.proofs.Offers.{serial-IsLegal}
 use Rattle.tk_script.specs.declared.script.Script.{Script}
 use Rattle.tk_words.specs.Words.{WordBook, IsBook, shows_vectors}
 use Rattle.tk_frames.specs.declared.read_frame.ReadFrame.{ReadFrame}
 use Rattle.tk_frames.specs.declared.seeds.Seeds.TheVariants.{Plain, Seeded, Shown}
-use Rattle.tk_frames.specs.Order.{Record, before}
-use Rattle.tk_frames.specs.Slots.{slot_bytes}
+use Rattle.tk_frames.specs.Order.{before}
 use Rattle.tk_frames.specs.Faults.{read_len_of}
 use Rattle.tk_frames.specs.declared.entry.Placed.{Placed}
 use Rattle.tk_frames.specs.Spelling.{be32, read_kind, read_frame, write_frame}
 use Rattle.tk_frames.proofs.Frames.{length-write_frame}
 use Rattle.tk_frames.proofs.ReadLaws.{length-read_frame}
 use Rattle.tk_table.specs.Table.{layout, blocks_of}
-use Rattle.tk_table.proofs.Offers.{layout-read_back, layout-laid_out}
 use Rattle.tk_client.specs.Asked.{seeds_told, frame_with}
 use Rattle.tk_report.specs.Exchange.{read_at}
 use Rattle.tk_report.proofs.Offers.{epochs-ordered, epochs-storable}

@@ -1,23 +1,20 @@
 -- What was said to members whose servers lie only grows, as it does among honest servers.
-use Rattle.std.proofs.Common.{◌≡◌, refl, sym, ◌∙◌, subst, ℕ, List, [], ◌∷◌, ◌++◌, Option, Some, None}
+use Rattle.std.proofs.Common.{◌≡◌, refl, subst, ℕ, List, [], ◌∷◌, ◌++◌, Option, Some, None}
 use Rattle.std.specs.Prelude.{Result, Ok, Err}
 use Rattle.tk_shape.specs.declared.shape.Shape.{Shape}
 use Rattle.tk_script.specs.declared.script.Script.{Script}
 use Rattle.tk_words.specs.Words.{WordBook}
 use Rattle.tk_client.specs.declared.say_error.SayError.{SayError}
 use Rattle.tk_member.specs.declared.fault.Fault.{Fault}
-use Rattle.tk_member.specs.declared.fault.Fault.TheVariants.{Peer}
-use Rattle.tk_member.specs.Steps.{served}
-use Rattle.tk_member.specs.declared.word.HostWord.TheVariants.{Say, Tick, Ahead, Has}
 use Rattle.tk_member.specs.Members.{MemberState}
 use Rattle.tk_member.specs.Acting.{Turned}
 use Rattle.tk_meeting.specs.Meeting.{Meeting, Saying, opening, member_went}
-use Rattle.tk_meeting.specs.Events.{noted, say_fault, unless_ended, is_client, is_server}
+use Rattle.tk_meeting.specs.Events.{noted, say_fault}
 use Rattle.tk_meeting.specs.Laws.{Tells}
-use Rattle.tk_meeting.proofs.telling.Rising.{RisesIn, cond-has, goes-rises}
+use Rattle.tk_meeting.proofs.telling.Rising.{RisesIn, goes-rises}
 use Rattle.tk_meeting.proofs.telling.Growing.{Grows, grows-none, grows-next, grows-noted, grows-went}
 use Rattle.tk_meeting.proofs.telling.Foreseeing.{Foresees, foresees-by}
-use Rattle.tk_meeting.specs.Lying.{Deed, Says, Ticks, GoesAhead, Claims, Sends, Answers, doer, Hidden, answer_to}
+use Rattle.tk_meeting.specs.Lying.{Deed, Says, Ticks, GoesAhead, Claims, Sends, Answers, doer, Hidden}
 use Rattle.tk_meeting.specs.Lying.{member_does, said_more, said_after, went_on, does, after_deeds, lied}
 use Rattle.tk_meeting.proofs.lying.Outcomes.{does_writing, deed-readies}
 use Rattle.tk_meeting.proofs.telling.Ways.{client-has}

@@ -1,30 +1,24 @@
 -- A member keeps the read that it has open, closes it, or opens that of the next turn.
-use Rattle.std.proofs.Common.{◌≡◌, refl, sym, ◌∙◌, subst, arith, inl, inr, ℕ, zero, suc, ◌+◌, ◌-◌, ◌≤◌, ◌<◌, Bool}
+use Rattle.std.proofs.Common.{◌≡◌, refl, sym, ◌∙◌, subst, arith, inl, inr, ℕ, ◌+◌, ◌-◌, ◌≤◌, ◌<◌, Bool}
 use Rattle.std.proofs.Common.{true, false, cond}
-use Rattle.std.proofs.Common.{List, [], Option, Some, None}
-use Rattle.std.specs.Prelude.{◌⊎◌, nat_lt, nat_le, ◌&&◌, ◌==◌, slice_index, Result, Ok, Err}
+use Rattle.std.proofs.Common.{List, Option, Some, None}
+use Rattle.std.specs.Prelude.{◌⊎◌, nat_lt, nat_le, ◌&&◌, Result, Ok, Err}
 use Rattle.std.specs.Option.{is_none}
 use Rattle.std.proofs.lemmas.Bool.{and_parts, ltb-true}
 use Rattle.tk_shape.specs.declared.shape.Shape.{Shape}
 use Rattle.tk_shape.specs.Lengths.{turn_count}
 use Rattle.tk_words.specs.Words.{WordBook, BookWords, words_of}
 use Rattle.tk_client.specs.declared.open_read.OpenRead.{OpenRead}
-use Rattle.tk_client.specs.declared.say_error.SayError.{SayError}
-use Rattle.tk_client.specs.declared.take_error.TakeError.{TakeError}
 use Rattle.tk_client.specs.Writing.{Writing}
-use Rattle.tk_client.specs.Saying.{fault_of}
-use Rattle.tk_client.specs.Client.{refusal_in}
 use Rattle.tk_member.specs.declared.fault.Fault.{Fault}
-use Rattle.tk_member.specs.declared.fault.Fault.TheVariants.{Peer, Refused, Older}
+use Rattle.tk_member.specs.declared.fault.Fault.TheVariants.{Peer}
 use Rattle.tk_member.specs.declared.word.HostWord.{HostWord}
 use Rattle.tk_member.specs.declared.word.HostWord.TheVariants.{Say, Tick, Ahead, Has}
-use Rattle.tk_member.specs.Epochs.{Telling, with_epoch}
 use Rattle.tk_member.specs.Members.{MemberState, known_to}
-use Rattle.tk_member.specs.Acting.{Turned, after_turn, wrote, goes_ahead, goes_by_ticks, may_ask, asks, unmoved}
+use Rattle.tk_member.specs.Acting.{Turned, goes_ahead, goes_by_ticks, may_ask, asks, unmoved}
 use Rattle.tk_member.specs.Acting.{asks_if_due, ahead_due, ticks_due, epoch_due, acts}
-use Rattle.tk_member.specs.Steps.{tells_and_acts, counted_up, said, heard, all_of, settled, settled_by, with_reply}
-use Rattle.tk_member.specs.Steps.{replied}
-use Rattle.tk_member.specs.Steps.{told_epoch, served, after_settling}
+use Rattle.tk_member.specs.Steps.{heard}
+use Rattle.tk_member.specs.Steps.{served}
 use Rattle.tk_meeting.specs.Lying.{Deed, Says, Ticks, GoesAhead, Claims, Sends, Answers}
 use Rattle.tk_meeting.specs.Events.{is_server}
 use Rattle.tk_meeting.specs.Shown.{Stand, stand, word_shown, frame_shown}

@@ -18,7 +18,7 @@ use Rattle.tk_meeting.proofs.Standing.{IsForetold}
 use Rattle.tk_meeting.proofs.telling.Foreseeing.{ForeseesOf}
 use Rattle.tk_meeting.proofs.members.Hearing.{said-one}
 use Rattle.tk_meeting.proofs.courses.Picks.{itself}
-use Rattle.tk_meeting.specs.Shown.{Stand, stand}
+use Rattle.tk_meeting.specs.Shown.{stand}
 use Rattle.tk_meeting.specs.Lying.{Deed, Says, Ticks, GoesAhead, Claims, Sends, Answers, doer, said_more, said_after}
 use Rattle.tk_meeting.proofs.shown.Steps.{written_then, acts-written, ahead_of}
 use Rattle.tk_meeting.proofs.members.Writing.{queue}

@@ -19,10 +19,10 @@ use Rattle.tk_meeting.proofs.lying.Books.{IsOf, ShowAlike}
 use Rattle.tk_meeting.proofs.telling.Foreseeing.{ForeseesOf}
 use Rattle.tk_meeting.proofs.members.Packets.{AreToHost, frames-append, host-alone}
 use Rattle.tk_meeting.proofs.members.Writing.{packets_in, packets_on}
-use Rattle.tk_meeting.proofs.shown.Steps.{gone_ahead, gone_by_ticks, acted, acts-stands, ahead_of, ticks_of, written_then}
-use Rattle.tk_meeting.proofs.members.Writing.{queue}
+use Rattle.tk_meeting.proofs.shown.Steps.{gone_ahead, gone_by_ticks, acted, acts-stands, ahead_of, ticks_of}
+use Rattle.tk_meeting.proofs.shown.Steps.{written_then}
 use Rattle.tk_meeting.proofs.members.Acts.{Written}
-use Rattle.tk_meeting.proofs.lying.Speaks.{Speaks, within_then, written-so, speaks-then}
+use Rattle.tk_meeting.proofs.lying.Speaks.{Speaks, within_then, written-so}
 use Rattle.tk_meeting.proofs.lying.Asks.{asks-alike}
 
 module _ (A B : Script) (h : Hidden) (a b : WordBook) (pairs others : Pairs)

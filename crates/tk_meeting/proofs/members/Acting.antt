@@ -1,5 +1,5 @@
 -- What a member does when it acts is what is due at its pace.
-use Rattle.std.proofs.Common.{[], ◌≡◌, refl, sym, ap, ap₂, ◌∙◌, subst, arith, ℕ, zero, suc, ◌+◌, ◌-◌, ◌*◌, ◌≤◌}
+use Rattle.std.proofs.Common.{[], ◌≡◌, refl, sym, ap, ap₂, ◌∙◌, subst, arith, ℕ, ◌+◌, ◌-◌, ◌*◌, ◌≤◌}
 use Rattle.std.proofs.Common.{◌<◌, Bool, List, ◌++◌, map, filter, append-nil}
 use Rattle.std.specs.Prelude.{min}
 use Rattle.tk_shape.specs.Lengths.{turn_count}
@@ -7,19 +7,20 @@ use Rattle.tk_script.specs.declared.script.Script.{Script}
 use Rattle.tk_words.specs.Words.{WordBook, words_of}
 use Rattle.tk_packets.specs.Packets.{PacketView}
 use Rattle.tk_member.specs.Members.{MemberState}
-use Rattle.tk_member.specs.Acting.{Turned, behind, followed_by, wrote, goes_ahead, goes_by_ticks, ticks_due}
+use Rattle.tk_member.specs.Acting.{Turned, behind, followed_by, goes_ahead, goes_by_ticks}
 use Rattle.tk_member.specs.Acting.{asks_if_due, acts}
 use Rattle.tk_member.specs.Steps.{tells_and_acts}
 use Rattle.tk_meeting.specs.Meeting.{Saying, for_peer, frames_for}
 use Rattle.tk_meeting.specs.Shown.{stand}
-use Rattle.tk_meeting.specs.Laws.{sayings, tells_read}
+use Rattle.tk_meeting.specs.Laws.{tells_read}
 use Rattle.tk_meeting.proofs.Pace.{Pace, IsPace, acted, asks_now, count_ahead, count_ticks, gone_ahead}
 use Rattle.tk_meeting.proofs.Standing.{IsAt, IsForetold, Goes, said_on, frames_of}
 use Rattle.tk_meeting.proofs.members.Members.{member_at, at-is, at-from}
 use Rattle.tk_meeting.proofs.members.Paces.{written_on, asked_on, acted-pace, acted-kinds, written-pace}
 use Rattle.tk_meeting.proofs.members.Paces.{acted-written}
 use Rattle.tk_meeting.proofs.members.Packets.{AreToHost, peer-append, frames-append, host-own, host-alone}
-use Rattle.tk_meeting.proofs.members.Writing.{turned_at, turned_with, queue, packets_on, frames-on, host-on, frames-then}
+use Rattle.tk_meeting.proofs.members.Writing.{turned_at, turned_with, queue, packets_on, frames-on, host-on}
+use Rattle.tk_meeting.proofs.members.Writing.{frames-then}
 use Rattle.tk_meeting.proofs.members.Acts.{both-go, said-both}
 use Rattle.tk_meeting.proofs.shown.Steps.{ticks_of}
 use Rattle.tk_meeting.proofs.members.Asking.{known-is, asks-go, packets_by, frames-by, host-by}

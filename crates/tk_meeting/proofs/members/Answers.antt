@@ -1,33 +1,27 @@
 -- What the replies of all servers to a client's read give is what is looked up for its target.
-use Rattle.std.proofs.Common.{[], ◌≡◌, refl, None, ap, ap₂, sym, subst, ◌∙◌, arith, ℕ, ◌+◌, ◌<◌, ◌≤◌, List, ◌∷◌}
-use Rattle.std.proofs.Common.{◌++◌, length, map, Option, Some, cond, length-append, div-mul-le_self, le_trans}
-use Rattle.std.proofs.Common.{le_of_mul-le-mul_right}
+use Rattle.std.proofs.Common.{[], ◌≡◌, refl, None, ap, ap₂, sym, ◌∙◌, arith, ℕ, ◌+◌, ◌<◌, List, ◌∷◌}
+use Rattle.std.proofs.Common.{◌++◌, length, map, Option, Some, cond, length-append}
 use Rattle.std.specs.Option.{option_or, option_map}
 use Rattle.std.specs.List.{AllByRecursion, range_with_len}
 use Rattle.std.proofs.lemmas.Bool.{eq-eqb}
-use Rattle.std.proofs.lemmas.List.{length-map}
-use Rattle.std.proofs.lemmas.List.Elements.{recursion_from_All, All-from_get_or}
 use Rattle.tk_shape.specs.declared.shape.Shape.{Shape}
 use Rattle.tk_shape.specs.Lengths.{width, turn_count, reply_len}
-use Rattle.tk_kernel.specs.Xor.{xor_all}
 use Rattle.tk_kernel.specs.Chosen.{chosen_sum}
 use Rattle.tk_bits.proofs.Offers.{length-chosen_sum}
-use Rattle.tk_words.specs.Words.{WordBook, words_of, opened as opens_to, fresh_vectors, IsBook}
+use Rattle.tk_words.specs.Words.{WordBook, words_of, fresh_vectors, IsBook}
 use Rattle.tk_frames.specs.declared.read_frame.ReadFrame.{ReadFrame}
 use Rattle.tk_frames.specs.declared.reply_frame.ReplyFrame.{ReplyFrame}
 use Rattle.tk_frames.specs.Faults.{first_fault, reply_checks}
 use Rattle.tk_frames.specs.Ranges.{IsRead, IsReply}
 use Rattle.tk_frames.specs.Spelling.{reply_frame}
 use Rattle.tk_frames.specs.Order.{Record}
-use Rattle.tk_frames.specs.Slots.{slots_in, text_among}
 use Rattle.tk_frames.proofs.Offers.{asked_passes}
 use Rattle.tk_table.specs.Ordered.{AreOrdered}
 use Rattle.tk_table.specs.Stands.{IsPair}
 use Rattle.tk_table.specs.Table.{layout}
 use Rattle.tk_bucket.specs.Bytes.{blocks_of}
-use Rattle.tk_table.specs.Laws.{IsStorable, block_at}
+use Rattle.tk_table.specs.Laws.{IsStorable}
 use Rattle.tk_table.specs.Replies.{reply_to}
-use Rattle.tk_table.proofs.Offers.{layout-laid_out, layout-read_back, layout-as_read}
 use Rattle.tk_schedule.specs.Schedule.{phases_over, epoch_at}
 use Rattle.tk_schedule.proofs.Offers.{serial-IsLegal}
 use Rattle.tk_script.specs.declared.script.Script.{Script}
@@ -41,7 +35,7 @@ use Rattle.tk_client.specs.Replies.{answer_in, frames_in, first_joined, second_j
 use Rattle.tk_client.specs.Replies.{first_other, other_name}
 use Rattle.tk_client.proofs.Offers.{frames_in-spelled, asked-in_range, pair-in_range, fresh-whole}
 use Rattle.tk_report.specs.Exchange.{read_at}
-use Rattle.tk_report.specs.Report.{lookup, answered, read_over, target_at, reader_before}
+use Rattle.tk_report.specs.Report.{answered, read_over, target_at, reader_before}
 use Rattle.tk_report.proofs.Offers.{before-next, epochs-ordered, epochs-storable, epoch-most}
 use Rattle.tk_report.proofs.Offers.{map_same, map-map, blocks-whole, text-taken, asked-read_at}
 use Rattle.tk_meeting.proofs.Canonical.{serial, read_from, reply_in}

@@ -18,10 +18,9 @@ use Rattle.tk_table.specs.Shown.{is_shown}
 use Rattle.tk_packets.specs.Packets.{PacketView}
 use Rattle.tk_client.specs.declared.target.Target.{Target}
 use Rattle.tk_client.specs.declared.open_read.OpenRead.{OpenRead}
-use Rattle.tk_client.specs.Asked.{asked, frame_for, shown_by}
+use Rattle.tk_client.specs.Asked.{asked, shown_by}
 use Rattle.tk_client.specs.Reader.{Reader, target, at_epoch}
 use Rattle.tk_client.specs.Client.{target_over}
-use Rattle.tk_report.specs.Exchange.{read_at, read_pair}
 use Rattle.tk_report.specs.Report.{target_at, reader_before, read_over}
 use Rattle.tk_member.specs.Epochs.{filter_of, marks_at, epochs_in, known, least_of, Marks}
 use Rattle.tk_member.specs.Acting.{Turned, packets_from, may_ask, asks, asks_if_due, unmoved}

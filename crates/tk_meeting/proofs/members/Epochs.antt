@@ -4,7 +4,7 @@ use Rattle.std.proofs.Common.{List, ◌∷◌, ◌++◌, length, map, true, cond
 use Rattle.std.specs.Prelude.{nat_lt, ◌==◌, ◌&&◌, slice_set, slice_index, Result, Ok, Err}
 use Rattle.std.specs.Option.{option_or}
 use Rattle.std.specs.List.{range_with_len}
-use Rattle.std.proofs.lemmas.Bool.{cases_lt, lt-ltb, eq-eqb, ne_eqb, and_from}
+use Rattle.std.proofs.lemmas.Bool.{cases_lt, lt-ltb, eq-eqb, and_from}
 use Rattle.std.proofs.lemmas.Nat.{from_be_bytes-to_be_bytes_4}
 use Rattle.std.proofs.lemmas.List.FromFn.{length-map-range_with_len, get_or-map-range_with_len}
 use Rattle.std.proofs.lemmas.List.FromFn.{map-range_with_len_more}

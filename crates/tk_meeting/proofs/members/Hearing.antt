@@ -1,5 +1,5 @@
 -- What becomes of a member when its host tells it something.
-use Rattle.std.proofs.Common.{[], ◌≡◌, refl, ap, ap₂, ◌∙◌, arith, ℕ, ◌+◌, ◌≤◌, List, ◌∷◌, ◌++◌, cond, Some, None}
+use Rattle.std.proofs.Common.{[], ◌≡◌, refl, ap, ◌∙◌, arith, ℕ, ◌+◌, ◌≤◌, List, ◌∷◌, ◌++◌, cond, Some, None}
 use Rattle.std.specs.Prelude.{min, Err}
 use Rattle.std.proofs.lemmas.Bool.{le-ltb}
 use Rattle.tk_shape.specs.Lengths.{turn_count}
@@ -90,7 +90,8 @@ module _ {S : Script} {b : WordBook} {c : ℕ} {p : Pace} {saids : List Saying} 
         is = refl;
         at =
             at-from
-            (ap (λ (x : MemberState). record x { ahead = min (x.ahead + turns) (turn_count x.client.shape) }) (at-is at));
+            (ap (λ (x : MemberState). record x { ahead = min (x.ahead + turns) (turn_count x.client.shape) })
+            (at-is at));
         to_host = tt;
         host = refl;
       }

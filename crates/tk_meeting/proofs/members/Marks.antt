@@ -1,6 +1,6 @@
 -- The marks that servers tell of an epoch show what the writes before its mark do.
 use Rattle.std.proofs.Common.{[], ◌≡◌, refl, sym, ap, ◌∙◌, subst, arith, ℕ, zero, suc, ◌+◌, ◌-◌, ◌*◌, ◌%◌, ◌≤◌}
-use Rattle.std.proofs.Common.{◌<◌, Bool, false, List, ◌∷◌, ◌++◌, map, cond, length, drop, mod-lt, Option}
+use Rattle.std.proofs.Common.{◌<◌, Bool, false, List, ◌∷◌, map, cond, length, drop, mod-lt, Option}
 use Rattle.std.proofs.Common.{Some, None, inl, inr}
 use Rattle.std.specs.Prelude.{replicate, slice_index_or, All, ◌==◌, option_map}
 use Rattle.std.specs.List.{range_with_len, AllByRecursion, list_any}

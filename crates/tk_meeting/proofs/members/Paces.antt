@@ -1,7 +1,7 @@
 -- How the pace of a client goes on: it stays one that there is.
 use Rattle.std.proofs.Common.{[], ◌≡◌, refl, sym, ap, ◌∙◌, subst, arith, ℕ, zero, suc, ◌+◌, ◌-◌, ◌≤◌, ◌<◌, Bool}
 use Rattle.std.proofs.Common.{true, false, List, ◌∷◌, ◌++◌, map, cond}
-use Rattle.std.specs.Prelude.{nat_le, nat_lt, not, ◌&&◌, ◌==◌, replicate}
+use Rattle.std.specs.Prelude.{nat_le, nat_lt, not, ◌&&◌, replicate}
 use Rattle.std.specs.List.{range_with_len, list_all}
 use Rattle.std.proofs.lemmas.Bool.{true≢false, false≢true, ltb-true, leb-true, and_parts}
 use Rattle.tk_shape.specs.declared.shape.Shape.{Shape}
@@ -13,6 +13,7 @@ use Rattle.tk_meeting.proofs.Pace.{Pace, Paced, Kind, Wrote, Asked, IsPace, firs
 use Rattle.tk_meeting.proofs.Pace.{count_ahead, count_ticks, gone_ahead, gone_by_ticks, asks_now, has_asked}
 use Rattle.tk_meeting.proofs.Pace.{ticked, sent_ahead, with_reply_of, all_replied, closed, reply_came}
 use Rattle.tk_meeting.proofs.Pace.{epoch_came}
+use Rattle.tk_meeting.proofs.courses.Picks.{at-place}
 
 -- all writes that are due are done
 abbrev pub written_on : Shape → Pace → Pace
@@ -203,20 +204,15 @@ pub more-known : (top j n : ℕ) (f : ℕ → ℕ) (js : List ℕ) → f j ≤ n
 more-known top j n f [] more = omega arith
 more-known top j n f (k ∷ js) more =
     let rest = more-known top j n f js more in
-    let here : f k ≤ changed j n f k = here-more (k == j) refl in
+    let here : f k ≤ changed j n f k =
+    at-place (λ i b. f i ≤ cond b n (f i)) j k more (λ _. omega arith)
+    in
     omega (arith, rest, here)
-  where
-    here-more : (b : Bool) → (k == j) ≡ b → f k ≤ cond b n (f k)
-    here-more true e = let same : k ≡ j = grind (arith, e) in omega (arith, more, ap f same)
-    here-more false e = omega arith
 
 one-within : (shape : Shape) (j n : ℕ) (f : ℕ → ℕ) → n ≤ shape.phases →
     ((k : ℕ) → f k ≤ shape.phases) → (k : ℕ) → changed j n f k ≤ shape.phases
-one-within shape j n f low all k = both (k == j)
-  where
-    both : (b : Bool) → cond b n (f k) ≤ shape.phases
-    both true = low
-    both false = all k
+one-within shape j n f low all k =
+    at-place (λ i b. cond b n (f i) ≤ shape.phases) j k low (λ _. all k)
 
 pub pace-epoch : (shape : Shape) (j : ℕ) (p : Pace) → IsPace shape p → p.epochs j < shape.phases →
     IsPace shape (epoch_came j p)

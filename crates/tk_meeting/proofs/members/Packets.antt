@@ -1,5 +1,5 @@
 -- Packets to several peers: those for one of them.
-use Rattle.std.proofs.Common.{[], ◌≡◌, refl, ap, ◌∙◌, arith, ℕ, suc, ◌+◌, ◌-◌, ◌≤◌, ◌<◌, true, false, List, ◌∷◌}
+use Rattle.std.proofs.Common.{[], ◌≡◌, refl, ap, ◌∙◌, arith, ℕ, suc, ◌+◌, ◌-◌, ◌≤◌, ◌<◌, false, List, ◌∷◌}
 use Rattle.std.proofs.Common.{◌++◌, length, map, get_or, cond, inl, inr}
 use Rattle.std.specs.Prelude.{◌==◌}
 use Rattle.std.specs.List.{range_with_len, AllByRecursion}

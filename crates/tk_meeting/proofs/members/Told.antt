@@ -1,5 +1,5 @@
 -- What a member tells its host of its reads: each packet is for its host, and none is of a refused text.
-use Rattle.std.proofs.Common.{[], ◌≡◌, refl, ap, ◌∙◌, ℕ, ◌+◌, true, List, ◌∷◌, ◌++◌, filter, flat_map, cond}
+use Rattle.std.proofs.Common.{[], ◌≡◌, refl, ap, ◌∙◌, ℕ, ◌+◌, true, List, ◌∷◌, filter, flat_map, cond}
 use Rattle.std.specs.List.{AllByRecursion, range_with_len}
 use Rattle.tk_shape.specs.declared.shape.Shape.{Shape}
 use Rattle.tk_client.specs.declared.got.Got.{Got}

@@ -1,8 +1,7 @@
 -- A group in which each client has a book of its own does what one does that has one book.
-use Rattle.std.proofs.Common.{◌≡◌, refl, ap, sym, ◌∙◌, subst, ltb-true, ℕ, ◌<◌, Bool, true, false, cond}
+use Rattle.std.proofs.Common.{◌≡◌, refl, ap, ◌∙◌, ltb-true, ℕ, ◌<◌, Bool, true, false, cond}
 use Rattle.std.proofs.Common.{List, [], ◌∷◌, Option, Some, None}
-use Rattle.std.specs.Prelude.{◌==◌, ◌&&◌, Result, Ok, Err}
-use Rattle.std.proofs.lemmas.Bool.{eqb-true}
+use Rattle.std.specs.Prelude.{◌&&◌, Result, Ok, Err}
 use Rattle.tk_script.specs.declared.script.Script.{Script}
 use Rattle.tk_words.specs.Words.{WordBook}
 use Rattle.tk_client.specs.declared.say_error.SayError.{SayError}
@@ -19,6 +18,7 @@ use Rattle.tk_meeting.specs.OwnBooks.{HaveKeys}
 use Rattle.tk_meeting.proofs.own.Clients.{IsOwn}
 use Rattle.tk_meeting.proofs.own.Steps.{GoesOn, StepsAlike, heard-alike, served-alike}
 use Rattle.tk_meeting.proofs.own.Openings.{opening-own}
+use Rattle.tk_meeting.proofs.courses.Picks.{at-place}
 
 -- each client uses its own logs alone
 abbrev AllOwn : Script → Meeting → Type 0
@@ -27,12 +27,8 @@ AllOwn S m = (c : ℕ) → c < S.shape.clients → IsOwn S c (m.members c).clien
 went-own : (S : Script) (m : Meeting) (c : ℕ) (r : Result Turned Fault) → AllOwn S m → GoesOn S c r →
     AllOwn S (member_went m c r)
 went-own S m c (Err fault) all goes = all
-went-own S m c (Ok t) all goes = λ d low. by d (d == c) refl (all d low)
-  where
-    by : (d : ℕ) (b : Bool) → (d == c) ≡ b → IsOwn S d (m.members d).client →
-        IsOwn S d (cond b t.member (m.members d)).client
-    by d true same own = subst (λ (k : ℕ). IsOwn S k t.member.client) (sym (eqb-true d c same)) goes
-    by d false other own = own
+went-own S m c (Ok t) all goes =
+    λ d low. at-place (λ x k. IsOwn S x (cond k t.member (m.members x)).client) c d goes (λ _. all d low)
 
 module _ (S : Script) (b : WordBook) (books : ℕ → WordBook) (keys : HaveKeys S b books) where
   abbrev one : ℕ → WordBook

@@ -1,6 +1,6 @@
 -- What a reader reads is the same by its client's own book: it looks at numbers of followed logs alone.
 use Rattle.std.proofs.Common.{◌≡◌, refl, ap, ap₂, sym, subst, arith}
-use Rattle.std.proofs.Common.{ℕ, zero, suc, ◌+◌, ◌-◌, ◌≤◌, ◌<◌, Bool, true, false, cond, List, [], ◌∷◌, ◌++◌, length}
+use Rattle.std.proofs.Common.{ℕ, zero, suc, ◌+◌, ◌-◌, ◌≤◌, ◌<◌, Bool, true, false, cond, List, [], ◌∷◌, length}
 use Rattle.std.proofs.Common.{map, Option, Some, None}
 use Rattle.std.specs.Prelude.{nat_lt, ◌==◌, ◌&&◌, find, option_map, slice_set, ◌%◌}
 use Rattle.std.specs.Option.{option_or}

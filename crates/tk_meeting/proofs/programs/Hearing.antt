@@ -1,8 +1,8 @@
 -- What each event of a member does is what its packet does.
-use Rattle.std.proofs.Common.{◌≡◌, ◌∙◌, refl, ap, ap₂, sym, subst, arith, ℕ, ◌+◌, ◌≤◌, ◌<◌, Bool, true, false, cond}
+use Rattle.std.proofs.Common.{◌≡◌, ◌∙◌, refl, ap, ap₂, sym, subst, arith, ℕ, ◌+◌, ◌≤◌, ◌<◌, Bool, cond}
 use Rattle.std.proofs.Common.{List, [], ◌∷◌, ◌++◌}
-use Rattle.std.specs.Prelude.{◌==◌, nat_le, Option, Some, None, Err}
-use Rattle.std.proofs.lemmas.Bool.{eqb-true, eq-eqb, ne_eqb, le-leb}
+use Rattle.std.specs.Prelude.{nat_le, Option, Some, None, Err}
+use Rattle.std.proofs.lemmas.Bool.{eq-eqb, ne_eqb, le-leb}
 use Rattle.tk_shape.specs.declared.shape.Shape.{Shape}
 use Rattle.tk_script.specs.declared.script.Script.{Script}
 use Rattle.tk_words.specs.Words.{WordBook}
@@ -23,7 +23,7 @@ use Rattle.tk_meeting.proofs.courses.Picks.{at-place}
 use Rattle.tk_meeting.proofs.programs.Shapes.{shape-after}
 use Rattle.tk_meeting.proofs.programs.Doings.{one_more}
 use Rattle.tk_meeting.proofs.programs.Standing.{IsAt, served_of}
-use Rattle.tk_meeting.proofs.programs.Serving.{link-same, there-own, there-other, is-client, is-server}
+use Rattle.tk_meeting.proofs.programs.Serving.{link-same, there-other, is-client, is-server}
 use Rattle.tk_meeting.proofs.programs.Taking.{IsLike, member-steps}
 
 step-hears : (b : WordBook) (m : MemberState) (p : PacketView) (word : HostWord) → p.peer ≡ 0 →

@@ -2,14 +2,12 @@
 use Rattle.std.proofs.Common.{◌≡◌, ◌∙◌, refl, ap, sym, subst, ℕ, ◌+◌, ◌≤◌, ◌<◌, cond}
 use Rattle.std.proofs.Common.{List, [], ◌∷◌, ◌++◌, length, append_assoc, append-nil, inl, inr}
 use Rattle.std.specs.Prelude.{Some, None}
-use Rattle.tk_shape.specs.declared.shape.Shape.{Shape}
 use Rattle.tk_script.specs.declared.script.Script.{Script}
 use Rattle.tk_words.specs.Words.{WordBook}
 use Rattle.tk_packets.specs.Packets.{PacketView}
 use Rattle.tk_packets.specs.Lines.{Took, Put}
 use Rattle.tk_serve.specs.Seats.{Seat, seat_of, empty_seats}
-use Rattle.tk_serve.specs.Steps.{seats_after, step_on}
-use Rattle.tk_serve.specs.Courses.{seats_next}
+use Rattle.tk_serve.specs.Steps.{seats_after}
 use Rattle.tk_member.specs.declared.word.HostWord.{HostWord}
 use Rattle.tk_member.specs.declared.word.HostWord.TheVariants.{Say, Tick, Ahead, Has}
 use Rattle.tk_member.specs.Words.{word_in}
@@ -18,7 +16,7 @@ use Rattle.tk_meeting.specs.Meeting.{Meeting, opening, for_peer, frames_for}
 use Rattle.tk_meeting.specs.Events.{Event, Said, Ticked, WentAhead, Greeted, Up, Down, happens, after_events, met, taken_of}
 use Rattle.tk_meeting.specs.Programs.{Doing, OfClient, OfServer, of_client, of_server, put_in, first_member}
 use Rattle.tk_meeting.specs.Programs.{IsFront, IsNext, IsFrameUp, IsFrameDown}
-use Rattle.tk_meeting.specs.Programs.{IsHonest, MayCome, ArePrograms, state_after}
+use Rattle.tk_meeting.specs.Programs.{IsHonest, MayCome, ArePrograms}
 use Rattle.tk_meeting.specs.Programs.{Shows, IsSomeMeeting, ProgramsMeet}
 use Rattle.tk_meeting.proofs.courses.Picks.{itself}
 use Rattle.tk_meeting.proofs.telling.Growing.{after-append}

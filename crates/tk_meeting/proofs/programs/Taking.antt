@@ -2,7 +2,6 @@
 use Rattle.std.proofs.Common.{◌≡◌, ◌∙◌, refl, ap, ap₂, sym, subst, ℕ, ◌+◌, ◌≤◌, ◌<◌, false, cond}
 use Rattle.std.proofs.Common.{List, [], ◌∷◌, ◌++◌, append_assoc, append-nil}
 use Rattle.std.specs.Prelude.{◌==◌, Option, Some, None, Result, Ok, Err}
-use Rattle.std.proofs.lemmas.Bool.{eqb-true}
 use Rattle.tk_script.specs.declared.script.Script.{Script}
 use Rattle.tk_words.specs.Words.{WordBook}
 use Rattle.tk_packets.specs.Packets.{PacketView}
@@ -48,15 +47,15 @@ went m c (Ok t) =
 went m c (Err e) =
     record {
       members = λ k.
-          sym (unchanged c m.members k (k == c) (λ same. ap m.members (sym (eqb-true k c same))));
+          sym (unchanged c m.members k);
       told = λ k.
           sym
           (ap (λ xs. cond (k == c) xs (m.told k)) (append-nil (m.told c))
-          ∙ unchanged c m.told k (k == c) (λ same. ap m.told (sym (eqb-true k c same))));
+          ∙ unchanged c m.told k);
       up = λ k j.
           sym
           (ap (λ xs. cond (k == c) xs (m.up k j)) (append-nil (m.up c j))
-          ∙ unchanged c (λ n. m.up n j) k (k == c) (λ same. ap (λ n. m.up n j) (sym (eqb-true k c same))));
+          ∙ unchanged c (λ n. m.up n j) k);
       seats = refl;
       down = refl;
       apart = λ k other. ap (λ b. cond b (Some e) (m.ended k)) other;

@@ -1,35 +1,27 @@
 -- A member that acted has nothing due, and put to each server as many frames as it wrote and asked.
 use Rattle.std.proofs.Common.{◌≡◌, refl, sym, ap, ap₂, ◌∙◌, subst, arith, ℕ, zero, suc, ◌+◌, ◌-◌, ◌≤◌, ◌<◌, Bool, true, false, cond}
-use Rattle.std.proofs.Common.{List, [], ◌∷◌, ◌++◌, length, map, min, length-append, inl, inr}
-use Rattle.std.specs.Prelude.{Option, Some, None, Result, Ok, Err, nat_le, nat_lt, ◌&&◌, ◌==◌, ◌||◌, ◌*◌, replicate}
-use Rattle.std.specs.Prelude.{slice_index, slice_index_or}
-use Rattle.std.specs.Option.{is_none, is_some}
-use Rattle.std.proofs.lemmas.Bool.{cases_lt, ne_eqb, eq-eqb}
+use Rattle.std.proofs.Common.{List, [], ◌++◌, length, map, min, length-append, inl, inr}
+use Rattle.std.specs.Prelude.{Result, Ok, Err, nat_le, nat_lt, ◌&&◌, ◌==◌, ◌*◌, replicate}
 use Rattle.std.proofs.lemmas.List.{length-map, length-replicate}
 use Rattle.tk_shape.specs.declared.shape.Shape.{Shape}
 use Rattle.tk_shape.specs.Lengths.{turn_count}
 use Rattle.tk_frames.specs.Spelling.{read_frame}
 use Rattle.tk_words.specs.Words.{WordBook, BookWords, words_of}
-use Rattle.tk_client.specs.declared.say_error.SayError.{SayError}
-use Rattle.tk_client.specs.declared.take_error.TakeError.{TakeError}
 use Rattle.tk_client.specs.Asked.{asked}
 use Rattle.tk_client.specs.Writing.{Writing}
-use Rattle.tk_client.specs.Client.{after_replies, refusal_in, target_over}
+use Rattle.tk_client.specs.Client.{target_over}
 use Rattle.tk_client.proofs.Offers.{length-asked}
-use Rattle.tk_packets.specs.Packets.{PacketView, packet}
+use Rattle.tk_packets.specs.Packets.{PacketView}
 use Rattle.tk_member.specs.declared.fault.Fault.{Fault}
-use Rattle.tk_member.specs.declared.fault.Fault.TheVariants.{Peer, Refused, Older}
-use Rattle.tk_member.specs.declared.word.HostWord.{HostWord}
-use Rattle.tk_member.specs.declared.word.HostWord.TheVariants.{Say, Tick, Ahead, Has}
+use Rattle.tk_member.specs.declared.fault.Fault.TheVariants.{Peer}
 use Rattle.tk_member.specs.Words.{word_in}
-use Rattle.tk_member.specs.Epochs.{Telling, with_epoch, filter_of, marks_at, known}
+use Rattle.tk_member.specs.Epochs.{Telling, filter_of, marks_at, known}
 use Rattle.tk_member.specs.Members.{MemberState}
-use Rattle.tk_member.specs.News.{refused_packet}
 use Rattle.tk_member.specs.Acting.{Turned, unmoved, behind, followed_by, packets_from, write_packets, wrote, after_turn}
 use Rattle.tk_member.specs.Acting.{turns_known, ahead_due, goes_ahead, ticks_due, goes_by_ticks, may_ask, asks, asks_if_due, acts, epoch_due}
-use Rattle.tk_member.specs.Steps.{tells_and_acts, said, heard, all_of, settled, settled_by, with_reply, replied}
-use Rattle.tk_member.specs.Steps.{told_after, after_settling, told_epoch, served, step}
-use Rattle.tk_meeting.specs.Meeting.{for_peer, frames_for}
+use Rattle.tk_member.specs.Steps.{tells_and_acts, heard}
+use Rattle.tk_member.specs.Steps.{served, step}
+use Rattle.tk_meeting.specs.Meeting.{frames_for}
 use Rattle.tk_meeting.specs.Shown.{Stand}
 use Rattle.tk_meeting.proofs.members.Packets.{frames-append, own-at, AreToHost, host-alone}
 use Rattle.tk_meeting.proofs.members.Wrote.{wrote-so}
@@ -255,6 +247,7 @@ module _ (j : ℕ) (low : 1 ≤ j) where
         cond (nat_le p.peer m.client.shape.servers) (served b m p.peer p.bytes) (Err Peer)
         in
         either (p.peer == 0) (heard b m (word_in p.bytes)) serves
-        (goes-puts (heard_writing m (word_in p.bytes)) (heard b m (word_in p.bytes)) _ (heard-readies b m (word_in p.bytes)))
+        (goes-puts (heard_writing m (word_in p.bytes)) (heard b m (word_in p.bytes)) _
+        (heard-readies b m (word_in p.bytes)))
         (either (nat_le p.peer m.client.shape.servers) (served b m p.peer p.bytes) (Err Peer)
         (goes-puts m.client.writing (served b m p.peer p.bytes) _ (served-readies b m p.peer p.bytes)) tt)

@@ -4,7 +4,7 @@ use Rattle.std.proofs.Common.{get_or-set_same, get_or-set_other, length-set}
 use Rattle.std.specs.Prelude.{◌==◌, Option, Some, None, slice_index, drop}
 use Rattle.std.specs.List.{AllByRecursion}
 use Rattle.std.proofs.lemmas.Bool.{eqb-true}
-use Rattle.std.proofs.lemmas.List.{ext_get_or, length-replicate}
+use Rattle.std.proofs.lemmas.List.{ext_get_or}
 use Rattle.tk_shape.specs.declared.shape.Shape.{Shape}
 use Rattle.tk_frames.specs.Fields.{write_in, read_in}
 use Rattle.tk_packets.specs.Packets.{PacketView}
@@ -44,29 +44,27 @@ module _ (shape : Shape) where
   -- ---- a frame of a client changes the seat of that client alone
 
   module _ (seats : List Seat) (k : ℕ) (bytes : List ℕ) where
-    own-with : k < length seats → seat_of (with_frame shape seats k bytes) k ≡ seat_with (seat_of seats k) bytes
+    with-is : with_frame shape seats k bytes ≡ set seats k (seat_with (seat_of seats k) bytes)
     unfolding with_frame
-    own-with low =
+    with-is =
         let w = seat_with_write (seat_of seats k) (write_in shape (drop 2 bytes)) in
         let r = seat_with_read (seat_of seats k) (read_in shape bytes) in
-        pick (λ b. seat_of (cond b (set seats k w) (set seats k r)) k ≡ cond b w r) (slice_index bytes 0 == 1)
-        (λ _. get_or-set_same seats k w empty_seat low) (λ _. get_or-set_same seats k r empty_seat low)
+        pick (λ b. cond b (set seats k w) (set seats k r) ≡ set seats k (cond b w r)) (slice_index bytes 0 == 1)
+        (λ _. refl) (λ _. refl)
+
+    own-with : k < length seats → seat_of (with_frame shape seats k bytes) k ≡ seat_with (seat_of seats k) bytes
+    own-with low =
+        ap (λ (xs : List Seat). seat_of xs k) with-is
+        ∙ get_or-set_same seats k (seat_with (seat_of seats k) bytes) empty_seat low
 
     other-with : (d : ℕ) → d ≢ k → seat_of (with_frame shape seats k bytes) d ≡ seat_of seats d
-    unfolding with_frame
     other-with d other =
-        let w = seat_with_write (seat_of seats k) (write_in shape (drop 2 bytes)) in
-        let r = seat_with_read (seat_of seats k) (read_in shape bytes) in
-        pick (λ b. seat_of (cond b (set seats k w) (set seats k r)) d ≡ seat_of seats d) (slice_index bytes 0 == 1)
-        (λ _. get_or-set_other seats k d w empty_seat other) (λ _. get_or-set_other seats k d r empty_seat other)
+        ap (λ (xs : List Seat). seat_of xs d) with-is
+        ∙ get_or-set_other seats k d (seat_with (seat_of seats k) bytes) empty_seat other
 
     as-many-with : length (with_frame shape seats k bytes) ≡ length seats
-    unfolding with_frame
     as-many-with =
-        let w = seat_with_write (seat_of seats k) (write_in shape (drop 2 bytes)) in
-        let r = seat_with_read (seat_of seats k) (read_in shape bytes) in
-        pick (λ b. length (cond b (set seats k w) (set seats k r)) ≡ length seats) (slice_index bytes 0 == 1)
-        (λ _. length-set seats k w) (λ _. length-set seats k r)
+        ap (λ (xs : List Seat). length xs) with-is ∙ length-set seats k (seat_with (seat_of seats k) bytes)
 
     own-unless : (o : Option Refusal) → k < length seats →
         seat_of (step_by shape seats k bytes o).seats k ≡ seat_unless (seat_of seats k) bytes o

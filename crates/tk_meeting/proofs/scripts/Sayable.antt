@@ -1,7 +1,7 @@
 -- What was said to a client may be said by it: it is of a log that the client writes, and without a fault.
 use Rattle.std.proofs.Common.{◌≡◌, refl, ap, sym, ◌∙◌, subst, arith, ℕ, ◌<◌, Bool, true, false, cond}
-use Rattle.std.proofs.Common.{List, [], ◌∷◌, ◌++◌, map, Option, Some, None, Result, Ok, Err, eqb-true}
-use Rattle.std.specs.Prelude.{◌==◌, ◌&&◌, ◌||◌}
+use Rattle.std.proofs.Common.{List, [], ◌∷◌, ◌++◌, Option, Some, None, Result, Ok, Err, eqb-true}
+use Rattle.std.specs.Prelude.{◌==◌, ◌||◌}
 use Rattle.std.specs.List.{AllByRecursion}
 use Rattle.std.proofs.lemmas.Bool.{false≢true}
 use Rattle.std.proofs.lemmas.Option.{none-some}
@@ -13,22 +13,22 @@ use Rattle.tk_client.specs.declared.say_error.SayError.{SayError}
 use Rattle.tk_client.specs.declared.say_error.SayError.TheVariants.{NotWriter}
 use Rattle.tk_client.specs.declared.written.Written.{Written}
 use Rattle.tk_client.specs.Saying.{fault_of, text_fault, is_written}
-use Rattle.tk_client.specs.Writing.{unwritten}
 use Rattle.tk_report.specs.Queues.{writes_of}
 use Rattle.tk_member.specs.declared.fault.Fault.{Fault}
 use Rattle.tk_member.specs.declared.word.HostWord.{HostWord}
-use Rattle.tk_member.specs.declared.word.HostWord.TheVariants.{Say, Tick, Ahead, Has}
+use Rattle.tk_member.specs.declared.word.HostWord.TheVariants.{Say}
 use Rattle.tk_member.specs.Acting.{Turned}
 use Rattle.tk_member.specs.Steps.{heard, served}
 use Rattle.tk_report.proofs.Offers.{unwritten-logs, each-append}
 use Rattle.tk_meeting.specs.Meeting.{Meeting, Saying, opening, changed, member_went}
-use Rattle.tk_meeting.specs.Events.{Event, Said, Ticked, WentAhead, Greeted, Up, Down, noted, say_fault, hears}
-use Rattle.tk_meeting.specs.Events.{greeting_of, comes_up, comes_down, unless_ended, is_client, is_server}
-use Rattle.tk_meeting.specs.Events.{client_does, happens, after_events, met}
+use Rattle.tk_meeting.specs.Events.{Event, noted, say_fault, hears}
+use Rattle.tk_meeting.specs.Events.{comes_up, comes_down}
+use Rattle.tk_meeting.specs.Events.{happens, after_events, met}
 use Rattle.tk_meeting.proofs.own.Openings.{kept}
-use Rattle.tk_meeting.proofs.telling.Rising.{cond-has}
 use Rattle.tk_meeting.proofs.scripts.Lasting.{base_of, logs_of, LastsIn, heard-lasts, served-lasts}
 use Rattle.tk_meeting.proofs.telling.Ways.{event-has}
+use Rattle.tk_meeting.proofs.courses.Picks.{at-place}
+use Rattle.tk_meeting.proofs.telling.Rising.{cond-has}
 
 -- client c writes the log
 pub record IsMine (S : Script) (c log : ℕ) : Type 0 where
@@ -95,20 +95,15 @@ free-said S m c log text is none =
 noted-at : (S : Script) (m : Meeting) (c g : ℕ) (y : Saying) → IsSayable S m → MaySay S c y →
     (d k : ℕ) → AllByRecursion (MaySay S d)
     (changed c (changed g (m.said c g ++ y ∷ []) (m.said c)) m.said d k)
-noted-at S m c g y is may d k = by (d == c) refl
+noted-at S m c g y is may d k =
+    at-place (λ x t.
+    AllByRecursion (MaySay S x) (cond t (changed g (m.said c g ++ y ∷ []) (m.said c)) (m.said x) k)) c d here
+    (λ _. is.each d k)
   where
-    here : (t : Bool) → AllByRecursion (MaySay S c) (cond t (m.said c g ++ y ∷ []) (m.said c k))
-    here true = each-append (MaySay S c) (m.said c g) (y ∷ []) (is.each c g) (may, tt)
-    here false = is.each c k
-
-    by : (t : Bool) → (d == c) ≡ t →
-        AllByRecursion (MaySay S d)
-        (cond t (changed g (m.said c g ++ y ∷ []) (m.said c)) (m.said d) k)
-    by true same =
-        subst
-        (λ (n : ℕ). AllByRecursion (MaySay S n) (changed g (m.said c g ++ y ∷ []) (m.said c) k))
-        (sym (eqb-true d c same)) (here (k == g))
-    by false other = is.each d k
+    here : AllByRecursion (MaySay S c) (changed g (m.said c g ++ y ∷ []) (m.said c) k)
+    here =
+        cond-has (AllByRecursion (MaySay S c)) (k == g) (m.said c g ++ y ∷ []) (m.said c k)
+        (each-append (MaySay S c) (m.said c g) (y ∷ []) (is.each c g) (may, tt)) (is.each c k)
 
 pub noted-sayable : (S : Script) (m : Meeting) (c : ℕ) (y : Saying) (o : Option SayError) → IsSayable S m →
     (o ≡ None → MaySay S c y) → IsSayable S (noted c y o m)
@@ -121,14 +116,13 @@ noted-sayable S m c y None is may =
 pub went-sayable : (S : Script) (m : Meeting) (c : ℕ) (r : Result Turned Fault) → IsSayable S m →
     LastsIn (base_of (m.members c)) r → IsSayable S (member_went m c r)
 went-sayable S m c (Err fault) is lasts = record { bases = is.bases; each = is.each }
-went-sayable S m c (Ok t) is lasts = record { bases = λ d. by d (d == c) refl; each = is.each }
-  where
-    by : (d : ℕ) (b : Bool) → (d == c) ≡ b →
-        base_of (cond b t.member (m.members d)) ≡ (S.shape, writes_of S d)
-    by d true same =
-        subst (λ (n : ℕ). base_of t.member ≡ (S.shape, writes_of S n)) (sym (eqb-true d c same))
-        (lasts ∙ is.bases c)
-    by d false other = is.bases d
+went-sayable S m c (Ok t) is lasts =
+    record {
+      bases = λ d.
+          at-place (λ x k. base_of (cond k t.member (m.members x)) ≡ (S.shape, writes_of S x)) c d (lasts ∙ is.bases c)
+          (λ _. is.bases d);
+      each = is.each;
+    }
 
 hears-sayable : (S : Script) (b : ℕ → WordBook) (m : Meeting) (c : ℕ) (word : HostWord) → IsSayable S m →
     IsSayable S (hears b m c word)

@@ -1,6 +1,6 @@
 -- Seats of the first writes and reads of each client, and one write or read more.
-use Rattle.std.proofs.Common.{◌≡◌, ℕ, ◌+◌, ◌<◌, ap, sym, ◌∙◌, subst, arith, inl, inr, List}
-use Rattle.std.proofs.Common.{length, map, length-set, get_or-set_same, get_or-set_other}
+use Rattle.std.proofs.Common.{◌≡◌, ◌≢◌, refl, ℕ, ◌+◌, ◌≤◌, ◌<◌, ap, sym, ◌∙◌, subst, arith, inl, inr, List}
+use Rattle.std.proofs.Common.{length, map, set, length-set, get_or-set_same, get_or-set_other}
 use Rattle.std.specs.List.{range_with_len}
 use Rattle.std.proofs.lemmas.Bool.{cases_eq}
 use Rattle.std.proofs.lemmas.List.FromFn.{map-range_with_len_more}
@@ -18,67 +18,54 @@ module _ (S : Script) (b : WordBook) (j : ℕ) (writes reads : ℕ → ℕ) (sea
   low : c < length seats
   low = omega (arith, client, fronts.counted)
 
-  write-own : seat_of (with_write seats c (write_in S b c (writes c))) c
-      ≡ seat_with S b c j (writes c + 1) (reads c)
-  write-own =
-      let w = write_in S b c (writes c) in
-      get_or-set_same seats c (seat_with_write (seat_of seats c) w) empty_seat low
-      ∙ ap (λ (s : Seat). seat_with_write s w) (fronts.each c client)
-      ∙ ap (λ (ws : List WriteFrame). record {
-        writes = ws;
-        reads = map (read_from S b c j) (range_with_len 0 (reads c));
-      }) (sym (map-range_with_len_more (write_in S b c) 0 (writes c) (writes c) (omega arith)))
+  -- seats of which that of the client is changed
+  fronts-set : (new : Seat) (later_writes later_reads : ℕ → ℕ) →
+      new ≡ seat_with S b c j (later_writes c) (later_reads c) →
+      ((d : ℕ) → d ≢ c → later_writes d ≡ writes d) → ((d : ℕ) → d ≢ c → later_reads d ≡ reads d) →
+      ((d : ℕ) → d < S.shape.clients → later_writes d ≤ turn_count S.shape) →
+      ((d : ℕ) → d < S.shape.clients → later_reads d ≤ turn_count S.shape) →
+      AreFronts S b j later_writes later_reads (set seats c new)
+  fronts-set new later_writes later_reads is same_writes same_reads writes_in reads_in =
+      record {
+        counted = length-set seats c new ∙ fronts.counted;
+        each = λ d there. elim (cases_eq d c) [
+          | inl same ↦
+              subst (λ k. seat_of (set seats c new) k ≡ seat_with S b k j (later_writes k) (later_reads k)) (sym same)
+              (get_or-set_same seats c new empty_seat low ∙ is)
+          | inr other ↦
+              get_or-set_other seats c d new empty_seat other ∙ fronts.each d there
+              ∙ (λ i. seat_with S b d j (sym (same_writes d other) i) (sym (same_reads d other) i))
+        ];
+        writes_in = writes_in;
+        reads_in = reads_in;
+      }
 
   -- with the next write of a client they are the first writes and reads still
   pub write-fronts : writes c < turn_count S.shape →
       AreFronts S b j (bumped c writes) reads (with_write seats c (write_in S b c (writes c)))
   write-fronts due =
       let w = write_in S b c (writes c) in
-      let new = seat_with_write (seat_of seats c) w in
-      record {
-        counted = length-set seats c new ∙ fronts.counted;
-        each = λ d there. elim (cases_eq d c) [
-          | inl same ↦
-              subst (λ k. seat_of (with_write seats c w) k ≡ seat_with S b k j (bumped c writes k) (reads k))
-              (sym same)
-              (write-own
-              ∙ ap (λ n. seat_with S b c j n (reads c)) (sym (changed-same c (writes c + 1) writes)))
-          | inr other ↦
-              get_or-set_other seats c d new empty_seat other ∙ fronts.each d there
-              ∙ ap (λ n. seat_with S b d j n (reads d)) (sym (changed-other c d (writes c + 1) writes other))
-        ];
-        writes_in = λ d there. bumped-within c writes d (turn_count S.shape) due (fronts.writes_in d there);
-        reads_in = fronts.reads_in;
-      }
+      fronts-set (seat_with_write (seat_of seats c) w) (bumped c writes) reads
+      (ap (λ (s : Seat). seat_with_write s w) (fronts.each c client)
+      ∙ ap (λ (ws : List WriteFrame). record {
+        writes = ws;
+        reads = map (read_from S b c j) (range_with_len 0 (reads c));
+      }) (sym (map-range_with_len_more (write_in S b c) 0 (writes c) (writes c) (omega arith)))
+      ∙ ap (λ n. seat_with S b c j n (reads c)) (sym (changed-same c (writes c + 1) writes)))
+      (λ d other. changed-other c d (writes c + 1) writes other) (λ d other. refl)
+      (λ d there. bumped-within c writes d (turn_count S.shape) due (fronts.writes_in d there)) fronts.reads_in
 
-  read-own : seat_of (with_read seats c (read_from S b c j (reads c))) c
-      ≡ seat_with S b c j (writes c) (reads c + 1)
-  read-own =
-      let r = read_from S b c j (reads c) in
-      get_or-set_same seats c (seat_with_read (seat_of seats c) r) empty_seat low
-      ∙ ap (λ (s : Seat). seat_with_read s r) (fronts.each c client)
-      ∙ ap (λ (rs : List ReadFrame). record {
-        writes = map (write_in S b c) (range_with_len 0 (writes c));
-        reads = rs;
-      }) (sym (map-range_with_len_more (read_from S b c j) 0 (reads c) (reads c) (omega arith)))
-
+  -- and with its next read
   pub read-fronts : reads c < turn_count S.shape →
       AreFronts S b j writes (bumped c reads) (with_read seats c (read_from S b c j (reads c)))
   read-fronts due =
       let r = read_from S b c j (reads c) in
-      let new = seat_with_read (seat_of seats c) r in
-      record {
-        counted = length-set seats c new ∙ fronts.counted;
-        each = λ d there. elim (cases_eq d c) [
-          | inl same ↦
-              subst (λ k. seat_of (with_read seats c r) k ≡ seat_with S b k j (writes k) (bumped c reads k))
-              (sym same)
-              (read-own
-              ∙ ap (λ n. seat_with S b c j (writes c) n) (sym (changed-same c (reads c + 1) reads)))
-          | inr other ↦
-              get_or-set_other seats c d new empty_seat other ∙ fronts.each d there
-              ∙ ap (λ n. seat_with S b d j (writes d) n) (sym (changed-other c d (reads c + 1) reads other))
-        ];
-        writes_in = fronts.writes_in;
-        reads_in = λ d there. bumped-within c reads d (turn_count S.shape) due (fronts.reads_in d there);
-      }
+      fronts-set (seat_with_read (seat_of seats c) r) writes (bumped c reads)
+      (ap (λ (s : Seat). seat_with_read s r) (fronts.each c client)
+      ∙ ap (λ (rs : List ReadFrame). record {
+        writes = map (write_in S b c) (range_with_len 0 (writes c));
+        reads = rs;
+      }) (sym (map-range_with_len_more (read_from S b c j) 0 (reads c) (reads c) (omega arith)))
+      ∙ ap (λ n. seat_with S b c j (writes c) n) (sym (changed-same c (reads c + 1) reads)))
+      (λ d other. refl) (λ d other. changed-other c d (reads c + 1) reads other) fronts.writes_in
+      (λ d there. bumped-within c reads d (turn_count S.shape) due (fronts.reads_in d there))

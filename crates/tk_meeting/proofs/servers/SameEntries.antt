@@ -1,21 +1,15 @@
 -- Writes that agree in the first turns make the same entries of them.
-use Rattle.std.proofs.Common.{◌≡◌, ℕ, zero, suc, ◌+◌, ◌≤◌, ◌<◌, true, List, [], ◌∷◌, ◌++◌}
-use Rattle.std.proofs.Common.{length, count_by, get_or, refl, ap, ap₂, ◌∙◌, arith, ltb-true}
-use Rattle.std.specs.Prelude.{nat_lt}
-use Rattle.std.specs.List.{list_all}
-use Rattle.std.proofs.lemmas.Bool.{and_parts}
+use Rattle.std.proofs.Common.{◌≡◌, ℕ, zero, suc, ◌+◌, ◌≤◌, ◌<◌, List, ◌++◌}
+use Rattle.std.proofs.Common.{length, count_by, get_or, refl, ap, ◌∙◌, arith}
 use Rattle.tk_shape.specs.declared.shape.Shape.{Shape}
 use Rattle.tk_shape.specs.Lengths.{turn_count}
 use Rattle.tk_schedule.specs.declared.history.History.{History}
-use Rattle.tk_schedule.specs.declared.item.Item.{Item}
-use Rattle.tk_schedule.specs.declared.item.Item.TheVariants.{Client, Publish}
-use Rattle.tk_schedule.specs.Schedule.{IsLegal, order_at, blank_turn, is_within}
+use Rattle.tk_schedule.specs.Schedule.{IsLegal, order_at, blank_turn}
 use Rattle.tk_schedule.proofs.Offers.{turn_within}
 use Rattle.tk_frames.specs.declared.write_frame.WriteFrame.{WriteFrame}
 use Rattle.tk_frames.specs.declared.entry.Placed.{Placed}
-use Rattle.tk_frames.specs.declared.entry.Entry.TheVariants.{Write, Mark}
 use Rattle.tk_frames.specs.Order.{is_mark_entry}
-use Rattle.tk_report.specs.Entries.{placed_from, placed_after, entries_before}
+use Rattle.tk_report.specs.Entries.{placed_after, entries_before}
 use Rattle.tk_privacy.proofs.Offers.{same-placed}
 
 -- the entries of the first n turns are made of the writes of these turns

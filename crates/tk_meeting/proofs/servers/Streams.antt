@@ -1,16 +1,15 @@
 -- A server whose seats are fronts of the serial run has its entries, and tells what it tells.
 use Rattle.std.proofs.Common.{◌≡◌, ℕ, ◌+◌, ◌/◌, ◌%◌, ◌≤◌, ◌<◌, List, [], ◌∷◌, length, map, take, min}
 use Rattle.std.proofs.Common.{flat_map, get_or, ap, ap₂, sym, ◌∙◌, arith, inl, inr}
-use Rattle.std.specs.Prelude.{slice_index, slice_index_or}
+use Rattle.std.specs.Prelude.{slice_index_or}
 use Rattle.std.specs.List.{range_with_len}
 use Rattle.std.proofs.lemmas.Bool.{cases_lt, cases_eq}
-use Rattle.std.proofs.lemmas.List.{get_or-map, length-map, take_all, get_or-replicate}
+use Rattle.std.proofs.lemmas.List.{get_or-map, length-map, take_all}
 use Rattle.std.proofs.lemmas.List.FromFn.{get_or-map-range_with_len, length-map-range_with_len}
 use Rattle.std.proofs.lemmas.List.FromFn.{take-map-range_with_len, fill_by_all}
 use Rattle.std.proofs.lemmas.List.Folds.{flat_map-map}
 use Rattle.tk_shape.specs.Lengths.{turn_count}
-use Rattle.tk_schedule.specs.declared.history.TurnOrder.{TurnOrder}
-use Rattle.tk_schedule.specs.Schedule.{phases_over, phase_of, blank_turn, serial_turn, serial_history}
+use Rattle.tk_schedule.specs.Schedule.{phases_over, phase_of}
 use Rattle.tk_schedule.proofs.Offers.{serial-IsLegal}
 use Rattle.tk_script.specs.declared.script.Script.{Script}
 use Rattle.tk_words.specs.Words.{WordBook, BookWords, words_of}

@@ -23,7 +23,7 @@ use Rattle.tk_serve.specs.declared.refusal.Refusal.TheVariants as refusal
 use Rattle.tk_serve.specs.Seats.{Seat, seat_of, with_write, with_read}
 use Rattle.tk_serve.specs.Refusals.{unless, write_misplaced, read_misplaced, write_refusal, read_refusal}
 use Rattle.tk_serve.specs.Refusals.{is_read_kind, refusal_by, due_of}
-use Rattle.tk_serve.specs.Steps.{Step, step_by, step, with_frame}
+use Rattle.tk_serve.specs.Steps.{Step, step, with_frame}
 use Rattle.tk_serve.proofs.Offers.{write-placed, read-placed_by, told_step, step-none}
 use Rattle.tk_meeting.specs.Meeting.{changed}
 use Rattle.tk_meeting.proofs.Canonical.{write_in, read_from, AreFronts}

@@ -1,30 +1,23 @@
 -- Members to which packets come one after the other.
-use Rattle.std.proofs.Common.{◌≡◌, refl, ap, ap₂, sym, ◌∙◌, subst, ℕ, ◌+◌, ◌-◌, Bool, true, false, cond, List, []}
+use Rattle.std.proofs.Common.{◌≡◌, refl, ap, ap₂, sym, ◌∙◌, ℕ, Bool, true, false, cond, List, []}
 use Rattle.std.proofs.Common.{◌∷◌, map}
 use Rattle.std.proofs.Common.{Option, Some, None}
-use Rattle.std.specs.Prelude.{nat_lt, nat_le, ◌==◌, ◌&&◌, ◌||◌, slice_index, slice_index_or, slice_set, Result, Ok, Err}
-use Rattle.std.specs.Option.{is_none, is_some}
+use Rattle.std.specs.Prelude.{◌==◌, ◌&&◌, Result, Ok, Err}
+use Rattle.std.specs.Option.{is_none}
 use Rattle.std.specs.Simd.Lanes.{fold_l}
 use Rattle.tk_shape.specs.declared.shape.Shape.{Shape}
 use Rattle.tk_shape.specs.Lengths.{turn_count}
 use Rattle.tk_words.specs.Words.{WordBook}
-use Rattle.tk_client.specs.declared.take_error.TakeError.{TakeError}
 use Rattle.tk_packets.specs.Packets.{PacketView}
 use Rattle.tk_member.specs.declared.fault.Fault.{Fault}
-use Rattle.tk_member.specs.declared.fault.Fault.TheVariants.{Peer, Refused, Older}
-use Rattle.tk_member.specs.declared.word.HostWord.{HostWord}
-use Rattle.tk_member.specs.declared.word.HostWord.TheVariants.{Say, Tick, Ahead, Has}
-use Rattle.tk_member.specs.Epochs.{Telling, with_epoch}
 use Rattle.tk_member.specs.Members.{MemberState, is_over}
 use Rattle.tk_member.specs.Acting.{Turned, unmoved}
-use Rattle.tk_member.specs.Steps.{all_of, step}
+use Rattle.tk_member.specs.Steps.{step}
 use Rattle.tk_member.specs.Courses.{behind_if, after_packet, after_packets}
-use Rattle.tk_meeting.specs.Shown.{Face, Stand, stand, Sent, Replied, Told, Came, OfHost, OfServer}
+use Rattle.tk_meeting.specs.Shown.{Stand, stand, Came}
 use Rattle.tk_meeting.specs.Shown.{packet_shown, outcome, stand_after, MembersActAlike}
-use Rattle.tk_meeting.proofs.shown.Faces.{refused_by}
-use Rattle.tk_meeting.proofs.shown.Steps.{gone_ahead, gone_by_ticks, asks_due, has_asked, acted, acting, none-shown}
-use Rattle.tk_meeting.proofs.shown.Steps.{heard_so}
-use Rattle.tk_meeting.proofs.shown.Steps.{settled_so, settled_by_so, replied_so, told_so, served_so, step_so}
+use Rattle.tk_meeting.proofs.shown.Steps.{acting, none-shown}
+use Rattle.tk_meeting.proofs.shown.Steps.{step_so}
 use Rattle.tk_meeting.proofs.shown.Steps.{step-outcome}
 use Rattle.tk_meeting.proofs.telling.Rising.{cond-has}
 use Rattle.tk_meeting.proofs.scripts.Lasting.{base_of, LastsIn, step-lasts}

@@ -1,23 +1,23 @@
 -- What was said to a client only grows, at the end of what was said for the turn that it writes next.
-use Rattle.std.proofs.Common.{◌≡◌, ℕ, ◌<◌, ◌≤◌, Bool, true, false, cond, List, [], ◌∷◌, ◌++◌, Option, Some}
+use Rattle.std.proofs.Common.{◌≡◌, ℕ, ◌<◌, ◌≤◌, Bool, true, cond, List, [], ◌∷◌, ◌++◌, Option, Some}
 use Rattle.std.proofs.Common.{None, Result, Ok, Err, refl, ap, sym, ◌∙◌, subst, arith, append-nil, append_assoc}
-use Rattle.std.proofs.Common.{eqb-true, ne_eqb, ⊎_elim}
-use Rattle.std.specs.Prelude.{◌==◌, ◌&&◌, ◌⊎◌, ◌≢◌}
+use Rattle.std.proofs.Common.{ne_eqb, ⊎_elim}
+use Rattle.std.specs.Prelude.{◌==◌, ◌⊎◌, ◌≢◌}
 use Rattle.tk_shape.specs.declared.shape.Shape.{Shape}
 use Rattle.tk_words.specs.Words.{WordBook}
 use Rattle.tk_client.specs.declared.say_error.SayError.{SayError}
 use Rattle.tk_member.specs.declared.fault.Fault.{Fault}
 use Rattle.tk_member.specs.declared.word.HostWord.{HostWord}
-use Rattle.tk_member.specs.declared.word.HostWord.TheVariants.{Say, Tick, Ahead, Has}
-use Rattle.tk_member.specs.Members.{MemberState}
+use Rattle.tk_member.specs.declared.word.HostWord.TheVariants.{Say}
 use Rattle.tk_member.specs.Acting.{Turned}
 use Rattle.tk_member.specs.Steps.{heard, served}
 use Rattle.tk_meeting.specs.Meeting.{Meeting, Saying, changed, member_went}
-use Rattle.tk_meeting.specs.Events.{Event, Said, Ticked, WentAhead, Greeted, Up, Down, noted, say_fault, hears}
-use Rattle.tk_meeting.specs.Events.{greeting_of, comes_up, comes_down, unless_ended, is_client, is_server}
-use Rattle.tk_meeting.specs.Events.{client_does, happens, after_events}
-use Rattle.tk_meeting.proofs.telling.Rising.{RisesIn, cond-has, heard-rises, served-rises}
+use Rattle.tk_meeting.specs.Events.{Event, noted, say_fault, hears}
+use Rattle.tk_meeting.specs.Events.{comes_up, comes_down}
+use Rattle.tk_meeting.specs.Events.{happens, after_events}
+use Rattle.tk_meeting.proofs.telling.Rising.{RisesIn, heard-rises, served-rises}
 use Rattle.tk_meeting.proofs.telling.Ways.{event-has}
+use Rattle.tk_meeting.proofs.courses.Picks.{at-place}
 
 -- A client that wrote g turns wrote n turns later. What was said for earlier turns stays; for turn g more
 -- may be said; and nothing was said for a turn that is still to come.
@@ -106,36 +106,22 @@ noted-of g y said =
     other : (k : ℕ) → k ≢ g → changed g (said g ++ y ∷ []) said k ≡ said k
     other k ne = rw (ne_eqb k g ne) refl
 
-noted-at : (m : Meeting) (c d : ℕ) (y : Saying) (t : Bool) → (d == c) ≡ t →
-    GrowsOf (m.members d).written (m.members d).written (m.said d)
-    (cond t (changed (m.members c).written (m.said c (m.members c).written ++ y ∷ []) (m.said c))
-    (m.said d))
-noted-at m c d y true e =
-    subst
-    (λ (i : ℕ). GrowsOf (m.members i).written (m.members i).written (m.said i)
-    (changed (m.members c).written (m.said c (m.members c).written ++ y ∷ []) (m.said c)))
-    (sym (eqb-true d c e)) (noted-of (m.members c).written y (m.said c))
-noted-at m c d y false e =
-    grows_of-none (m.members d).written (m.members d).written (m.said d) (omega arith)
-
 pub grows-noted : (c : ℕ) (y : Saying) (o : Option SayError) (m : Meeting) → Grows m (noted c y o m)
 grows-noted c y (Some error) m d = grows-none m d
-grows-noted c y None m d = noted-at m c d y (d == c) refl
+grows-noted c y None m d =
+    let g = (m.members c).written in
+    at-place (λ x t.
+    GrowsOf (m.members x).written (m.members x).written (m.said x)
+    (cond t (changed g (m.said c g ++ y ∷ []) (m.said c)) (m.said x))) c d (noted-of g y (m.said c))
+    (λ _. grows_of-none (m.members d).written (m.members d).written (m.said d) (omega arith))
 
 -- ---- a member goes on
-
-went-at : (m : Meeting) (c d : ℕ) (n : MemberState) (t : Bool) → (d == c) ≡ t →
-    (m.members c).written ≤ n.written →
-    (m.members d).written ≤ (cond t n (m.members d)).written
-went-at m c d n true e h =
-    subst (λ (i : ℕ). (m.members i).written ≤ n.written) (sym (eqb-true d c e)) h
-went-at m c d n false e h = omega arith
 
 pub grows-went : (m : Meeting) (c : ℕ) (r : Result Turned Fault) → RisesIn (m.members c).written r →
     Grows m (member_went m c r)
 grows-went m c (Ok t) h d =
     grows_of-none (m.members d).written (changed c t.member m.members d).written (m.said d)
-    (went-at m c d t.member (d == c) refl h)
+    (at-place (λ x k. (m.members x).written ≤ (cond k t.member (m.members x)).written) c d h (λ _. omega arith))
 grows-went m c (Err fault) h d = grows-none m d
 
 -- the host of a client tells it something
