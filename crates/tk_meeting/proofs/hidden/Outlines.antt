@@ -18,17 +18,15 @@ use Rattle.tk_frames.specs.Order.{before}
 use Rattle.tk_frames.specs.Faults.{read_len_of}
 use Rattle.tk_frames.specs.declared.entry.Placed.{Placed}
 use Rattle.tk_frames.specs.Spelling.{be32, read_kind, read_frame, write_frame}
-use Rattle.tk_frames.proofs.Frames.{length-write_frame}
-use Rattle.tk_frames.proofs.ReadLaws.{length-read_frame}
+use Rattle.tk_frames.proofs.Offers.{length-write_frame, length-read_frame}
 use Rattle.tk_table.specs.Table.{layout, blocks_of}
 use Rattle.tk_client.specs.Asked.{seeds_told, frame_with}
 use Rattle.tk_report.specs.Exchange.{read_at}
-use Rattle.tk_report.proofs.Offers.{epochs-ordered, epochs-storable}
+use Rattle.tk_report.proofs.Offers.{epochs-ordered, epochs-storable, blocks-whole}
 use Rattle.tk_replica.specs.Epochs.{filter_of}
 use Rattle.tk_packets.specs.Frames.{marks_len}
 use Rattle.tk_packets.specs.Marks.{mark_byte, mark_bytes}
 use Rattle.tk_serve.specs.Told.{reply_told, epoch_told, epoch_bytes}
-use Rattle.tk_report.proofs.Offers.{blocks-whole}
 use Rattle.tk_meeting.specs.Hidden.{outline}
 use Rattle.tk_meeting.proofs.servers.InRange.{read-in_range, write-in_range}
 use Rattle.tk_meeting.proofs.Canonical.{serial, whole, read_from, write_in}

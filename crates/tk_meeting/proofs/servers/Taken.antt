@@ -15,8 +15,7 @@ use Rattle.tk_frames.specs.declared.seeds.Seeds.TheVariants.{Plain, Seeded, Show
 use Rattle.tk_frames.specs.Ranges.{IsWrite, IsRead, AreSeeds}
 use Rattle.tk_frames.specs.Spelling.{write_frame, read_frame, read_kind}
 use Rattle.tk_frames.specs.Fields.{write_in as write_spelled}
-use Rattle.tk_frames.proofs.Frames.{write_passes, write-again}
-use Rattle.tk_frames.proofs.ReadLaws.{read_passes, read-again}
+use Rattle.tk_frames.proofs.Offers.{write_passes, write-again, read_passes, read-again}
 use Rattle.tk_report.proofs.Offers.{write_at-client, write_at-turn}
 use Rattle.tk_serve.specs.declared.refusal.Refusal.{Refusal}
 use Rattle.tk_serve.specs.declared.refusal.Refusal.TheVariants as refusal
