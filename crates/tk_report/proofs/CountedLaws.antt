@@ -49,19 +49,20 @@ Displaces old put position pair block =
 
 -- a write is counted
 pub counted-write : (shape : Shape) (E : List AtPlace) (c : Count) (t : Kept) (n : ℕ) (put : Put)
-    (p : AtPlace) (w : WriteFrame) → HasCounted shape E c → IsNext shape E p → p.entry ≡ Write w →
+    (p : AtPlace) (w : WriteFrame) (block : List ℕ) → block ≡ w.block →
+    HasCounted shape E c → IsNext shape E p → p.entry ≡ Write w →
     t.shape ≡ c.table.shape → All (λ k. k ≤ p.position) t.positions →
-    Stands c.table t p.position (w.first, w.second) w.block →
-    Displaces c.table put p.position (w.first, w.second) w.block →
+    Stands c.table t p.position (w.first, w.second) block →
+    Displaces c.table put p.position (w.first, w.second) block →
     ((d : Bool) → (put ≡ Displaced) ↔ (d ≡ true) → n ≡ c.displaced + cond d 1 0) →
     HasCounted shape (E ++ p ∷ []) (record { table = t; entries = p.position; displaced = n })
-counted-write shape E c t n put p w is next at same latest stands displaces adds =
+counted-write shape E c t n put p w block its is next at same latest stands displaces adds =
     let R = records E in
     let r = record_of p w in
     let writes : R ++ r ∷ [] ≡ records (E ++ p ∷ []) = sym (records-write E p w at) in
     let ordered = subst (λ (sh : Shape). AreOrdered sh R) (sym is.same) (order-writes shape E is.order) in
-    let here : IsRecord r p.position (w.first, w.second) w.block =
-    record { position = refl; first = refl; second = refl; block = refl } in
+    let here : IsRecord r p.position (w.first, w.second) block =
+    record { position = refl; first = refl; second = refl; block = sym its } in
     record {
       order = order-push shape E p is.order next;
       same = same ∙ is.same;

@@ -73,4 +73,5 @@ pub use Rattle.tk_report.proofs.DeliveredLaws.{Gives, first_some-gives}
 pub use Rattle.tk_report.proofs.PassingOverLaws.{honest-passing_over, IsWanted, IsTargetOf, target-is, shown_over}
 pub use Rattle.tk_report.proofs.PassingOverLaws.{get-front, get-behind, absent_then, settled}
 -- what holds of each element of a list
-pub use Rattle.tk_report.proofs.EachLaws.{each-weaker, each-front, each-behind, each-append}
+pub use Rattle.tk_report.proofs.EachLaws.{each-weaker, each-front, each-behind}
+pub use Rattle.tk_script.proofs.Offers.{each-append}

@@ -24,7 +24,7 @@ use Rattle.tk_table.specs.Stands.{IsPair}
 use Rattle.tk_table.specs.Table.{is_displaced}
 use Rattle.tk_table.proofs.Offers.{order-writes}
 use Rattle.tk_report.specs.declared.count.Count.{Count}
-use Rattle.tk_report.specs.Counts.{MayCount, MayCountNext}
+use Rattle.tk_report.specs.Counts.{MayCount}
 use Rattle.tk_report.specs.Displaced.{displaced_on, displaced_in}
 use Rattle.tk_report.specs.Turns.{next_placed}
 use Rattle.tk_report.proofs.DisplacedLaws.{displaced-more}

@@ -16,13 +16,13 @@ returns-in_default c shape E counted next =
 pub returns-in-Placed : goal.returns-in-Placed
 returns-in-Placed c shape E counted next =
     counted-write shape E c.args.self.now c.put.new.self c.args.self.now.displaced c.put.result
-    c.args.placed.now c.in-Write.write counted next c.in-Write.is c.put.ensures.shape
+    c.args.placed.now c.in-Write.write c.as_slice.result.now c.as_slice.ensures counted next c.in-Write.is c.put.ensures.shape
     c.put.ensures.latest c.put.ensures.stands c.put.ensures.displaced
     (λ d means. placed-adds c.put.result d c.args.self.now.displaced means c.in-Placed.is)
 
 pub returns-in-Displaced : goal.returns-in-Displaced
 returns-in-Displaced c shape E counted next =
     counted-write shape E c.args.self.now c.put.new.self (c.args.self.now.displaced + 1)
-    c.put.result c.args.placed.now c.in-Write.write counted next c.in-Write.is c.put.ensures.shape
+    c.put.result c.args.placed.now c.in-Write.write c.as_slice.result.now c.as_slice.ensures counted next c.in-Write.is c.put.ensures.shape
     c.put.ensures.latest c.put.ensures.stands c.put.ensures.displaced
     (λ d means. displaced-adds c.put.result d c.args.self.now.displaced means c.in-Displaced.is)

@@ -1,5 +1,5 @@
 -- The first marks are of no writes.
-use Rattle.std.proofs.Common.{◌∙◌, sym, subst, refl}
+use Rattle.std.proofs.Common.{[], ◌∙◌, sym, subst, refl}
 use Rattle.tk_table.specs.Stands.{Kept}
 use Rattle.tk_report.specs.Ledgers.{Keeps, IsTakenOf}
 use Rattle.tk_report.specs.declared.ledger.Ledger.{Ledger}

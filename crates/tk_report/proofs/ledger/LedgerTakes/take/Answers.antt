@@ -1,7 +1,9 @@
 -- An entry is counted. A write goes into the window too, and a mark takes what table and window are.
 use Rattle.std.proofs.Common.{◌≡◌, ◌++◌, ◌∷◌, [], ◌<◌, ◌∙◌, List, length, ap, refl, sym, subst, append_assoc}
+use Rattle.std.specs.Prelude.{All}
 use Rattle.std.proofs.lemmas.List.Elements.{All-from_recursion}
 use Rattle.tk_frames.specs.declared.entry.Placed.{Placed}
+use Rattle.tk_table.specs.Shown.{pushed}
 use Rattle.tk_report.specs.Ledgers.{Keeps}
 use Rattle.tk_report.proofs.LedgerLaws.{keeps-write, keeps-mark, hits-counted, hits-in_range}
 use Rattle.tk_report.proofs.ReadingLaws.{on-ok}
@@ -20,15 +22,17 @@ take-requires c =
 pub push-requires-clause-whole : goal.push-requires-clause-whole
 push-requires-clause-whole c =
     let may = c.requires in
-    hits-counted may.shape (may.E ++ may.F) c.args.self.now c.args.placed.now c.in-Write.write may.has
+    ap length c.as_slice.ensures
+    ∙ hits-counted may.shape (may.E ++ may.F) c.args.self.now c.args.placed.now c.in-Write.write may.has
     may.next c.in-Write.is
 
 pub push-requires-clause-in_range : goal.push-requires-clause-in_range
 push-requires-clause-in_range c =
     let may = c.requires in
-    All-from_recursion (λ h. h < c.args.self.now.window.bits) c.in-Write.write.hits
+    subst (All (λ h. h < c.args.self.now.window.bits)) (sym c.as_slice.ensures)
+    (All-from_recursion (λ h. h < c.args.self.now.window.bits) c.in-Write.write.hits
     (hits-in_range may.shape (may.E ++ may.F) c.args.self.now c.args.placed.now c.in-Write.write may.has
-    may.next c.in-Write.is)
+    may.next c.in-Write.is))
 
 pub returns-in-Write : goal.returns-in-Write
 returns-in-Write c = λ was shape E F is next.
@@ -37,7 +41,8 @@ returns-in-Write c = λ was shape E F is next.
     (record c.args.self.now { count = c.take.new.self; window = c.push.new.self }))
     (append_assoc E F (p ∷ []))
     (keeps-write shape (E ++ F) c.args.self.now c.take.new.self c.push.new.self p c.in-Write.write is
-    (c.take.ensures shape (E ++ F) is.count next) c.in-Write.is c.push.ensures)
+    (c.take.ensures shape (E ++ F) is.count next) c.in-Write.is
+    (c.push.ensures ∙ ap (pushed c.args.self.now.window) c.as_slice.ensures))
 
 pub returns-in-Mark : goal.returns-in-Mark
 returns-in-Mark c = λ was shape E F is next.
