@@ -18,7 +18,7 @@ mod run_word;
 mod serial_word;
 mod status;
 mod tally_word;
-mod telling;
+mod tell;
 mod top;
 mod view_word;
 mod wrong_word;

@@ -15,7 +15,7 @@ ghost use Rattle.tk_cli.specs.Outside.{outside};
 use crate::ended::Ended;
 use crate::input::{epoch_in, ready};
 use crate::request::Request;
-use crate::telling::tell_left;
+use crate::tell::tell_left;
 use std::alloc::Global;
 use tk_io::{Sink, Source, Taps};
 use tk_report::{Outcome, ends};

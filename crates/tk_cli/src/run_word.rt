@@ -10,7 +10,7 @@ use crate::ended::Ended;
 use crate::input::ready;
 use crate::request::Request;
 use crate::status::Status;
-use crate::telling::tell;
+use crate::tell::tell;
 use std::alloc::AllocGlobal;
 use std::sync::Wait;
 use std::thread::Threads;

@@ -16,7 +16,7 @@ use crate::run_word::{Crew, run_threads};
 use crate::serial_word::run_serial;
 use crate::status::Status;
 use crate::tally_word::tally_text;
-use crate::telling::answer;
+use crate::tell::answer;
 use crate::view_word::view_text;
 use crate::wrong_word::wrong_text;
 use std::alloc::AllocGlobal;

@@ -23,7 +23,7 @@ use Rattle.tk_frames.specs.declared.read_frame.ReadFrame.{ReadFrame}
 use Rattle.tk_frames.specs.Spelling.{read_frame}
 use Rattle.tk_frames.specs.declared.seeds.Seeds.{Seeds}
 use Rattle.tk_frames.specs.declared.seeds.Seeds.TheVariants.{Plain, Seeded, Shown}
-use Rattle.tk_client.specs.declared.asking.Asker.{Asker}
+use Rattle.tk_client.specs.declared.query.Asker.{Asker}
 use Rattle.tk_client.specs.Reader.{Target}
 use Rattle.tk_client.specs.Asked.{pair_for, seeds_told, frame_with, frame_for, asked, AreForBoth}
 use Rattle.tk_client.specs.Framing.{Cut, cut, frame_from}

@@ -8,8 +8,8 @@ use Rattle.tk_kernel.specs.Pieces.{all_pieces}
 use Rattle.tk_words.specs.Pieces.{piece}
 use Rattle.tk_frames.specs.declared.read_frame.ReadFrame.{ReadFrame}
 use Rattle.tk_frames.specs.Ranges.{AreTold}
-use Rattle.tk_client.specs.declared.asking.Asker.{Asker}
-use Rattle.tk_client.specs.declared.asking.Query.{Query}
+use Rattle.tk_client.specs.declared.query.Asker.{Asker}
+use Rattle.tk_client.specs.declared.query.Query.{Query}
 use Rattle.tk_client.specs.Asked.{seeds_told}
 
 -- the seed and the vector of a server, by its number

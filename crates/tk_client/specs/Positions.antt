@@ -3,14 +3,14 @@ use Rattle.std.specs.Prelude.{◌≡◌, ℕ, take, Option, Some, None}
 use Rattle.tk_shape.specs.declared.shape.Shape.{Shape}
 use Rattle.tk_words.specs.Words.{WordBook, hits_of, hits_under}
 use Rattle.tk_client.specs.declared.positions.Origin.{Origin}
-use Rattle.tk_client.specs.declared.positions.Spot.{Spot}
+use Rattle.tk_client.specs.declared.positions.NumberPositions.{NumberPositions}
 
 -- the first of these are the positions of the number, as they come from there
-abbrev pub IsSpotOf : Origin → Spot → Type 0
+abbrev pub IsSpotOf : Origin → NumberPositions → Type 0
 IsSpotOf o spot = take o.hits spot.hits ≡ hits_under o.bits o.hits o.seed spot.number
 
 -- what may be kept of positions that come from there; nothing where they come from nowhere
-abbrev pub IsKept : Option Origin → Option Spot → Type 0
+abbrev pub IsKept : Option Origin → Option NumberPositions → Type 0
 IsKept o None = Unit {0}
 IsKept None (Some spot) = ⊥
 IsKept (Some o) (Some spot) = IsSpotOf o spot

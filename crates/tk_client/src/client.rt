@@ -16,11 +16,11 @@ ghost use Rattle.tk_client.specs.Replies as replied;
 ghost use Rattle.tk_client.specs.Client.{new_client, target_over, opened, after_replies};
 ghost use Rattle.tk_client.specs.Client.{refusal_in};
 
-use crate::asking::draw_query;
 use crate::got::Got;
 use crate::open_read::OpenRead;
 use crate::outbox::Outbox;
-use crate::pairing::KeptPair;
+use crate::pairs::KeptPair;
+use crate::query::draw_query;
 use crate::reader::Reader;
 use crate::replies::{answer_of, check_replies};
 use crate::say_error::SayError;

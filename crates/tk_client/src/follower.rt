@@ -5,10 +5,10 @@ ghost use Rattle.tk_client.specs.Asked.{asked};
 ghost use Rattle.tk_client.specs.Reader.{got_in};
 ghost use Rattle.tk_client.specs.Looking.{new_follower, looked_for, after_look};
 
-use crate::asking::draw_query;
 use crate::got::Got;
-use crate::looking::text_in_buckets;
+use crate::lookup::text_in_buckets;
 use crate::open_read::OpenRead;
+use crate::query::draw_query;
 use crate::reader::Reader;
 use crate::sight::Sight;
 use std::alloc::Global;

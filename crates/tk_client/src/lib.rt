@@ -2,29 +2,29 @@
 //! to servers by frames alone.
 #![tactic(auto)]
 
-mod asking;
 mod client;
 mod follow;
 mod follower;
 mod got;
-mod joining;
+mod join;
 mod laws;
-mod looking;
+mod lookup;
 mod open_read;
 mod outbox;
-mod pairing;
+mod pairs;
 mod positions;
+mod query;
 mod reader;
-mod recording;
+mod record;
 mod replies;
 mod say_error;
-mod searching;
+mod search;
 mod sight;
 mod take_error;
-mod taking;
 mod target;
 mod vain_search;
 mod waiting;
+mod wanted;
 mod writes;
 mod written;
 

@@ -20,7 +20,7 @@ pub(crate) struct Origin {
 
 /// A number and its filter positions, which are the first of these.
 #[derive(Clone, Copy, Debug)]
-pub(crate) struct Spot {
+pub(crate) struct NumberPositions {
     pub number: u32,
     pub hits: [u32; 4],
 }
@@ -31,7 +31,7 @@ pub(crate) struct Spot {
 #[derive(Debug, Drop)]
 pub(crate) struct Positions {
     origin: Option<Origin>,
-    spots: [Option<Spot>; 8],
+    spots: [Option<NumberPositions>; 8],
 }
 
 impl Model for Positions {
@@ -107,7 +107,7 @@ impl Positions {
         }
         let hits = computed(shape, draws, log, number);
         if self.origin.is_some() {
-            self.spots[place] = Some(Spot { number, hits });
+            self.spots[place] = Some(NumberPositions { number, hits });
         }
         hits
     }

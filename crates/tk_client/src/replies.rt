@@ -10,12 +10,12 @@ ghost use Rattle.tk_client.specs.Replies.{frames_in, answer_in, unread, first_un
 ghost use Rattle.tk_client.specs.Replies.{IsRefusedForOrMemory, IsPlain, AreWholeReplies};
 ghost use Rattle.tk_client.specs.Replies.{other_number, other_name, first_other};
 
-use crate::joining::join;
+use crate::join::join;
 use crate::open_read::OpenRead;
-use crate::pairing::KeptPair;
+use crate::pairs::KeptPair;
 use crate::take_error::TakeError;
-use crate::taking::{text_in_blocks, wanted_for};
 use crate::target::Target;
+use crate::wanted::{text_in_blocks, wanted_for};
 use std::alloc::Global;
 use tk_frames::{FrameError, check_reply, u32_at};
 use tk_shape::{Bytes, Memory, Shape};

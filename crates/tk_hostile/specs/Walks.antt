@@ -21,7 +21,7 @@ use Rattle.tk_privacy.specs.Reads.{reads_before}
 use Rattle.tk_hostile.specs.Choice.{Choice}
 use Rattle.tk_hostile.specs.Wrong.{reader_asking, pair_asking, asks}
 use Rattle.tk_hostile.specs.declared.sides.Sides.{Sides}
-use Rattle.tk_hostile.specs.declared.walking.Fold.{Fold}
+use Rattle.tk_hostile.specs.declared.walk.Walked.{Walked}
 
 -- the servers are some of a shape
 pub record AreSides (shape : Shape) (sides : Sides) : Type 0 where
@@ -52,7 +52,7 @@ read_in S b H sides F j g c = read_for S.shape b H (pair_in S b H sides F g c) g
 
 -- before turn g all is as the definitions say of it, and the reads so far are those of the seen one
 pub record IsFoldBefore (S : Script) (b : WordBook) (H : History) (sides : Sides) (F : Choice)
-    (g : ℕ) (f : Fold) : Type 0 where
+    (g : ℕ) (f : Walked) : Type 0 where
   pub group : IsGroup S (knows_before S b H sides F g) g f.group
   pub ledger : Keeps S.shape (placed_before S (words_of S.shape b) H g) f.ledger
   pub reads : f.reads.items ≡ reads_before S.shape b H (pair_in S b H sides F) sides.seen g

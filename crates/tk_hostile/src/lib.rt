@@ -2,23 +2,23 @@
 //! but the one that is hidden can tell two scripts of one shape apart by what it sees.
 #![tactic(auto)]
 
-mod following;
+mod changed_tape;
+mod frames_seen;
 mod laws;
-mod mirroring;
-mod reading;
+mod logs_got;
 mod replies;
-mod replying;
 mod sides;
 mod sums;
-mod viewing;
-mod walking;
+mod turn_reads;
+mod walk;
+mod wrong_servers;
 
-pub use following::wrong_logs;
+pub use changed_tape::wrong_mirror;
+pub use frames_seen::wrong_view;
 pub use laws::{
     acts_as_client, as_many_tapes, chosen_alike, honest_replies, one_to_one, one_to_one_attacked,
     same_seen, same_view,
 };
-pub use mirroring::wrong_mirror;
+pub use logs_got::wrong_logs;
 pub use replies::Replies;
 pub use tk_shape::Memory;
-pub use viewing::wrong_view;

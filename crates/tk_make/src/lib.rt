@@ -1,10 +1,10 @@
 //! A group made from a number, and the counts of what a run left.
 #![tactic(auto)]
 
-mod counting;
+mod count;
 mod counts;
-mod generating;
-mod giving;
+mod generator;
+mod given;
 mod keys;
 mod kind;
 mod laws;
@@ -12,9 +12,9 @@ mod note;
 mod roles;
 mod says;
 mod sum;
-mod tallying;
+mod tally_text;
 
-pub use generating::generate;
+pub use generator::generate;
 pub use laws::tallies;
-pub use tallying::tally;
+pub use tally_text::tally;
 pub use tk_shape::Memory;

@@ -6,11 +6,11 @@ mod epochs;
 mod fault;
 mod marks;
 mod member;
+mod news;
+mod packets;
 mod replies;
-mod sending;
 mod setup;
 mod taking_part;
-mod telling;
 mod word;
 
 pub use fault::Fault;

@@ -13,9 +13,9 @@ ghost use Rattle.tk_member.specs.Pacing.{IsFresh};
 
 use crate::epochs::Epochs;
 use crate::fault::Fault;
+use crate::news::{known_numbers, refused_packet, tell_news};
+use crate::packets::{push_frames, push_to_each};
 use crate::replies::{all_of, no_replies};
-use crate::sending::{push_frames, push_to_each};
-use crate::telling::{known_numbers, refused_packet, tell_news};
 use crate::word::{HostWord, word_of};
 use std::alloc::Global;
 use std::marker::Model;

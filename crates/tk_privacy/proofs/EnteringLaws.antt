@@ -22,7 +22,7 @@ use Rattle.tk_privacy.specs.Privacy.{Pairs, pairs_read, read_for, view_for}
 use Rattle.tk_privacy.specs.Hiding.{read_in}
 use Rattle.tk_privacy.specs.Reads.{all_reads}
 use Rattle.tk_privacy.specs.Views.{HasCounted, HasEntered, frame_in}
-use Rattle.tk_privacy.specs.declared.watching.Seen.{Seen}
+use Rattle.tk_privacy.specs.declared.server_sights.Seen.{Seen}
 use Rattle.tk_privacy.proofs.ReadsLaws.{read-in}
 use Rattle.tk_privacy.proofs.Seen.{same-flat}
 

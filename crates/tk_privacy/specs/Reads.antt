@@ -12,7 +12,7 @@ use Rattle.tk_report.specs.Ledgers.{Keeps}
 use Rattle.tk_report.specs.Groups.{IsGroup}
 use Rattle.tk_report.specs.Turns.{placed_before}
 use Rattle.tk_privacy.specs.Privacy.{Pairs, pairs_read, read_for}
-use Rattle.tk_privacy.specs.declared.reads.Fold.{Fold}
+use Rattle.tk_privacy.specs.declared.reads.Followed.{Followed}
 
 -- the read frames that server j sees in turn g of a run that reads these buckets, by client
 abbrev pub reads_at : Shape → WordBook → History → Pairs → ℕ → ℕ → List ReadFrame
@@ -28,7 +28,7 @@ abbrev pub all_reads : Shape → WordBook → History → Pairs → ℕ → List
 all_reads shape b H pairs j = reads_before shape b H pairs j (turn_count shape)
 
 -- before turn g all is as the definitions say of it, and the reads so far are those of server j
-pub record IsFoldBefore (S : Script) (b : WordBook) (H : History) (j g : ℕ) (f : Fold)
+pub record IsFoldBefore (S : Script) (b : WordBook) (H : History) (j g : ℕ) (f : Followed)
     : Type 0 where
   pub group : IsGroup S (known_first S) g f.group
   pub followers : AreFollowers S.shape.clients (follower_before S (words_of S.shape b) H g)

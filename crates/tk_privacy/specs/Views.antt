@@ -13,8 +13,8 @@ use Rattle.tk_report.specs.Entries.{write_at}
 use Rattle.tk_report.specs.Exchange.{frames_before}
 use Rattle.tk_report.specs.Groups.{IsGroup}
 use Rattle.tk_report.specs.Turns.{placed_before}
-use Rattle.tk_privacy.specs.declared.watching.Seen.{Seen}
-use Rattle.tk_privacy.specs.declared.viewing.Viewed.{Viewed}
+use Rattle.tk_privacy.specs.declared.server_sights.Seen.{Seen}
+use Rattle.tk_privacy.specs.declared.server_view.Viewed.{Viewed}
 use Rattle.tk_privacy.specs.Hiding.{read_in}
 
 -- the frame of a client's read in a turn, where these are the read frames of all turns

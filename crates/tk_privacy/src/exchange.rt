@@ -10,7 +10,7 @@ ghost use Rattle.tk_privacy.specs.Exchanging.{write_exchanged, writes_of_turn, w
 ghost use Rattle.tk_privacy.specs.Exchanging.{keyed_exchanged, numbers_of_log, keyeds_exchanged};
 
 use crate::cells::Cells;
-use crate::numbering::texts_of;
+use crate::log_texts::texts_of;
 use crate::way::Way;
 use std::alloc::Global;
 use tk_report::{Sendings, Sent};

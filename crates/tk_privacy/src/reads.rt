@@ -5,7 +5,7 @@ ghost use Rattle.tk_words.specs.Words.{WordBook};
 ghost use Rattle.tk_privacy.specs.Privacy.{pairs_read};
 ghost use Rattle.tk_privacy.specs.Reads as reads;
 
-use crate::asking::{Spot, ask_turn};
+use crate::asked::{ServerTurn, ask_turn};
 use std::alloc::Global;
 use tk_client::Follower;
 use tk_frames::ReadFrame;
@@ -17,7 +17,7 @@ use tk_words::Draws;
 /// A history as far as it was gone through: the clients that write, one for each who reads in its
 /// place, what the entries leave for reads, and the read frames that one server sees.
 #[derive(Drop)]
-pub(crate) struct Fold {
+pub(crate) struct Followed {
     pub group: Group,
     pub followers: Vec<Follower>,
     pub ledger: Ledger,
@@ -40,17 +40,17 @@ pub(crate) fn all_reads<D: Draws>(
 {
     let mut fold = open_fold(alloc, plan.script)?;
     'turns: for turn in 0..plan.script.shape.turns() {
-        take_turn(alloc, plan, Spot { turn, server }, &mut fold)?;
+        take_turn(alloc, plan, ServerTurn { turn, server }, &mut fold)?;
     }
     Ok(fold.reads)
 }
 
 /// A history before its first turn.
-fn open_fold(alloc: Global, script: &Script) -> Result<Fold, Memory>
+fn open_fold(alloc: Global, script: &Script) -> Result<Followed, Memory>
     ensures { (b : WordBook) (H : History) (j : ℕ)
         → IfOk result (reads.IsFoldBefore script.now b H j 0) }
 {
-    Ok(Fold {
+    Ok(Followed {
         group: Group::open(alloc, script)?,
         followers: open_followers(alloc, script)?,
         ledger: Ledger::open(alloc, &script.shape)?,
@@ -63,8 +63,8 @@ fn open_fold(alloc: Global, script: &Script) -> Result<Fold, Memory>
 fn take_turn<D: Draws>(
     alloc: Global,
     plan: &Plan<D>,
-    spot: Spot,
-    fold: &mut Fold,
+    spot: ServerTurn,
+    fold: &mut Followed,
 ) -> Result<(), Memory>
     requires turn_in { spot.turn < turn_count plan.now.script.now.shape }
     requires low { 1 ≤ spot.server }

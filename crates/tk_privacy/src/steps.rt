@@ -9,7 +9,7 @@ ghost use Rattle.tk_privacy.specs.Steps.{AreLastReads, reads_changed};
 
 use crate::cells::Cells;
 use crate::exchange::{Exchange, push};
-use crate::hiding::Hiding;
+use crate::hidden_cells::Hiding;
 use crate::way::Way;
 use std::alloc::Global;
 use tk_frames::ReadFrame;

@@ -4,7 +4,7 @@ ghost use Rattle.tk_relay.specs.Halves.{HasHalves, halves_bytes};
 ghost use Rattle.tk_relay.specs.Pads.{masked};
 ghost use Rattle.tk_relay.specs.Bundles.{AreOneRead, vectors_of, parts_for, bundle_frame, bundle_len};
 
-use crate::appending::{append, append_masked};
+use crate::append::{append, append_masked};
 use crate::{Pads, kind};
 use tk_frames::{ReadFrame, head_of};
 use tk_shape::{Memory, Shape};

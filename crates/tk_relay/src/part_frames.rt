@@ -10,7 +10,7 @@ ghost use Rattle.tk_relay.specs.Parts.{part_with, part_checks, frame_as, part_fr
 ghost use Rattle.tk_relay.specs.Parts.{masked_reply_frame, IsPart};
 ghost use Rattle.tk_frames.specs.Fields.{number_at};
 
-use crate::appending::append;
+use crate::append::append;
 use crate::{Part, kind};
 use std::alloc::Global;
 use tk_frames::{FrameError, check_asked, head_of, u32_at};

@@ -7,7 +7,7 @@ ghost use Rattle.tk_cluster.specs.Clusters.{Met};
 ghost use Rattle.tk_cluster.specs.Tellings.{Telling};
 ghost use Rattle.tk_relay.specs.Ordered.{HaveOrdered, HaveTaken};
 
-use crate::ordering::order;
+use crate::order::order;
 use std::alloc::{AllocGlobal, Global};
 use std::sync::{Arc, Wait};
 use tk_cluster::{Cluster, EpochSet, Pass, Publisher};

@@ -15,12 +15,12 @@ ghost use Rattle.tk_relay.specs.Relayed.{relayed_turn, relayed_exchange};
 ghost use Rattle.tk_relay.specs.Running.{IsRunBefore, HaveWritten, AreRelayed, client_wrote};
 
 use crate::RelayRunError;
-use crate::answering::serve_all;
-use crate::receiving::take_all;
+use crate::asked_reads::{ask_all, pads_of_all};
+use crate::frames_seen::{give_sights, sights_of};
 use crate::relayed_read::RelayedRead;
-use crate::seeing::{give_sights, sights_of};
-use crate::sending::{ask_all, pads_of_all};
+use crate::serve_all::serve_all;
 use crate::servers::{Servers, pin_all};
+use crate::taken_replies::take_all;
 use std::alloc::{AllocGlobal, Global};
 use std::sync::{Arc, Wait};
 use tk_client::Client;

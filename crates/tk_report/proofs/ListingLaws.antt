@@ -24,7 +24,7 @@ use Rattle.tk_script.specs.declared.role.Role.{Role}
 use Rattle.tk_script.specs.Sent.{Sending, sendings_from, in_run, writer_of, blank_role}
 use Rattle.tk_script.proofs.Offers.{of_log, of_log-cons}
 use Rattle.tk_report.specs.Listings.{sent_by, is_written_by, sent_after, IsListed, IsListing}
-use Rattle.tk_report.specs.declared.listing.Listing.{Listing}
+use Rattle.tk_report.specs.declared.sent_list.Listing.{Listing}
 use Rattle.tk_report.proofs.SendingsLaws.{sent_by-ascends}
 
 -- what stands at a place, and what comes after it

@@ -7,7 +7,7 @@ use Rattle.tk_report.specs.Clients.{known_first, AreFollowers, follower_before}
 use Rattle.tk_report.specs.Groups.{IsGroup}
 use Rattle.tk_report.specs.Ledgers.{Keeps}
 use Rattle.tk_report.specs.Turns.{placed_before}
-use Rattle.tk_report.specs.declared.folding.Fold.{Fold}
+use Rattle.tk_report.specs.declared.fold.Fold.{Fold}
 
 -- before turn g all is as the definitions say of it
 pub record IsFoldBefore (S : Script) (b : WordBook) (H : History) (g : ℕ) (f : Fold)

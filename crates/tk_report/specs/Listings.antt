@@ -4,7 +4,7 @@ use Rattle.std.specs.Prelude.{count_by, slice_index_or}
 use Rattle.tk_script.specs.declared.script.Script.{Script}
 use Rattle.tk_script.specs.declared.say.Say.{Say}
 use Rattle.tk_script.specs.Sent.{Sending, sendings, sendings_from, in_run, writer_of}
-use Rattle.tk_report.specs.declared.listing.Listing.{Listing}
+use Rattle.tk_report.specs.declared.sent_list.Listing.{Listing}
 
 -- what a client sends in the run, in order
 abbrev pub sent_by : Script → ℕ → List Sending

@@ -43,7 +43,10 @@ impl Count {
             return;
         };
         let pair = (write.first, write.second);
-        match self.table.put(placed.position, pair, write.block.as_slice()) {
+        match self
+            .table
+            .put(placed.position, pair, write.block.as_slice())
+        {
             Put::Placed => {}
             Put::Displaced => self.displaced += 1,
         }

@@ -1,8 +1,8 @@
-use crate::opening::open_clients;
+use crate::opened::open_clients;
 use crate::plan::Plan;
-use crate::saying::say_turn;
-use crate::taking::Takes;
-use crate::writing::write_turn;
+use crate::said::say_turn;
+use crate::takes::Takes;
+use crate::turn_writes::write_turn;
 use std::alloc::Global;
 use tk_client::Client;
 use tk_script::Script;

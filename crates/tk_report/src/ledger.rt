@@ -8,7 +8,7 @@ ghost use Rattle.tk_report.specs.declared.marked.Marked.{Marked};
 
 use crate::count::Count;
 use crate::marked::Marked;
-use crate::taking::Takes;
+use crate::takes::Takes;
 use std::alloc::Global;
 use std::mem;
 use tk_bloom::Window;

@@ -4,7 +4,7 @@ ghost use Rattle.tk_report.specs.Clients.{joined};
 ghost use Rattle.tk_report.specs.Leaving.{got_by, unsent_by};
 
 use crate::clients::Clients;
-use crate::folding::Fold;
+use crate::fold::Fold;
 use tk_client::Got;
 
 /// What is left of the clients of a run.

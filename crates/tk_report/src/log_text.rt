@@ -4,7 +4,7 @@ ghost use Rattle.tk_report.specs.Leaving.{got_by};
 ghost use Rattle.tk_report.specs.Report.{line, got_line, got_lines, log_lines, role_in};
 
 use crate::left::Left;
-use crate::telling::Telling;
+use crate::told_by::Telling;
 use std::alloc::Global;
 use tk_client::Got;
 use tk_script::{push_numbers, push_numbers_line};

@@ -3,7 +3,7 @@ ghost use Rattle.tk_report.specs.Outcomes.{outcome_text};
 
 use crate::Outcome;
 use crate::report_text::print_told;
-use crate::telling::Telling;
+use crate::told_by::Telling;
 use std::alloc::Global;
 use tk_shape::Memory;
 

@@ -6,7 +6,7 @@ ghost use Rattle.tk_report.specs.Report.{unsent_line};
 use crate::history_text::push_history;
 use crate::left::Left;
 use crate::log_text::push_logs;
-use crate::telling::Telling;
+use crate::told_by::Telling;
 use std::alloc::Global;
 use tk_script::push_numbers_line;
 use tk_shape::Memory;

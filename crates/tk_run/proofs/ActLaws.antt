@@ -8,7 +8,7 @@ use Rattle.tk_board.specs.Boards.{Known}
 use Rattle.tk_cluster.specs.declared.set.EpochSet.{EpochSet}
 use Rattle.tk_cluster.specs.Passes.{Passing, Reading}
 use Rattle.tk_cluster.specs.Tellings.{Telling}
-use Rattle.tk_run.specs.declared.acting.Desk.{Desk}
+use Rattle.tk_run.specs.declared.actors.Desk.{Desk}
 use Rattle.tk_run.specs.Acting.{WroteAndPinned, Heralds}
 use Rattle.tk_run.specs.Ticks.{AllBy, Done}
 

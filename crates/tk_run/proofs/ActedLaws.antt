@@ -15,7 +15,7 @@ use Rattle.tk_cluster.specs.Refusals.{SpellsWrite}
 use Rattle.tk_cluster.specs.Passes.{Passing, Wrote, Pins, Reads}
 use Rattle.tk_cluster.specs.Tellings.{Telling}
 use Rattle.tk_run.specs.declared.pinned_write.PinnedWrite.{PinnedWrite}
-use Rattle.tk_run.specs.declared.acting.Desk.{Desk}
+use Rattle.tk_run.specs.declared.actors.Desk.{Desk}
 use Rattle.tk_run.specs.Ticks.{Done}
 use Rattle.tk_run.specs.Ran.{ActsOn, EachBy, Turned, PassesAt, Ran, set_on}
 use Rattle.tk_run.specs.Acting.{WroteAndPinned, Acted, AreFrames, frames_on, slips_on}

@@ -8,7 +8,7 @@ use Rattle.std.specs.Global.{Global}
 use Rattle.tk_shape.specs.declared.shape.Shape.{Shape}
 use Rattle.tk_frames.specs.declared.entry.Placed.{Placed}
 use Rattle.tk_cluster.specs.Refusals.{IsAsked}
-use Rattle.tk_run.specs.declared.talking.Reading.{Reading}
+use Rattle.tk_run.specs.declared.talk.Reading.{Reading}
 use Rattle.tk_run.specs.Rows.{Frame}
 use Rattle.tk_run.specs.Reading.{EachAt}
 use Rattle.tk_run.specs.Answering.{MayAnswer, IsAnswered, AllStand, MayReply, AreGiven, Replies, AllReply, Due, set_of}

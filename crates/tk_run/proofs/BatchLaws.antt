@@ -11,7 +11,7 @@ use Rattle.std.proofs.Math.Seq.{get_or-append_seam}
 use Rattle.std.specs.Prelude.{slice_index_or}
 use Rattle.tk_shape.specs.declared.shape.Shape.{Shape}
 use Rattle.tk_cluster.specs.Refusals.{IsAsked, SpellsRead}
-use Rattle.tk_run.specs.declared.talking.Reading.{Reading}
+use Rattle.tk_run.specs.declared.talk.Reading.{Reading}
 use Rattle.tk_run.specs.Rows.{Frame}
 use Rattle.tk_run.specs.Answering.{MayReply, IsGiven, AreGiven, set_of, epoch_of}
 

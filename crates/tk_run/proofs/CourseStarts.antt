@@ -21,7 +21,7 @@ use Rattle.tk_run.specs.Courses.{GoesOn, IsCourse}
 use Rattle.tk_run.proofs.RanEnds.{ran_first}
 use Rattle.tk_run.proofs.UnderLaws.{clients-first}
 use Rattle.tk_run.proofs.GoesOnLaws.{filled}
-use Rattle.tk_run.proofs.SightLaws.{some_goes_on}
+use Rattle.tk_run.proofs.TurnSights.{some_goes_on}
 
 -- all is opened as it is before the first turn
 pub course_first : (S : Script) (b : WordBook) (V : History → Serving) (group : Group)

@@ -21,7 +21,7 @@ use Rattle.tk_report.specs.Entries.{write_at}
 use Rattle.tk_report.specs.Queues.{writing_before}
 use Rattle.tk_report.proofs.Offers.{queues-send}
 use Rattle.tk_cluster.specs.Refusals.{SpellsWrite}
-use Rattle.tk_run.specs.declared.acting.Desk.{Desk}
+use Rattle.tk_run.specs.declared.actors.Desk.{Desk}
 use Rattle.tk_run.specs.Acting.{AreFrames, frames_on}
 use Rattle.tk_lists.proofs.Offers.{ChangedUpTo, changed-none, changed-next}
 

@@ -30,13 +30,13 @@ pub mod RanEnds
 pub mod GoesOnLaws
 pub mod ActedLaws
 pub mod WrittenTurns
-pub mod SightLaws
+pub mod TurnSights
 pub mod TapTurns
 pub mod CameLaws
 pub mod CourseStarts
 pub mod Stopping
 pub mod SightCalls
-pub mod PosingLaws
+pub mod AskedSets
 pub mod TalkSteps
 pub mod BatchLaws
 pub mod AnsweredLaws

@@ -13,8 +13,8 @@ use Rattle.tk_words.specs.Words.{WordBook, words_of}
 use Rattle.tk_client.specs.Client.{ClientState}
 use Rattle.tk_cluster.specs.declared.set.EpochSet.{EpochSet}
 use Rattle.tk_run.specs.declared.pinned_write.PinnedWrite.{PinnedWrite}
-use Rattle.tk_run.specs.declared.talking.Talk.{Talk}
-use Rattle.tk_run.specs.declared.talking.Reading.{Reading}
+use Rattle.tk_run.specs.declared.talk.Talk.{Talk}
+use Rattle.tk_run.specs.declared.talk.Reading.{Reading}
 use Rattle.tk_report.specs.Serving.{Serving}
 use Rattle.tk_run.specs.Ran.{set_on}
 use Rattle.tk_run.specs.Turns.{placed_before}

@@ -21,8 +21,8 @@ use Rattle.tk_report.specs.Serving.{Serving, read_under}
 use Rattle.tk_cluster.specs.declared.set.EpochSet.{EpochSet}
 use Rattle.tk_cluster.specs.Refusals.{IsAsked}
 use Rattle.tk_cluster.specs.Sets.{Stands}
-use Rattle.tk_run.specs.declared.talking.Reading.{Reading}
-use Rattle.tk_run.specs.declared.talking.Talk.{Talk}
+use Rattle.tk_run.specs.declared.talk.Reading.{Reading}
+use Rattle.tk_run.specs.declared.talk.Talk.{Talk}
 use Rattle.tk_run.specs.Rows.{Frame}
 use Rattle.tk_report.specs.Clients.{AreClients, client_knowing}
 use Rattle.tk_run.specs.Turns.{placed_before}
@@ -36,7 +36,7 @@ use Rattle.tk_run.specs.Ranging.{over_ranges, bytes_made}
 use Rattle.tk_run.specs.Under.{client_under, asked_under}
 use Rattle.tk_run.proofs.AnswerLaws.{asked-shape, asked-open}
 use Rattle.tk_run.proofs.OrderedPlaces.{Numbers, numbers-told, numbers-moved, numbers-kept, in_places}
-use Rattle.tk_run.proofs.PosingLaws.{asked-of}
+use Rattle.tk_run.proofs.AskedSets.{asked-of}
 use Rattle.tk_run.proofs.TalkAll.{Begins, all-begin}
 use Rattle.tk_run.proofs.TalkReads.{has_taken}
 use Rattle.tk_run.proofs.UnderLaws.{reads-whole}

@@ -28,7 +28,7 @@ use Rattle.tk_cluster.specs.Passes.{Passing}
 use Rattle.tk_cluster.specs.Tellings.{Telling}
 use Rattle.tk_report.specs.declared.group.Group.{Group}
 use Rattle.tk_run.specs.declared.pinned_write.PinnedWrite.{PinnedWrite}
-use Rattle.tk_run.specs.declared.acting.Desk.{Desk}
+use Rattle.tk_run.specs.declared.actors.Desk.{Desk}
 use Rattle.tk_run.specs.Acting.{Acted, AreFrames, frames_on, slips_on}
 use Rattle.tk_report.specs.Clients.{AreClients}
 use Rattle.tk_report.specs.Serving.{Serving}

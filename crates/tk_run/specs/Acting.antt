@@ -13,7 +13,7 @@ use Rattle.tk_cluster.specs.Passes.{Passing, own, WroteBytes, Pins, Reads}
 use Rattle.tk_cluster.specs.Tellings.{Telling, told_of, Published}
 use Rattle.tk_cluster.specs.Clusters.{Met}
 use Rattle.tk_run.specs.declared.pinned_write.PinnedWrite.{PinnedWrite}
-use Rattle.tk_run.specs.declared.acting.Desk.{Desk}
+use Rattle.tk_run.specs.declared.actors.Desk.{Desk}
 use Rattle.tk_run.specs.Ran.{AllLearn, set_on}
 use Rattle.tk_run.specs.Ticks.{Done}
 

@@ -9,7 +9,7 @@ use Rattle.tk_frames.specs.declared.entry.Placed.{Placed}
 use Rattle.tk_cluster.specs.declared.set.EpochSet.{EpochSet}
 use Rattle.tk_cluster.specs.Refusals.{IsAsked}
 use Rattle.tk_cluster.specs.Sets.{Stands}
-use Rattle.tk_run.specs.declared.talking.Reading.{Reading}
+use Rattle.tk_run.specs.declared.talk.Reading.{Reading}
 
 -- the set that answers a read, its number, and what the server at a place is asked
 abbrev pub set_of : Reading → EpochSet

@@ -24,7 +24,7 @@ use Rattle.tk_cluster.specs.Passes.{Passing}
 use Rattle.tk_cluster.specs.Tellings.{Telling}
 use Rattle.tk_report.specs.declared.group.Group.{Group}
 use Rattle.tk_run.specs.declared.pinned_write.PinnedWrite.{PinnedWrite}
-use Rattle.tk_run.specs.declared.talking.Talk.{Talk}
+use Rattle.tk_run.specs.declared.talk.Talk.{Talk}
 use Rattle.tk_report.specs.Clients.{AreClients}
 use Rattle.tk_report.specs.Report.{read_over}
 use Rattle.tk_report.specs.Serving.{Serving, read_under, exchange_under}

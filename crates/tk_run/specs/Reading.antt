@@ -6,8 +6,8 @@ use Rattle.tk_script.specs.declared.script.Script.{Script}
 use Rattle.tk_words.specs.Words.{WordBook, words_of}
 use Rattle.tk_client.specs.Client.{ClientState, after_replies}
 use Rattle.tk_report.specs.Serving.{Serving}
-use Rattle.tk_run.specs.declared.talking.Reading.{Reading}
-use Rattle.tk_run.specs.declared.talking.Talk.{Talk}
+use Rattle.tk_run.specs.declared.talk.Reading.{Reading}
+use Rattle.tk_run.specs.declared.talk.Talk.{Talk}
 use Rattle.tk_run.specs.Courses.{MayAsk, MayTalk, MayAskIn, AsksAs}
 
 abbrev pub readers : List Reading → List ClientState

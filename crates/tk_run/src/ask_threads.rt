@@ -5,7 +5,7 @@ ghost use Rattle.tk_run.specs.Courses.{MayAsk, MayTalk};
 ghost use Rattle.tk_run.specs.Reading.{AsksFor, MayReadOn, HasAsked, EachAt};
 
 use crate::sums::Sums;
-use crate::talking::{Reading, Round, Talk, all_done};
+use crate::talk::{Reading, Round, Talk, all_done};
 use std::thread;
 use std::thread::Threads;
 use tk_client::Client;

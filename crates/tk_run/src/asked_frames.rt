@@ -12,7 +12,7 @@ ghost use Rattle.tk_run.specs.Under.{asked_under, posed, wrote_under};
 
 use crate::frames::{Frames, deal, empty_rows};
 use crate::server::Server;
-use crate::spot::Spot;
+use crate::turn_place::TurnPlace;
 use std::alloc::Global;
 use tk_client::Client;
 use tk_report::Plan;
@@ -51,7 +51,7 @@ pub(crate) fn ask_all<D: Draws>(
 {
     let mut rows = empty_rows(alloc, plan.script.shape.servers)?;
     'asking: for (i, client) in clients.iter_mut().enumerate() {
-        let spot = Spot {
+        let spot = TurnPlace {
             turn,
             place: i as u32,
         };
@@ -65,7 +65,7 @@ pub(crate) fn ask_all<D: Draws>(
 fn ask<D: Draws>(
     alloc: Global,
     plan: &Plan<D>,
-    spot: Spot,
+    spot: TurnPlace,
     client: &mut Client,
     server: &Server,
 ) -> Result<Vec<Bytes>, Memory>

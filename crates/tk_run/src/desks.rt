@@ -10,7 +10,7 @@ ghost use Rattle.tk_report.specs.Clients.{AreClients, client_knowing, client_tol
 ghost use Rattle.tk_cluster.specs.Refusals.{SpellsWrite};
 ghost use Rattle.tk_run.specs.Acting.{AreFrames, frames_on, slips_on};
 
-use crate::acting::Desk;
+use crate::actors::Desk;
 use crate::pinned_write::PinnedWrite;
 use std::alloc::Global;
 use tk_client::Client;

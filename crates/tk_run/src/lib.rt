@@ -2,9 +2,8 @@
 //! what the server sees and answers, and ends with what its clients have got.
 #![tactic(auto)]
 
-mod acting;
-mod answering;
-mod arranging;
+mod actors;
+mod answers;
 mod ask_threads;
 mod asked_frames;
 mod closed_run;
@@ -13,29 +12,30 @@ mod crew;
 mod desks;
 mod ended;
 mod frames;
+mod go_on;
 mod keeper;
 mod kept;
 mod laws;
 mod pinned_write;
-mod ranging;
-mod replying;
+mod ranged_batch;
+mod replies;
 mod resume_error;
-mod resuming;
 mod run;
 mod run_error;
 mod serially;
 mod server;
 mod servers;
-mod sharing;
-mod spot;
+mod side_by_side;
 mod stations;
 mod sums;
-mod taking;
-mod talking;
+mod taken;
+mod talk;
 mod tap_bytes;
-mod tapping;
+mod taps;
 mod threaded;
 mod ticks;
+mod turn_order;
+mod turn_place;
 mod turn_reads;
 mod turns;
 

@@ -15,8 +15,8 @@ ghost use Rattle.tk_run.specs.Courses.{entries_behind, talk_seen, HasTalked};
 ghost use Rattle.tk_run.specs.Rows.{AreRows};
 ghost use Rattle.tk_run.specs.Threads.{TapsAfter};
 
-use crate::arranging::behind;
-use crate::talking::Talk;
+use crate::talk::Talk;
+use crate::turn_order::behind;
 use std::alloc::{AllocGlobal, Global};
 use std::thread;
 use std::thread::Threads;

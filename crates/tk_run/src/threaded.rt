@@ -3,7 +3,7 @@ ghost use Rattle.tk_io.specs.Content.{Rose};
 ghost use Rattle.tk_run.specs.Ranging.{over_ranges};
 ghost use Rattle.tk_run.specs.Threads.{CameAbout, CameAboutUnder};
 
-use crate::acting::Herald;
+use crate::actors::Herald;
 use crate::closed_run::ClosedRun;
 use crate::course::{Course, Stage, run_turns};
 use crate::crew::Crew;

@@ -19,7 +19,7 @@ ghost use Rattle.tk_run.specs.Under.{wrote_under};
 use crate::asked_frames::ask_all;
 use crate::frames::{Frames, deal, empty_rows};
 use crate::server::Server;
-use crate::spot::Spot;
+use crate::turn_place::TurnPlace;
 use std::alloc::Global;
 use tk_client::Client;
 use tk_report::Plan;
@@ -103,7 +103,7 @@ fn answer_all<D: Draws>(
 {
     let mut rows = empty_rows(alloc, plan.script.shape.clients)?;
     'answering: for (i, server) in servers.iter_mut().enumerate() {
-        let spot = Spot {
+        let spot = TurnPlace {
             turn,
             place: i as u32,
         };
@@ -117,7 +117,7 @@ fn answer_all<D: Draws>(
 fn answer_one<D: Draws>(
     alloc: Global,
     plan: &Plan<D>,
-    spot: Spot,
+    spot: TurnPlace,
     asked: &[Bytes],
     server: &mut Server,
 ) -> Result<Vec<Bytes>, Memory>
@@ -172,7 +172,7 @@ fn take_replies<D: Draws>(
         (AreClients S.shape.clients (client_under S book history V (turn + 1)) clients.new) }
 {
     'taking: for (i, client) in clients.iter_mut().enumerate() {
-        let spot = Spot {
+        let spot = TurnPlace {
             turn,
             place: i as u32,
         };
@@ -185,7 +185,7 @@ fn take_replies<D: Draws>(
 fn take_one<D: Draws>(
     alloc: Global,
     plan: &Plan<D>,
-    spot: Spot,
+    spot: TurnPlace,
     replies: &[Bytes],
     client: &mut Client,
 ) -> Result<(), Memory>

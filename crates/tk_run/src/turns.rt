@@ -14,12 +14,12 @@ ghost use Rattle.tk_run.specs.Keeping.{begun_anew, held_now, kept_up_to, saved_b
 ghost use Rattle.tk_run.specs.Servers.{nothing_seen, with_more};
 ghost use Rattle.tk_run.specs.Under.{IsRunning, IsRunUnder, Serves, turn_under};
 
+use crate::go_on::go_on_before;
 use crate::keeper::Keeper;
 use crate::resume_error::ResumeError;
-use crate::resuming::go_on_before;
 use crate::run::Run;
 use crate::servers::open_servers;
-use crate::tapping::give_all;
+use crate::taps::give_all;
 use crate::turn_reads::read_turn;
 use std::alloc::Global;
 use tk_io::Taps;

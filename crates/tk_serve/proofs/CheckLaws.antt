@@ -16,8 +16,8 @@ use Rattle.tk_frames.proofs.Offers.{read-again}
 use Rattle.tk_serve.specs.declared.due.Due.{Due}
 use Rattle.tk_serve.specs.declared.refusal.Refusal.{Refusal}
 use Rattle.tk_serve.specs.declared.refusal.Refusal.TheVariants as refusal
-use Rattle.tk_serve.specs.declared.checking.Checked.{Checked}
-use Rattle.tk_serve.specs.declared.checking.Checked.TheVariants.{Write, Read, Refused}
+use Rattle.tk_serve.specs.declared.check.Checked.{Checked}
+use Rattle.tk_serve.specs.declared.check.Checked.TheVariants.{Write, Read, Refused}
 use Rattle.tk_serve.specs.Refusals.{of_fault, after_fault, unless, write_misplaced, read_misplaced, write_refusal}
 use Rattle.tk_serve.specs.Refusals.{read_refusal, refusal_by, is_read_kind}
 use Rattle.tk_serve.specs.Checked.{IsTakenWrite, IsTakenRead, IsWriteChecked, IsReadChecked, IsChecked, IsRefusedFor}

@@ -13,7 +13,7 @@ use Rattle.tk_serve.specs.declared.due.Due.{Due}
 use Rattle.tk_serve.specs.declared.refusal.Refusal.{Refusal}
 use Rattle.tk_serve.specs.Seats.{Seat, with_write, with_read, turns_written, newest}
 use Rattle.tk_serve.specs.Refusals.{refusal_by, due_of, code_of}
-use Rattle.tk_serve.specs.declared.checking.Checked.TheVariants.{Write, Read, Refused}
+use Rattle.tk_serve.specs.declared.check.Checked.TheVariants.{Write, Read, Refused}
 use Rattle.tk_serve.specs.Checked.{IsTaken, IsTakenWrite, IsTakenRead, IsChecked}
 use Rattle.tk_serve.specs.Steps.{Step, step_by, step, with_frame, all_gained}
 use Rattle.tk_serve.specs.Stands.{Stands, due_at}

@@ -7,8 +7,8 @@ use Rattle.tk_frames.specs.declared.fault.FrameError.{FrameError}
 use Rattle.tk_frames.specs.Fields.{write_in, read_in}
 use Rattle.tk_serve.specs.declared.due.Due.{Due}
 use Rattle.tk_serve.specs.declared.refusal.Refusal.{Refusal}
-use Rattle.tk_serve.specs.declared.checking.Checked.{Checked}
-use Rattle.tk_serve.specs.declared.checking.Checked.TheVariants.{Write, Read, Refused}
+use Rattle.tk_serve.specs.declared.check.Checked.{Checked}
+use Rattle.tk_serve.specs.declared.check.Checked.TheVariants.{Write, Read, Refused}
 use Rattle.tk_serve.specs.Seats.{IsWriteOf, IsReadOf}
 use Rattle.tk_serve.specs.Refusals.{of_fault, write_refusal, read_refusal, refusal_by}
 

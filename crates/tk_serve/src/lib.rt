@@ -3,7 +3,7 @@
 //! how packets of different clients are mixed.
 #![tactic(auto)]
 
-mod checking;
+mod check;
 mod desk;
 mod due;
 mod fault;
@@ -14,8 +14,8 @@ mod release;
 mod server;
 mod serving;
 mod setup;
-mod taking;
-mod telling;
+mod take;
+mod tell;
 mod turns;
 
 pub use fault::Fault;

@@ -12,7 +12,7 @@ pub(crate) type Slots = [[Option<Entry>; 4]; 64];
 
 /// A slot of a bucket.
 #[derive(Clone, Copy)]
-struct Spot {
+struct SlotPlace {
     bucket: u32,
     slot: usize,
 }

@@ -2,14 +2,14 @@
 use Rattle.std.proofs.Common.{◌++◌, ◌∙◌, List, All, arith, refl, sym, subst}
 use Rattle.std.specs.Prelude.{flat_map}
 use Rattle.tk_schedule.specs.declared.history.History.{History}
-use Rattle.tk_run.specs.declared.talking.Talk.{Talk}
+use Rattle.tk_run.specs.declared.talk.Talk.{Talk}
 use Rattle.tk_run.specs.Rows.{AreRows}
 use Rattle.tk_run.specs.Courses.{GoesOn, AreTalks, AreSights, HasTalked, talk_seen}
 use Rattle.tk_run.specs.Ranging.{over_ranges}
 use Rattle.tk_io.proofs.Offers.{always}
 use Rattle.std.proofs.lemmas.Result.{IfOk-weaker}
 use Rattle.tk_run.proofs.GoesOnLaws.{filled}
-use Rattle.tk_run.proofs.SightLaws.{some_goes_on, have_talked, sights_seen, read_course}
+use Rattle.tk_run.proofs.TurnSights.{some_goes_on, have_talked, sights_seen, read_course}
 use Rattle.tk_run.proofs.course.play_turn.Goals as goal
 
 pub talk_all-requires-after_bounds : goal.talk_all-requires-after_bounds

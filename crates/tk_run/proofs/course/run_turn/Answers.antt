@@ -5,7 +5,7 @@ use Rattle.tk_run.specs.Courses.{GoesOn, AreSights}
 use Rattle.tk_run.proofs.CourseStarts.{course_goes}
 use Rattle.tk_io.proofs.Offers.{fronts-none}
 use Rattle.tk_run.proofs.GoesOnLaws.{filled}
-use Rattle.tk_run.proofs.SightLaws.{some_goes_on}
+use Rattle.tk_run.proofs.TurnSights.{some_goes_on}
 use Rattle.tk_run.proofs.Stopping.{turn_stopped}
 use Rattle.tk_run.proofs.TapTurns.{goes_on_before, sights_gain, sights_fronts, sights_keep}
 use Rattle.tk_run.specs.Ranging.{over_ranges}

@@ -11,7 +11,7 @@ use Rattle.tk_report.specs.Entries.{placed_from}
 use Rattle.tk_report.specs.Clients.{client_told, client_knowing}
 use Rattle.tk_report.specs.Serving.{reader_under}
 use Rattle.tk_report.specs.declared.group.Group.{Group}
-use Rattle.tk_run.specs.declared.acting.Desk.{Desk}
+use Rattle.tk_run.specs.declared.actors.Desk.{Desk}
 use Rattle.tk_report.specs.Clients.{AreClients}
 use Rattle.tk_run.specs.Acting.{Acted, AreFrames, frames_on, slips_on}
 use Rattle.tk_run.specs.Ran.{turn_of}

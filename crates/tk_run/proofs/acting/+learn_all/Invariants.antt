@@ -1,6 +1,0 @@
--- One pass less is left each time.
-use Rattle.std.proofs.Common.{length}
-use Rattle.tk_run.proofs.acting.+learn_all.Given as goal
-
-abbrev pub decreases-learn_all : goal.decreases-learn_all
-decreases-learn_all g l = length l.passes.now

@@ -1,6 +1,0 @@
--- The clients so far have their sets.
-use Rattle.tk_run.proofs.TalkAll.{Paired}
-use Rattle.tk_run.proofs.talking.paired.Given as goal
-
-abbrev pub invariant-pairing : goal.invariant-pairing
-invariant-pairing l = Paired l.turn l.slips l.yielded l.readings.items

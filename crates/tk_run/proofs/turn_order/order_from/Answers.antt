@@ -1,0 +1,28 @@
+-- One more client stands at the place of its write.
+use Rattle.std.proofs.Common.{◌+◌, ◌-◌, ◌<◌, ap, ◌∙◌, arith, length, length-set, ℕ}
+use Rattle.std.specs.Prelude.{replicate, slice_set}
+use Rattle.tk_schedule.specs.declared.item.Item.TheVariants.{Client, Publish}
+use Rattle.tk_schedule.specs.Schedule.{marks_due}
+use Rattle.tk_run.specs.Courses.{entries_behind}
+use Rattle.tk_run.proofs.Placing.{placed-next}
+use Rattle.tk_run.proofs.turn_order.order_from.Goals as goal
+
+pub placing-preserved : goal.placing-preserved
+placing-preserved c =
+    let shape = c.args.shape.now in
+    let slips = c.args.slips.now in
+    let order = c.placing.order.items in
+    let slip = c.index-slips-i.result in
+    let i = c.placing.i in
+    let start = entries_behind shape c.args.turn in
+    let blank = replicate (shape.clients + marks_due shape c.args.turn) Publish in
+    let low : i < length slips = omega (arith, c.placing-test.true) in
+    record {
+      counted =
+          length-set order (slip.position - c.behind-start.result - 1) (Client i)
+          ∙ c.placing.invariant.counted;
+      placed =
+          ap (λ (k : ℕ). slice_set order (slip.position - k - 1) (Client i)) c.behind-start.ensures
+          ∙ placed-next start i slips slip blank order low c.index-slips-i.is
+          c.placing.invariant.placed;
+    }
