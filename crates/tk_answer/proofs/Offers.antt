@@ -4,3 +4,5 @@ pub use Rattle.tk_answer.proofs.Runs.{run_of_slice}
 pub use Rattle.tk_answer.proofs.Runs.{bytes-in_run, blocks-in_run}
 -- Rows are as long as the vectors whose bytes they have.
 pub use Rattle.tk_answer.proofs.ManySums.{rows_reach}
+-- Parts of lists of one length.
+pub use Rattle.tk_answer.proofs.Runs.{AllSized-take, AllSized-drop}

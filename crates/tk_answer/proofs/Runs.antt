@@ -14,12 +14,12 @@ use Rattle.tk_kernel.proofs.Offers.{AllSized-chosen_from, chosen_from-append}
 use Rattle.tk_answer.specs.Runs.{IsRun}
 use Rattle.tk_answer.specs.Summing.{IsSumming}
 
-AllSized-take : (width n : ℕ) (vs : List (List ℕ)) → AllSized width vs → AllSized width (take n vs)
+pub AllSized-take : (width n : ℕ) (vs : List (List ℕ)) → AllSized width vs → AllSized width (take n vs)
 AllSized-take width zero vs h = tt
 AllSized-take width (suc n) [] h = tt
 AllSized-take width (suc n) (v ∷ vs) h = (h.0, AllSized-take width n vs h.1)
 
-AllSized-drop : (width n : ℕ) (vs : List (List ℕ)) → AllSized width vs → AllSized width (drop n vs)
+pub AllSized-drop : (width n : ℕ) (vs : List (List ℕ)) → AllSized width vs → AllSized width (drop n vs)
 AllSized-drop width zero vs h = h
 AllSized-drop width (suc n) [] h = tt
 AllSized-drop width (suc n) (v ∷ vs) h = AllSized-drop width n vs h.1

@@ -51,7 +51,7 @@ filling_more size count bytes made pages rest page low is so =
 -- ---- the table in these pages
 
 -- bytes past the last piece don't count
-pieces-take : (size count : ℕ) (bytes : List ℕ) →
+pub pieces-take : (size count : ℕ) (bytes : List ℕ) →
     pieces size count (take (count * size) bytes) ≡ pieces size count bytes
 pieces-take size zero bytes = refl
 pieces-take size (suc count) bytes =

@@ -1,11 +1,10 @@
 -- What is appended in a loop.
-use Rattle.std.proofs.Common.{◌≡◌, ℕ, zero, suc, ◌+◌, ◌≤◌, ◌<◌, List, [], ◌∷◌, ◌++◌, length, take, drop, get_or, refl, ap, ap₂, sym, ◌∙◌, inl, inr, take-add, append_assoc, arith}
+use Rattle.std.proofs.Common.{◌≡◌, ℕ, ◌+◌, ◌≤◌, ◌<◌, List, [], ◌∷◌, ◌++◌, length, take, drop, get_or, refl, ap, ap₂, sym, ◌∙◌, inl, inr, take-add, append_assoc, arith}
 use Rattle.std.specs.Prelude.{min}
 use Rattle.std.specs.List.{concat, flat_map}
 use Rattle.std.proofs.lemmas.Bool.{cases_lt}
 use Rattle.std.proofs.lemmas.List.{drop_more, drop_all}
 use Rattle.std.proofs.lemmas.List.Folds.{concat-append}
-use Rattle.tk_kernel.specs.Pieces.{AllSized}
 use Rattle.tk_frames.specs.Spelling.{be32, be64}
 use Rattle.tk_checkpoint.specs.Saved.{window_bytes}
 
@@ -54,13 +53,6 @@ writes_next ps pushes i d out new all low in_pushes was is =
     ∙ append_assoc out (p ++ hits) rest
     ∙ ap (λ xs. out ++ xs) (sym (writes_more ps pushes i d low in_pushes))
     ∙ was
-
--- one of lists of one length
-pub sized-at : (size : ℕ) (vs : List (List ℕ)) (i : ℕ) (d : List ℕ) → AllSized size vs → i < length vs →
-    length (get_or vs i d) ≡ size
-sized-at size [] i d each low = absurd (omega (arith, low))
-sized-at size (v ∷ vs) zero d each low = each.0
-sized-at size (v ∷ vs) (suc i) d each low = sized-at size vs i d each.1 (omega (arith, low))
 
 -- six parts behind others
 pub six_joined : (out a b c d e f : List ℕ) →

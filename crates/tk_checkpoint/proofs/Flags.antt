@@ -1,5 +1,5 @@
 -- The positions of a window that slots have.
-use Rattle.std.proofs.Common.{◌≡◌, ◌≢◌, ℕ, zero, suc, ◌+◌, ◌<◌, ◌≤◌, Bool, true, false, List, [], ◌∷◌, ◌++◌}
+use Rattle.std.proofs.Common.{◌≡◌, ◌≢◌, ℕ, zero, suc, ◌+◌, ◌<◌, Bool, true, false, List, [], ◌∷◌, ◌++◌}
 use Rattle.std.proofs.Common.{length, get_or, set, replicate, refl, sym, ap, ap₂, ◌∙◌, arith, eq-eqb}
 use Rattle.std.specs.Prelude.{◌==◌, ◌||◌}
 use Rattle.std.specs.List.{list_any}
@@ -7,22 +7,18 @@ use Rattle.std.proofs.lemmas.Bool.{ne_eqb}
 use Rattle.std.proofs.lemmas.List.Folds.{list_any-append}
 use Rattle.tk_table.specs.Table.{Slot}
 use Rattle.tk_table.specs.Restoring.{AreAscending}
+use Rattle.tk_table.proofs.Offers.{ascending_above}
 use Rattle.tk_checkpoint.specs.Sound.{has_slot}
 use Rattle.tk_checkpoint.specs.Finding.{flags}
 
 -- ---- positions that ascend
-
-above : (p : ℕ) (ps : List ℕ) (i : ℕ) → AreAscending p ps → i < length ps → p ≤ get_or ps i 0
-above p [] i up low = absurd (omega arith)
-above p (q ∷ qs) zero up low = up.0
-above p (q ∷ qs) (suc i) up low = omega (arith, up.0, above (q + 1) qs i up.1 (omega (arith, low)))
 
 pub rising : (p : ℕ) (ps : List ℕ) (i j : ℕ) → AreAscending p ps → i < j → j < length ps →
     get_or ps i 0 < get_or ps j 0
 rising p [] i j up order low = absurd (omega arith)
 rising p (q ∷ qs) i zero up order low = absurd (omega arith)
 rising p (q ∷ qs) zero (suc j) up order low =
-    omega (arith, above (q + 1) qs j up.1 (omega (arith, low)))
+    omega (arith, ascending_above (q + 1) qs j up.1 (omega (arith, low)))
 rising p (q ∷ qs) (suc i) (suc j) up order low =
     rising (q + 1) qs i j up.1 (omega (arith, order)) (omega (arith, low))
 
@@ -63,7 +59,7 @@ module _ (earlier : List Slot) (s : Slot) where
   flags_noted p (q ∷ qs) zero up low is =
       sym (ap₂ (λ (b : Bool) bs. b ∷ bs) (same q (sym is)) (flags_above (q + 1) qs up.1 (omega (arith, is))))
   flags_noted p (q ∷ qs) (suc i) up low is =
-      let high = above (q + 1) qs i up.1 (omega (arith, low)) in
+      let high = ascending_above (q + 1) qs i up.1 (omega (arith, low)) in
       ap₂ (λ (b : Bool) bs. b ∷ bs) (sym (apart q (λ e. omega (arith, e, is, high))))
       (flags_noted (q + 1) qs i up.1 (omega (arith, low)) is)
 

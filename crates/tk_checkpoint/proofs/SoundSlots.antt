@@ -3,7 +3,7 @@ use Rattle.std.proofs.Common.{◌≡◌, ℕ, zero, suc, ◌+◌, ◌*◌, ◌/�
 use Rattle.std.specs.Prelude.{◌⊎◌, ◌==◌, nat_lt, None}
 use Rattle.std.specs.List.{list_all, list_any, flat_map, sum_by}
 use Rattle.std.proofs.lemmas.Bool.{cases_eq, ne_eqb, eq-eqb, lt-ltb, or_left, or_right}
-use Rattle.std.proofs.lemmas.List.{map-append, length-map, take-take, drop-take}
+use Rattle.std.proofs.lemmas.List.{map-append, length-map}
 use Rattle.std.proofs.lemmas.List.Elements.{All-contains_itself}
 use Rattle.std.proofs.Math.Nat.{div-lt_iff_lt-mul, mod-lt}
 use Rattle.std.proofs.lemmas.Nat.{div-add-mod'}
@@ -26,6 +26,7 @@ use Rattle.tk_table.specs.Ordered.{AscendFrom, AreOrdered, HasBuckets}
 use Rattle.tk_table.specs.Laws.{entries_in, IsLaidOut}
 use Rattle.tk_table.specs.Restoring.{slots_spelled, table_spelled, slot_number}
 use Rattle.tk_table.proofs.Offers.{retained-ascend, retained-in_window, retained-each, layout-laid_out, entry-record, slot_in_row}
+use Rattle.tk_bucket.proofs.Offers.{pieces-take}
 use Rattle.tk_checkpoint.specs.declared.error.RestoreError.TheVariants as refusal
 use Rattle.tk_checkpoint.specs.Sound.{check, first_refusal, is_zeros, lies_in, has_slot, is_new_entry, is_sound_slot, slot_checks_of}
 use Rattle.tk_checkpoint.proofs.Passing.{passed-range, all-three}
@@ -35,18 +36,6 @@ use Rattle.tk_checkpoint.proofs.Passing.{passed-range, all-three}
 -- the slots of all buckets, bucket after bucket
 abbrev pub row : SlotTable → List Slot
 row T = flat_map (λ slots. slots) T
-
--- pieces of the front of some bytes
-pieces-take : (size count : ℕ) (bytes : List ℕ) →
-    pieces size count (take (count * size) bytes) ≡ pieces size count bytes
-pieces-take size zero bytes = refl
-pieces-take size (suc count) bytes =
-    let more : suc count * size ≡ size + count * size = omega arith in
-    let first : take size (take (size + count * size) bytes) ≡ take size bytes =
-    take-take size (size + count * size) bytes (omega arith) in
-    rw more
-    (ap₂ (λ (p : List ℕ) ps. p ∷ ps) first
-    (ap (pieces size count) (drop-take size (count * size) bytes) ∙ pieces-take size count (drop size bytes)))
 
 row-in : (depth block buckets : ℕ) (bytes : List ℕ) →
     row (map (bucket_in depth block) (pieces (bucket_len depth block) buckets bytes))

@@ -1,38 +1,21 @@
 -- What sets stand for when more entries come.
 use Rattle.std.proofs.Common.{◌≡◌, ◌⊎◌, inl, inr, ⊎_elim, ℕ, zero, suc, ◌≤◌, refl, ap}
-use Rattle.std.proofs.Common.{sym, ◌∙◌, subst, arith, true, false, ◌||◌, cond}
+use Rattle.std.proofs.Common.{sym, ◌∙◌, subst, arith}
 use Rattle.std.proofs.Common.{List, [], ◌∷◌, ◌++◌, length, take, Some, slice_get}
 use Rattle.std.proofs.lemmas.List.{take-append-le}
 use mathlib.Core.List.{IsPrefix}
 use Rattle.tk_shape.specs.declared.shape.Shape.{Shape}
 use Rattle.tk_frames.specs.declared.entry.Placed.{Placed}
-use Rattle.tk_frames.specs.Order.{Record, has_mark, is_mark_of}
-use Rattle.tk_frames.specs.InOrder.{mark_count, mark_position, IsOrder}
-use Rattle.tk_frames.proofs.Offers.{has-mark, before-more, mark_position-none, order-front}
+use Rattle.tk_frames.specs.Order.{Record}
+use Rattle.tk_frames.specs.InOrder.{mark_count, IsOrder}
+use Rattle.tk_frames.proofs.Offers.{before-more, order-front}
 use Rattle.tk_frames.proofs.Offers.{marks-append}
 use Rattle.tk_replica.specs.declared.epoch.Epoch.{Epoch}
 use Rattle.tk_replica.specs.Epochs.{EpochStandsFor, IsEpochOf}
 use Rattle.tk_replica.specs.Following.{marks_among}
+use Rattle.tk_replica.proofs.Offers.{position-same}
 use Rattle.tk_cluster.specs.declared.set.EpochSet.{EpochSet}
 use Rattle.tk_cluster.specs.Sets.{Stands, Shows}
-
-position-stays : (e : ℕ) (E F : List Placed) → has_mark e E ≡ true →
-    mark_position (E ++ F) e ≡ mark_position E e
-position-stays e [] F has = absurd cc
-position-stays e (x ∷ E) F has =
-    elim (is_mark_of e x) as (λ b. (b || has_mark e E) ≡ true →
-    cond b x.position (mark_position (E ++ F) e) ≡ cond b x.position (mark_position E e))
-    [ true ↦ λ h. refl | false ↦ λ rest. position-stays e E F rest ] has
-
--- a mark that stands stays where it is
-position-more : (shape : Shape) (E F : List Placed) (e : ℕ) → IsOrder shape (E ++ F) →
-    e ≤ mark_count E → mark_position (E ++ F) e ≡ mark_position E e
-position-more shape E F zero order within =
-    mark_position-none shape (E ++ F) order
-    ∙ sym (mark_position-none shape E (order-front shape E F order))
-position-more shape E F (suc e) order within =
-    position-stays (suc e) E F
-    (has-mark shape E (suc e) (order-front shape E F order) (omega arith) within)
 
 -- an epoch is that of the same mark when more entries come
 epoch-more : (shape : Shape) (E F : List Placed) (e : ℕ) (epoch : Epoch) → IsOrder shape (E ++ F) →
@@ -40,7 +23,7 @@ epoch-more : (shape : Shape) (E F : List Placed) (e : ℕ) (epoch : Epoch) → I
 epoch-more shape E F e epoch order within is =
     record {
       number = is.number;
-      upto = is.upto ∙ sym (position-more shape E F e order within);
+      upto = is.upto ∙ sym (position-same shape E F e order within);
       stands =
           subst (λ (R : List Record). EpochStandsFor shape R epoch)
           (sym (before-more shape E F e (order-front shape E F order) within)) is.stands;

@@ -30,7 +30,7 @@ pub use Rattle.tk_frames.proofs.Members.{in-append, in_front, in_back, in_map, f
 pub use Rattle.tk_frames.proofs.Members.{in_filter, from_filter, in_filter_map, from_filter_map}
 pub use Rattle.tk_frames.proofs.Members.{in_flat_map, from_flat_map, nothing_in}
 -- Bytes, and parts of them.
-pub use Rattle.tk_frames.proofs.BigEndian.{IsBytes, IsBytes-drop, IsBytes-take}
+pub use Rattle.tk_frames.proofs.BigEndian.{IsBytes, IsBytes-drop, IsBytes-take, length-be32s}
 -- Numbers joined from their bytes, and again their bytes.
 pub use Rattle.tk_frames.proofs.BigEndian.{number-join, long-join, numbers-join, length-numbers}
 pub use Rattle.tk_frames.proofs.BigEndian.{numbers-again, length-be32s}

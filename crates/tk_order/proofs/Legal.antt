@@ -1,5 +1,5 @@
 -- A list that may be an order goes on with an entry that may follow.
-use Rattle.std.proofs.Common.{◌≡◌, ◌≢◌, ℕ, ◌+◌, ◌<◌, ◌≤◌, ◌==◌, List, [], ◌∷◌, ◌++◌, length, refl, ap, sym, ◌∙◌, subst, arith, length-append}
+use Rattle.std.proofs.Common.{true, false, ◌≡◌, ◌≢◌, ℕ, ◌+◌, ◌<◌, ◌≤◌, ◌==◌, List, [], ◌∷◌, ◌++◌, length, refl, ap, sym, ◌∙◌, subst, arith, length-append}
 use Rattle.std.proofs.lemmas.List.Elements.{filter-append}
 use Rattle.std.proofs.lemmas.List.{append-nil}
 use Rattle.std.proofs.lemmas.Nat.{mul-le}
@@ -21,18 +21,24 @@ use Rattle.tk_lists.proofs.Offers.{prefix_whole, prefix_length}
 pub of-append : (n : ℕ) (xs ys : List Placed) → of n (xs ++ ys) ≡ of n xs ++ of n ys
 of-append n xs ys = filter-append (λ p. seat_of p == n) xs ys
 
-of_one : (n : ℕ) (p : Placed) → seat_of p ≡ n → of n (p ∷ []) ≡ p ∷ []
-of_one n p is = grind (arith, nat_tests)
+pub of_here : (n : ℕ) (p : Placed) (E : List Placed) → seat_of p ≡ n → of n (p ∷ E) ≡ p ∷ of n E
+of_here n p E is = let yes : (seat_of p == n) ≡ true = grind (arith, nat_tests, is) in rw yes refl
 
-of_none : (n : ℕ) (p : Placed) → seat_of p ≢ n → of n (p ∷ []) ≡ []
-of_none n p is = grind (arith, nat_tests)
+pub of_other : (n : ℕ) (p : Placed) (E : List Placed) → seat_of p ≢ n → of n (p ∷ E) ≡ of n E
+of_other n p E isnt =
+    let no : (seat_of p == n) ≡ false = grind (arith, nat_tests, isnt) in rw no refl
+
+-- no entry in range stands under a number past the clients'
+pub number_low : (shape : Shape) (x : Entry) → IsEntry shape x → number_of x ≤ shape.clients
+number_low shape (Write w) is = omega (arith, is.client)
+number_low shape (Mark e) is = omega arith
 
 -- the entries under a number after one more
 pub of_added : (n : ℕ) (xs own : List Placed) (p : Placed) → seat_of p ≡ n → of n xs ≡ own →
     of n (xs ++ p ∷ []) ≡ own ++ p ∷ []
 of_added n xs own p is has =
     of-append n xs (p ∷ []) ∙
-    (ap (λ ys. ys ++ of n (p ∷ [])) has ∙ ap (λ ys. own ++ ys) (of_one n p is))
+    (ap (λ ys. ys ++ of n (p ∷ [])) has ∙ ap (λ ys. own ++ ys) (of_here n p [] is))
 
 -- and under another number
 pub of_else : (n : ℕ) (xs own : List Placed) (p : Placed) → seat_of p ≢ n → of n xs ≡ own →
@@ -40,7 +46,7 @@ pub of_else : (n : ℕ) (xs own : List Placed) (p : Placed) → seat_of p ≢ n 
 of_else n xs own p isnt has =
     of-append n xs (p ∷ []) ∙
     (ap (λ ys. ys ++ of n (p ∷ [])) has ∙
-    (ap (λ ys. own ++ ys) (of_none n p isnt) ∙ append-nil own))
+    (ap (λ ys. own ++ ys) (of_other n p [] isnt) ∙ append-nil own))
 
 pub of_prefix : (n : ℕ) (xs ys : List Placed) → IsPrefix xs ys → IsPrefix (of n xs) (of n ys)
 of_prefix n xs ys p = (of n p.0, sym (of-append n xs p.0) ∙ ap (of n) p.1)

@@ -1,25 +1,16 @@
 -- Two orders with the same writes of each client, and as many marks, are one.
-use Rattle.std.proofs.Common.{◌≡◌, ◌≢◌, inl, inr, ℕ, ◌+◌, ◌-◌, ◌<◌, ◌≤◌, ◌==◌, true, false, List, [], ◌∷◌, length}
+use Rattle.std.proofs.Common.{◌≡◌, ◌≢◌, inl, inr, ℕ, ◌+◌, ◌-◌, ◌<◌, ◌≤◌, List, [], ◌∷◌, length}
 use Rattle.std.proofs.Common.{refl, ap, ap₂, sym, ◌∙◌, subst, arith}
 use Rattle.std.proofs.lemmas.Bool.{cases_lt}
-use Rattle.std.proofs.lemmas.Bool.Decides.{nat_tests}
 use mathlib.Core.Logic.{dite}
 use native.Mathlib.Decide.{ℕ_discrete}
 use Rattle.tk_shape.specs.declared.shape.Shape.{Shape}
 use Rattle.tk_frames.specs.declared.entry.Placed.{Placed}
 use Rattle.tk_frames.specs.declared.entry.Entry.{Entry}
 use Rattle.tk_frames.specs.declared.entry.Entry.TheVariants.{Write, Mark}
-use Rattle.tk_frames.specs.Ranges.{IsEntry}
 use Rattle.tk_frames.specs.InOrder.{HasNumber, number_after, IsNextAt, IsOrderFrom, IsOrder, mark_count}
 use Rattle.tk_order.specs.Legality.{number_of, seat_of, of}
-use Rattle.tk_order.proofs.Offers.{marks_under_zero}
-
-of-here : (n : ℕ) (p : Placed) (E : List Placed) → seat_of p ≡ n → of n (p ∷ E) ≡ p ∷ of n E
-of-here n p E is = let yes : (seat_of p == n) ≡ true = grind (arith, nat_tests, is) in rw yes refl
-
-of-other : (n : ℕ) (p : Placed) (E : List Placed) → seat_of p ≢ n → of n (p ∷ E) ≡ of n E
-of-other n p E isnt =
-    let no : (seat_of p == n) ≡ false = grind (arith, nat_tests, isnt) in rw no refl
+use Rattle.tk_order.proofs.Offers.{marks_under_zero, of_here, of_other, number_low}
 
 -- what stands under a number stands at a place of the order
 of-place : (shape : Shape) (place due n : ℕ) (E rest : List Placed) (p : Placed) →
@@ -27,12 +18,12 @@ of-place : (shape : Shape) (place due n : ℕ) (E rest : List Placed) (p : Place
 of-place shape place due n [] rest p order first = cc
 of-place shape place due n (q ∷ E) rest p order first = dite (ℕ_discrete (seat_of q) n)
     (λ is.
-    let same : q ≡ p = let e = sym (of-here n q E is) ∙ first in cc in
+    let same : q ≡ p = let e = sym (of_here n q E is) ∙ first in cc in
     omega (arith, order.0.at, ap (λ (x : Placed). x.position) same))
     (λ isnt.
     let later : place + 1 ≤ p.position =
     of-place shape (place + 1) (number_after due q.entry) n E rest p order.1
-    (sym (of-other n q E isnt) ∙ first)
+    (sym (of_other n q E isnt) ∙ first)
     in
     omega (arith, later))
 
@@ -57,7 +48,7 @@ never : (shape : Shape) (place due : ℕ) (p q : Placed) (A B : List Placed) →
     IsNextAt shape place due p → IsOrderFrom shape place due (q ∷ B) → seat_of q ≢ seat_of p →
     of (seat_of p) (p ∷ A) ≡ of (seat_of p) (q ∷ B) → ⊥
 never shape place due p q A B first second isnt same =
-    let e = sym (of-other (seat_of p) q B isnt) ∙ sym same ∙ of-here (seat_of p) p A refl in
+    let e = sym (of_other (seat_of p) q B isnt) ∙ sym same ∙ of_here (seat_of p) p A refl in
     let later : place + 1 ≤ p.position =
     of-place shape (place + 1) (number_after due q.entry) (seat_of p) B (of (seat_of p) A) p second.1 e
     in
@@ -71,8 +62,8 @@ one-first shape place due p q A B first second same = dite (ℕ_discrete (seat_o
     (λ mark. one-mark shape place due p q first.0 second.0 mark (is ∙ mark))
     (λ write.
     let e =
-    sym (of-here (seat_of p) p A refl) ∙ same (seat_of p) (omega (arith, write))
-    ∙ of-here (seat_of p) q B is
+    sym (of_here (seat_of p) p A refl) ∙ same (seat_of p) (omega (arith, write))
+    ∙ of_here (seat_of p) q B is
     in
     cc))
     (λ isnt. dite (ℕ_discrete (seat_of p) 0)
@@ -87,22 +78,22 @@ one-first shape place due p q A B first second same = dite (ℕ_discrete (seat_o
 
 one-rest : (p : Placed) (A B : List Placed) (n : ℕ) → of n (p ∷ A) ≡ of n (p ∷ B) → of n A ≡ of n B
 one-rest p A B n same = dite (ℕ_discrete (seat_of p) n)
-    (λ is. let e = sym (of-here n p A is) ∙ same ∙ of-here n p B is in cc)
-    (λ isnt. sym (of-other n p A isnt) ∙ same ∙ of-other n p B isnt)
+    (λ is. let e = sym (of_here n p A is) ∙ same ∙ of_here n p B is in cc)
+    (λ isnt. sym (of_other n p A isnt) ∙ same ∙ of_other n p B isnt)
 
 count-rest : (p : Placed) (A B : List Placed) → length (of 0 (p ∷ A)) ≡ length (of 0 (p ∷ B)) →
     length (of 0 A) ≡ length (of 0 B)
 count-rest p A B same = dite (ℕ_discrete (seat_of p) 0)
-    (λ is. omega (arith, same, ap length (of-here 0 p A is), ap length (of-here 0 p B is)))
-    (λ isnt. omega (arith, same, ap length (of-other 0 p A isnt), ap length (of-other 0 p B isnt)))
+    (λ is. omega (arith, same, ap length (of_here 0 p A is), ap length (of_here 0 p B is)))
+    (λ isnt. omega (arith, same, ap length (of_other 0 p A isnt), ap length (of_other 0 p B isnt)))
 
 -- no entry is left in an order where none is in the other
 none-left : (q : Placed) (B : List Placed) → ((n : ℕ) → 0 < n → [] ≡ of n (q ∷ B)) →
     0 ≡ length (of 0 (q ∷ B)) → ⊥
 none-left q B same count = dite (ℕ_discrete (seat_of q) 0)
-    (λ is. omega (arith, count, ap length (of-here 0 q B is)))
+    (λ is. omega (arith, count, ap length (of_here 0 q B is)))
     (λ isnt.
-    let e = same (seat_of q) (omega (arith, isnt)) ∙ of-here (seat_of q) q B refl in
+    let e = same (seat_of q) (omega (arith, isnt)) ∙ of_here (seat_of q) q B refl in
     omega (arith, ap length e))
 
 one-from : (shape : Shape) (place due : ℕ) (A B : List Placed) → IsOrderFrom shape place due A →
@@ -124,17 +115,13 @@ one-from shape place due (p ∷ A) (q ∷ B) first second same count =
 
 -- ---- by clients
 
-seat-in : (shape : Shape) (x : Entry) → IsEntry shape x → number_of x ≤ shape.clients
-seat-in shape (Write w) is = omega (arith, is.client)
-seat-in shape (Mark e) is = omega arith
-
 -- under the numbers beyond those of the clients there is nothing
 of-out : (shape : Shape) (place due n : ℕ) (E : List Placed) → IsOrderFrom shape place due E →
     shape.clients < n → of n E ≡ []
 of-out shape place due n [] order out = refl
 of-out shape place due n (p ∷ E) order out =
-    let low : seat_of p ≤ shape.clients = seat-in shape p.entry order.0.in_range.entry in
-    of-other n p E (λ is. omega (arith, low, is, out))
+    let low : seat_of p ≤ shape.clients = number_low shape p.entry order.0.in_range.entry in
+    of_other n p E (λ is. omega (arith, low, is, out))
     ∙ of-out shape (place + 1) (number_after due p.entry) n E order.1 out
 
 pub one-order : (shape : Shape) (A B : List Placed) → IsOrder shape A → IsOrder shape B →

@@ -49,7 +49,8 @@ position-stays e (x ∷ E) F has =
     cond b x.position (mark_position (E ++ F) e) ≡ cond b x.position (mark_position E e))
     [ true ↦ λ h. refl | false ↦ λ rest. position-stays e E F rest ] has
 
-position-same : (shape : Shape) (E F : List Placed) (e : ℕ) → IsOrder shape (E ++ F) →
+-- a mark that stands stays where it is
+pub position-same : (shape : Shape) (E F : List Placed) (e : ℕ) → IsOrder shape (E ++ F) →
     e ≤ mark_count E → mark_position (E ++ F) e ≡ mark_position E e
 position-same shape E F zero order within =
     mark_position-none shape (E ++ F) order

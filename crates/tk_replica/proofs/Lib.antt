@@ -1,6 +1,5 @@
 pub mod Standing
 pub mod Restored
-pub mod Vectors
 pub mod Paired
 pub mod Replying
 pub mod Several

@@ -7,8 +7,10 @@ pub use Rattle.tk_replica.proofs.Standing.{stands-released}
 -- The epoch of the last mark among the first entries is that in a longer list, and the other way
 -- round.
 pub use Rattle.tk_replica.proofs.LastMarks.{epoch-whole, epoch-front}
+-- A mark that stands in an order stays where it is in a longer one.
+pub use Rattle.tk_replica.proofs.LastMarks.{position-same}
 -- A vector has a bit for each bucket.
-pub use Rattle.tk_replica.proofs.Vectors.{vector_bits}
+pub use Rattle.tk_shape.proofs.Offers.{vector_bits}
 -- A reply over the epoch that a read names is the one that is due to the bytes of the read.
 pub use Rattle.tk_replica.proofs.Replying.{over-epoch, for-spelled}
 -- The vectors of one more read come after those of the others.

@@ -1,5 +1,5 @@
 -- A list of entries of which it is known what stands under each number.
-use Rattle.std.proofs.Common.{◌≡◌, ◌≢◌, ℕ, zero, suc, ◌+◌, ◌<◌, ◌≤◌, ◌==◌, true, false, cond, List, [], ◌∷◌, ◌++◌}
+use Rattle.std.proofs.Common.{◌≡◌, ℕ, zero, suc, ◌+◌, ◌<◌, ◌≤◌, ◌==◌, cond, List, [], ◌∷◌, ◌++◌}
 use Rattle.std.proofs.Common.{length, get_or, refl, ap, sym, ◌∙◌, subst, arith}
 use Rattle.std.proofs.lemmas.List.{append-nil, append_cancel_left}
 use Rattle.std.proofs.lemmas.Bool.Decides.{nat_tests}
@@ -9,28 +9,14 @@ use native.Mathlib.Decide.{ℕ_discrete}
 use lib.Dec.{leb}
 use Rattle.tk_shape.specs.declared.shape.Shape.{Shape}
 use Rattle.tk_frames.specs.declared.entry.Placed.{Placed}
-use Rattle.tk_frames.specs.declared.entry.Entry.{Entry}
-use Rattle.tk_frames.specs.declared.entry.Entry.TheVariants.{Write, Mark}
-use Rattle.tk_frames.specs.Ranges.{IsEntry}
 use Rattle.tk_frames.specs.InOrder.{number_after, IsOrderFrom, IsOrder}
-use Rattle.tk_order.specs.Legality.{number_of, seat_of, of}
-use Rattle.tk_order.proofs.Offers.{of-append}
-
-pub of_here : (n : ℕ) (p : Placed) (E : List Placed) → seat_of p ≡ n → of n (p ∷ E) ≡ p ∷ of n E
-of_here n p E is = let yes : (seat_of p == n) ≡ true = grind (arith, nat_tests, is) in rw yes refl
-
-pub of_other : (n : ℕ) (p : Placed) (E : List Placed) → seat_of p ≢ n → of n (p ∷ E) ≡ of n E
-of_other n p E isnt =
-    let no : (seat_of p == n) ≡ false = grind (arith, nat_tests, isnt) in rw no refl
+use Rattle.tk_order.specs.Legality.{seat_of, of}
+use Rattle.tk_order.proofs.Offers.{of-append, of_here, of_other, number_low}
 
 -- each entry stands under a number of at most n
 abbrev pub Ranged : ℕ → List Placed → Type 0
 Ranged n [] = Unit {0}
 Ranged n (p ∷ E) = (seat_of p ≤ n) × Ranged n E
-
-number_low : (shape : Shape) (x : Entry) → IsEntry shape x → number_of x ≤ shape.clients
-number_low shape (Write w) h = omega (arith, h.client)
-number_low shape (Mark e) h = omega arith
 
 pub from_ranged : (shape : Shape) (place due : ℕ) (E : List Placed) →
     IsOrderFrom shape place due E → Ranged shape.clients E

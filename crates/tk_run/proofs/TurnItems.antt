@@ -20,9 +20,10 @@ use Rattle.tk_schedule.specs.Schedule.{is_of, is_mark}
 use Rattle.tk_order.specs.Legality.{number_of, seat_of, of}
 use Rattle.tk_report.specs.Entries.{placed_from}
 use Rattle.tk_report.specs.Histories.{item_in, items_in}
+use Rattle.tk_order.proofs.Offers.{of_here, of_other}
 use Rattle.tk_run.specs.declared.pinned_write.PinnedWrite.{PinnedWrite}
 use Rattle.tk_run.specs.Ran.{placed_clients}
-use Rattle.tk_run.proofs.EntryLists.{of_here, of_other, Ranged, length_of, one_at, one_there, ranged_at}
+use Rattle.tk_run.proofs.EntryLists.{Ranged, length_of, one_at, one_there, ranged_at}
 
 -- ---- each write is its client's
 

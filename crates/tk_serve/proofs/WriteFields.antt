@@ -9,11 +9,7 @@ use Rattle.tk_frames.specs.declared.write_frame.WriteFrame.{WriteFrame}
 use Rattle.tk_frames.specs.Spelling.{be32, write_frame}
 use Rattle.tk_frames.specs.Ranges.{IsWrite}
 use Rattle.tk_frames.specs.Fields.{numbers, write_in}
-use Rattle.tk_frames.proofs.Offers.{turn_count_small}
-
-numbers-length : (ns : List ℕ) → length (flat_map be32 ns) ≡ 4 * length ns
-numbers-length [] = refl
-numbers-length (n ∷ ns) = let h = numbers-length ns in omega (arith, h)
+use Rattle.tk_frames.proofs.Offers.{turn_count_small, length-be32s}
 
 numbers-read : (most : ℕ) (ns rest : List ℕ) → most ≤ 2 ^ 32 → AllByRecursion (λ n. n < most) ns →
     numbers (length ns) (flat_map be32 ns ++ rest) ≡ ns
@@ -35,6 +31,6 @@ write-read shape w fits =
     in
     let block : w.block ≡ drop (4 * shape.hits) (flat_map be32 w.hits ++ w.block) =
     sym (drop_at (flat_map be32 w.hits) w.block (4 * shape.hits)
-    (omega (arith, numbers-length w.hits, fits.hits_counted)))
+    (omega (arith, length-be32s w.hits, fits.hits_counted)))
     in
     λ i. record { client = client i; turn = turn i; first = first i; second = second i; hits = hits i; block = block i }

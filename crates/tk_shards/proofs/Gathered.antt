@@ -9,7 +9,7 @@ use Rattle.std.proofs.lemmas.List.Folds.{concat-append}
 use Rattle.tk_kernel.specs.Pieces.{all_pieces, AllSized}
 use Rattle.tk_kernel.proofs.Offers.{all_pieces-concat, concat-pieces, length-pieces, take-pieces}
 use Rattle.tk_answer.specs.Runs.{IsRun}
-use Rattle.tk_shards.proofs.Sized.{AllSized-take, AllSized-drop}
+use Rattle.tk_answer.proofs.Offers.{AllSized-take, AllSized-drop}
 
 module _ (width : ℕ) (blocks : List (List ℕ)) (some : 0 < width) (each : AllSized width blocks) where
   -- the blocks of a run

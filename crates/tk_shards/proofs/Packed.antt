@@ -13,10 +13,9 @@ use Rattle.tk_kernel.proofs.Offers.{all_pieces-concat, concat-all_pieces, AllSiz
 use Rattle.tk_kernel.proofs.Offers.{AllSized-set}
 use Rattle.tk_kernel.proofs.Offers.{drop-pieces, take-pieces, concat-pieces}
 use Rattle.tk_answer.specs.Runs.{IsRun}
-use Rattle.tk_answer.proofs.Offers.{run_of_slice}
+use Rattle.tk_answer.proofs.Offers.{run_of_slice, AllSized-take, AllSized-drop}
 use Rattle.tk_shards.specs.Ranged.{Ranged, zero_blocks, lacking, padded, range_in, most_blocks}
 use Rattle.tk_shards.specs.Packing.{ranged, IsPacked}
-use Rattle.tk_shards.proofs.Sized.{AllSized-take, AllSized-drop}
 use Rattle.tk_shards.proofs.Padding.{AllSized-padded, length-padded}
 
 pub concat-zeros : (width n : ℕ) → concat (zero_blocks width n) ≡ replicate (n * width) 0

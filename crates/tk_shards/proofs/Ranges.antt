@@ -8,9 +8,9 @@ use Rattle.tk_kernel.specs.Pieces.{AllSized}
 use Rattle.tk_kernel.specs.Chosen.{chosen_from, chosen_sum}
 use Rattle.tk_kernel.proofs.Offers.{xor_all-append, xor_bytes-zeros, length-xor_all, AllSized-chosen_from}
 use Rattle.tk_kernel.proofs.Offers.{chosen_from-append}
+use Rattle.tk_answer.proofs.Offers.{AllSized-drop}
 use Rattle.tk_shards.specs.Division.{Divided, first_cut, ranges_from, ranges_of}
 use Rattle.tk_shards.specs.Laws.{sum_between}
-use Rattle.tk_shards.proofs.Sized.{AllSized-drop}
 use Rattle.tk_shards.proofs.Dividing.{next-cut}
 
 module _ (width : ℕ) (blocks : List (List ℕ)) (vector : List ℕ) (each : AllSized width blocks) where

@@ -79,7 +79,7 @@ beside_same (p ∷ ps) (q ∷ qs) x v there long =
 
 -- ---- found by a search in ascending positions
 
-ascending_above : (p : ℕ) (ps : List ℕ) (i : ℕ) → AreAscending p ps → i < length ps → p ≤ get_or ps i 0
+pub ascending_above : (p : ℕ) (ps : List ℕ) (i : ℕ) → AreAscending p ps → i < length ps → p ≤ get_or ps i 0
 ascending_above p [] i up low = absurd (omega arith)
 ascending_above p (q ∷ qs) zero up low = up.0
 ascending_above p (q ∷ qs) (suc i) up low =

@@ -16,3 +16,5 @@ pub use Rattle.tk_table.proofs.Pushes.{pushes-none, pushes-more}
 pub use Rattle.tk_table.proofs.Spelled.{slot_in_row}
 -- A row of slots as it is spelled, and each slot of it.
 pub use Rattle.tk_table.proofs.Spelled.{length-slots_spelled, slot_spelled}
+-- Positions that ascend from one on are no lower.
+pub use Rattle.tk_table.proofs.Learning.{ascending_above}

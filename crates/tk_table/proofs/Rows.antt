@@ -3,7 +3,6 @@ use Rattle.std.proofs.Common.{◌≡◌, ℕ, zero, suc, ◌+◌, ◌*◌, ◌<�
 use Rattle.std.proofs.Common.{◌∙◌, arith, List, [], ◌∷◌, length, take, drop, set, map, replicate}
 use Rattle.std.proofs.Common.{subst, cond}
 use Rattle.std.specs.Prelude.{Option, Some, None, ◌==◌, IsSome, slice_index_or}
-use Rattle.std.proofs.lemmas.Nat.{row_fits}
 use Rattle.std.proofs.lemmas.Bool.{cases_eq, cases_lt, ne_eqb}
 use Rattle.std.proofs.lemmas.List.{map-set, drop-drop, drop-set-lt, drop-set-add, take-set-le}
 use Rattle.std.proofs.lemmas.List.{length-drop, take-replicate, drop-replicate, length-set}
@@ -14,15 +13,13 @@ use Rattle.std.proofs.Math.Seq.{take-set-lt}
 use Rattle.tk_place.specs.Place.{Others, Spot, slots_of}
 use Rattle.tk_bucket.specs.Table.{Contents, IsSized, empty_slot, empty_table, slot_at}
 use Rattle.tk_bucket.specs.Table.{with_moved}
+use Rattle.tk_bucket.proofs.Offers.{bucket_ends}
 use Rattle.tk_table.specs.Stands.{slot_with}
 use Rattle.tk_table.proofs.Seen.{length-others, slots_seen}
 use Rattle.tk_table.specs.Table.{Slot, SlotTable, bucket_at, with_slot, other_in, others_from}
 use Rattle.tk_table.specs.Rows.{rows, with_other, IsRun}
 
 -- ---- a run that is cut
-
-pub row_ends : (buckets depth b : ℕ) → b < buckets → b * depth + depth ≤ buckets * depth
-row_ends buckets depth b low = row_fits b depth buckets depth low (omega arith)
 
 pub length-rows : (buckets depth : ℕ) (run : List (Option ℕ)) →
     length (rows buckets depth run) ≡ buckets
@@ -137,7 +134,7 @@ row_fits_below buckets depth wide deep =
 pub within_run : (buckets depth count b : ℕ) → IsRun buckets depth count → b < buckets →
     (b * depth + depth ≤ count) × (count ≤ 131072)
 within_run buckets depth count b is low =
-    let ends = row_ends buckets depth b low in
+    let ends = bucket_ends buckets depth b low in
     let all = is.all in
     let most = row_fits_below buckets depth is.wide is.deep in
     (omega (arith, ends, all), omega (arith, all, most))

@@ -4,7 +4,8 @@ use Rattle.std.specs.Prelude.{List, ℕ, min}
 use Rattle.std.specs.List.{flat_map}
 use Rattle.std.proofs.Math.Nat.{mul-le-mul_right}
 use Rattle.tk_frames.specs.Spelling.{be32}
-use Rattle.tk_checkpoint.proofs.Appending.{writes_next, writes_done, sized-at}
+use Rattle.tk_bucket.proofs.Offers.{AllSized-get}
+use Rattle.tk_checkpoint.proofs.Appending.{writes_next, writes_done}
 use Rattle.tk_checkpoint.proofs.save.put_window.Goals as goal
 
 pub put_words-requires : goal.put_words-requires
@@ -13,7 +14,7 @@ put_words-requires c =
     let low : c.loop-i.i < length pushes = omega (arith, c.loop-i-test.true, c.min-count.ensures, c.pushes.ensures) in
     let more : c.loop-i.i + 1 ≤ length pushes = omega (arith, low) in
     let most = mul-le-mul_right (8 + 4 * c.args.window.now.hits) more in
-    let long = ap length (c.hits_at.ensures []) ∙ sized-at c.args.window.now.hits pushes c.loop-i.i [] c.sized.ensures.each low in
+    let long = ap length (c.hits_at.ensures []) ∙ AllSized-get c.args.window.now.hits pushes c.loop-i.i [] c.sized.ensures.each low in
     let was = c.loop-i.invariant in
     omega (arith, long, most, was.len, was.capacity, c.put_u64.ensures.len, c.put_u64.ensures.capacity, c.requires)
 
@@ -25,7 +26,7 @@ loop-i-preserved c =
     let low : i < length positions = omega (arith, c.loop-i-test.true, c.min-count.ensures) in
     let in_pushes : i < length pushes = omega (arith, c.loop-i-test.true, c.min-count.ensures, c.pushes.ensures) in
     let hits = c.hits_at.ensures [] in
-    let long = ap length hits ∙ sized-at c.args.window.now.hits pushes i [] c.sized.ensures.each in_pushes in
+    let long = ap length hits ∙ AllSized-get c.args.window.now.hits pushes i [] c.sized.ensures.each in_pushes in
     let was = c.loop-i.invariant in
     record {
       items = writes_next positions pushes i [] c.loop-i.out.items c.put_words.new.out.items _ low in_pushes was.items
