@@ -54,10 +54,17 @@ client_knowing S knows g c = idle S.shape c (writing_before S c g) (knows c)
 unfoldable pub client_told : Script → (ℕ → Reader) → ℕ → ℕ → ClientState
 client_told S knows g c = idle S.shape c (writing_said S c g) (knows c)
 
+-- all clients before turn g, and after its texts were said
+abbrev pub AreKnowing : Script → (ℕ → Reader) → ℕ → List ClientState → Type 0
+AreKnowing S knows g clients = AreClients S.shape.clients (client_knowing S knows g) clients
+
+abbrev pub HaveSaid : Script → (ℕ → Reader) → ℕ → List ClientState → Type 0
+HaveSaid S knows g clients = AreClients S.shape.clients (client_told S knows g) clients
+
 -- clients that are so, whatever each knows
 pub record AreTold (S : Script) (g : ℕ) (clients : List ClientState) : Type 0 where
   pub knows : ℕ → Reader
-  pub are : AreClients S.shape.clients (client_told S knows g) clients
+  pub are : HaveSaid S knows g clients
 
 -- a client that is so, whatever it knows
 pub record IsTold (S : Script) (g c : ℕ) (client : ClientState) : Type 0 where

@@ -93,15 +93,21 @@ got_of S w H c log = got_in (logs S w H c) log
 abbrev pub line : List (List ℕ) → List ℕ
 line fields = join_with_byte 0x20 fields ++ 0x0A ∷ []
 
--- a turn's order, and where it closes a phase its epochs
-abbrev pub turn_lines : Shape → History → ℕ → List ℕ
-turn_lines shape H g =
+-- a turn's order, and its epochs
+abbrev pub order_line : Shape → History → ℕ → List ℕ
+order_line shape H g =
     line (codes "order" ∷ decimal (phase_of shape g) ∷ decimal (tick_of shape g)
     ∷ map item_word (order_at H g))
-    ++ cond (is_closing shape g)
-    (line (codes "reads" ∷ decimal (phase_of shape g) ∷ decimal (tick_of shape g)
-    ∷ map (λ c. decimal (epoch_at H g c)) (range_with_len 0 shape.clients)))
-    []
+
+abbrev pub reads_line : Shape → History → ℕ → List ℕ
+reads_line shape H g =
+    line (codes "reads" ∷ decimal (phase_of shape g) ∷ decimal (tick_of shape g)
+    ∷ map (λ c. decimal (epoch_at H g c)) (range_with_len 0 shape.clients))
+
+-- the order, and where the turn closes a phase the epochs
+abbrev pub turn_lines : Shape → History → ℕ → List ℕ
+turn_lines shape H g =
+    order_line shape H g ++ cond (is_closing shape g) (reads_line shape H g) []
 
 unfoldable pub history_lines : Shape → History → List ℕ
 history_lines shape H = flat_map (turn_lines shape H) (range_with_len 0 (turn_count shape))
@@ -120,8 +126,19 @@ abbrev pub log_lines : ℕ → ℕ → List Got → List ℕ
 log_lines log c got =
     line (codes "log" ∷ decimal log ∷ decimal c ∷ decimal (length got) ∷ []) ++ got_lines 0 got
 
+-- what a log gave to each of its followers, and what each of so many logs did
+abbrev pub followers_lines : List Role → (ℕ → ℕ → List Got) → ℕ → List ℕ
+followers_lines roles got log = flat_map (λ c. log_lines log c (got c log)) (role_in roles log).followers
+
+abbrev pub logs_lines : ℕ → List Role → (ℕ → ℕ → List Got) → List ℕ
+logs_lines count roles got = flat_map (followers_lines roles got) (range_with_len 0 count)
+
+-- how many texts a client has left, and each of so many
 abbrev pub unsent_line : ℕ → ℕ → List ℕ
 unsent_line c count = line (codes "unsent" ∷ decimal c ∷ decimal count ∷ [])
+
+abbrev pub unsent_lines : ℕ → (ℕ → ℕ) → List ℕ
+unsent_lines count unsent = flat_map (λ c. unsent_line c (unsent c)) (range_with_len 0 count)
 
 -- the report of a history of these roles: its turns, what each log gave to each follower, and how
 -- many texts each client has left
@@ -130,10 +147,8 @@ unfoldable pub report_text :
 report_text shape roles H got unsent =
     line (codes "report" ∷ [])
     ++ history_lines shape H
-    ++ flat_map
-    (λ log. flat_map (λ c. log_lines log c (got c log)) (role_in roles log).followers)
-    (range_with_len 0 shape.logs)
-    ++ flat_map (λ c. unsent_line c (unsent c)) (range_with_len 0 shape.clients)
+    ++ logs_lines shape.logs roles got
+    ++ unsent_lines shape.clients unsent
     ++ line (codes "end" ∷ [])
 
 -- the report of a script's run

@@ -1,11 +1,11 @@
 -- The entries of a run before a turn, and within it.
-use Rattle.std.specs.Prelude.{ℕ, ◌+◌, List, ◌++◌, length, take}
+use Rattle.std.specs.Prelude.{◌≡◌, ℕ, ◌+◌, List, ◌++◌, length, take}
 use Rattle.tk_schedule.specs.declared.history.History.{History}
 use Rattle.tk_schedule.specs.declared.item.Item.{Item}
 use Rattle.tk_schedule.specs.declared.item.Item.TheVariants.{Client, Publish}
-use Rattle.tk_schedule.specs.Schedule.{order_at}
+use Rattle.tk_schedule.specs.Schedule.{order_at, phase_of}
 use Rattle.tk_script.specs.declared.script.Script.{Script}
-use Rattle.tk_words.specs.Words.{BookWords}
+use Rattle.tk_words.specs.Words.{WordBook, BookWords, words_of}
 use Rattle.tk_frames.specs.declared.write_frame.WriteFrame.{WriteFrame}
 use Rattle.tk_frames.specs.declared.entry.Placed.{Placed}
 use Rattle.tk_frames.specs.declared.entry.Entry.{Entry}
@@ -29,6 +29,10 @@ placed_so_far S w H g i = placed_before S w H g ++ placed_in S w H g i
 abbrev pub entry_due : (ℕ → WriteFrame) → ℕ → Item → Entry
 entry_due write e (Client c) = Write (write c)
 entry_due write e Publish = Mark e
+
+-- this is the entry of an item of turn g
+abbrev pub IsDue : Script → WordBook → ℕ → Item → Entry → Type 0
+IsDue S b g x e = e ≡ entry_due (write_at S (words_of S.shape b) g) (phase_of S.shape g) x
 
 -- an entry at the next place after these
 abbrev pub next_placed : List Placed → Entry → Placed

@@ -2,10 +2,8 @@ ghost use Rattle.std.specs.Prelude.{◌+◌, ◌<◌, IfOk, OnOk};
 ghost use Rattle.tk_shape.specs.Lengths.{turn_count};
 ghost use Rattle.tk_schedule.specs.declared.history.History.{History};
 ghost use Rattle.tk_words.specs.Words.{WordBook, words_of};
-ghost use Rattle.tk_report.specs.Clients.{AreClientsAtEnd, joined};
-ghost use Rattle.tk_report.specs.Entries.{entries};
-ghost use Rattle.tk_report.specs.Folds.{IsFoldBefore};
-ghost use Rattle.tk_report.specs.Ledgers.{Keeps};
+ghost use Rattle.tk_report.specs.Clients.{AreClientsAtEnd};
+ghost use Rattle.tk_report.specs.Folds.{IsFoldBefore, KeepsBefore, clients_of};
 
 use crate::group::Group;
 use crate::ledger::Ledger;
@@ -29,13 +27,10 @@ pub(crate) struct Fold {
 
 /// A history gone through to its end.
 pub(crate) fn fold_all<D: Draws>(alloc: Global, plan: &Plan<D>) -> Result<Fold, Memory>
-    ensures clients { let S = plan.now.script.now in
-        let words = words_of S.shape (D.book plan.now.draws.now) in
-        IfOk result (λ fold. AreClientsAtEnd S words plan.now.history.now
-        (joined fold.group.clients.items fold.followers.items)) }
-    ensures ledger { let S = plan.now.script.now in
-        let words = words_of S.shape (D.book plan.now.draws.now) in
-        IfOk result (λ fold. Keeps S.shape (entries S words plan.now.history.now) fold.ledger) }
+    ensures clients { let S = plan.now.script.now in IfOk result (λ fold. AreClientsAtEnd S
+        (words_of S.shape (D.book plan.now.draws.now)) plan.now.history.now (clients_of fold)) }
+    ensures ledger { let S = plan.now.script.now in IfOk result (λ fold. KeepsBefore S
+        (D.book plan.now.draws.now) plan.now.history.now (turn_count S.shape) fold.ledger) }
 {
     let mut fold = open_fold(alloc, plan.script)?;
     'turns: for turn in 0..plan.script.shape.turns() {

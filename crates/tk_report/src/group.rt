@@ -17,22 +17,19 @@ pub struct Group {
 }
 
 impl Group {
-    ghost use Rattle.std.specs.Prelude.{◌≡◌, ◌+◌, ◌<◌, [], ℕ, length, IfOk, OnOk};
+    ghost use Rattle.std.specs.Prelude.{◌≡◌, ◌+◌, ◌<◌, ℕ, length, IfOk, OnOk};
     ghost use Rattle.tk_shape.specs.Lengths.{turn_count};
-    ghost use Rattle.tk_words.specs.Words.{words_of};
     ghost use Rattle.tk_client.specs.Reader.{Reader};
-    ghost use Rattle.tk_report.specs.Clients.{AreClients, client_knowing, client_told};
-    ghost use Rattle.tk_report.specs.Clients.{known_first};
-    ghost use Rattle.tk_report.specs.Entries.{write_at, entries_at};
+    ghost use Rattle.tk_report.specs.Clients.{AreKnowing, HaveSaid, known_first};
     ghost use Rattle.tk_report.specs.Groups.{IsGroup, IsSomeGroup};
     ghost use Rattle.tk_report.specs.Queues.{said_before};
-    ghost use Rattle.tk_report.specs.Turns.{placed_before};
+    ghost use Rattle.tk_report.specs.Taking.{IsBeforeTurn, TookTurn};
 
     /// The clients of a script before the first turn.
     pub fn open(alloc: Global, script: &Script) -> Result<Group, Memory>
         ensures said { IfOk result (λ g. g.said ≡ 0) }
-        ensures clients { let S = script.now in IfOk result (λ g.
-            AreClients S.shape.clients (client_knowing S (known_first S) 0) g.clients.items) }
+        ensures clients { IfOk result (λ g.
+            AreKnowing script.now (known_first script.now) 0 g.clients.items) }
     {
         Ok(Group {
             said: 0,
@@ -47,10 +44,9 @@ impl Group {
         requires counted { length self.old.clients.items ≡ script.now.shape.clients }
         ensures counted { length self.new.clients.items ≡ length self.old.clients.items }
         ensures said { OnOk result (self.new.said ≡ said_before script.now (turn + 1)) }
-        ensures clients { let S = script.now in (knows : ℕ → Reader)
-            → AreClients S.shape.clients (client_knowing S knows turn) self.old.clients.items
-            → OnOk result
-            (AreClients S.shape.clients (client_told S knows turn) self.new.clients.items) }
+        ensures clients { (knows : ℕ → Reader)
+            → AreKnowing script.now knows turn self.old.clients.items
+            → OnOk result (HaveSaid script.now knows turn self.new.clients.items) }
     {
         self.said = say_turn(alloc, script, turn, self.said, self.clients.as_mut_slice())?;
         Ok(())
@@ -68,16 +64,12 @@ impl Group {
     ) -> Result<(), Memory>
         requires turn_in { turn < turn_count plan.now.script.now.shape }
         requires group { IsSomeGroup plan.now.script.now turn self.old }
-        requires taker { let S = plan.now.script.now in
-            let words = words_of S.shape (D.book plan.now.draws.now) in
-            T.took taker.old S.shape (placed_before S words plan.now.history.now turn) []
-            taker.old }
+        requires taker { IsBeforeTurn T.took plan.now.script.now (D.book plan.now.draws.now)
+            plan.now.history.now turn taker.old }
         ensures group { let S = plan.now.script.now in (knows : ℕ → Reader)
             → IsGroup S knows turn self.old → OnOk result (IsGroup S knows (turn + 1) self.new) }
-        ensures taker { let S = plan.now.script.now in
-            let words = words_of S.shape (D.book plan.now.draws.now) in
-            OnOk result (T.took taker.old S.shape (placed_before S words plan.now.history.now turn)
-            (entries_at (write_at S words) plan.now.history.now turn) taker.new) }
+        ensures taker { OnOk result (TookTurn T.took plan.now.script.now
+            (D.book plan.now.draws.now) plan.now.history.now turn taker.old taker.new) }
     {
         self.say(alloc, plan.script, turn)?;
         let clients = self.clients.as_mut_slice();

@@ -1,11 +1,10 @@
-ghost use Rattle.std.specs.Prelude.{◌≡◌, ◌<◌, ◌≤◌, ◌++◌, ◌∷◌, [], length, map, flat_map, codes};
+ghost use Rattle.std.specs.Prelude.{◌≡◌, ◌<◌, ◌≤◌, ◌++◌, ◌∷◌, [], length, flat_map};
 ghost use Rattle.std.specs.Prelude.{decimal, slice_index_or, OnOk};
 ghost use Rattle.std.specs.List.{range_with_len, join_with_byte};
 ghost use Rattle.tk_shape.specs.Lengths.{turn_count};
-ghost use Rattle.tk_schedule.specs.Schedule.{IsLegal, blank_turn, phase_of, tick_of, order_at};
-ghost use Rattle.tk_schedule.specs.Schedule.{epoch_at};
+ghost use Rattle.tk_schedule.specs.Schedule.{IsLegal, blank_turn, phase_of, tick_of, epoch_at};
 ghost use Rattle.tk_script.specs.Grammar.{item_word};
-ghost use Rattle.tk_report.specs.Report.{line, turn_lines, history_lines};
+ghost use Rattle.tk_report.specs.Report.{order_line, reads_line, turn_lines, history_lines};
 
 use std::alloc::Global;
 use tk_schedule::{History, Item, closes, place};
@@ -59,9 +58,8 @@ fn push_order(
 ) -> Result<(), Memory>
     requires legal { IsLegal shape.now history.now }
     requires turn_in { turn < turn_count shape.now }
-    ensures ok { OnOk result (out.new.items ≡ out.old.items ++ line (codes "order"
-        ∷ decimal (phase_of shape.now turn) ∷ decimal (tick_of shape.now turn)
-        ∷ map item_word (order_at history.now turn))) }
+    ensures ok { OnOk result (out.new.items
+        ≡ out.old.items ++ order_line shape.now history.now turn) }
 {
     push_head(alloc, b"order", shape, turn, out)?;
     push_items(alloc, history.order(turn), out)?;
@@ -79,9 +77,8 @@ fn push_reads(
 ) -> Result<(), Memory>
     requires legal { IsLegal shape.now history.now }
     requires turn_in { turn < turn_count shape.now }
-    ensures ok { OnOk result (out.new.items ≡ out.old.items ++ line (codes "reads"
-        ∷ decimal (phase_of shape.now turn) ∷ decimal (tick_of shape.now turn)
-        ∷ map (λ c. decimal (epoch_at history.now turn c)) (range_with_len 0 shape.now.clients))) }
+    ensures ok { OnOk result (out.new.items
+        ≡ out.old.items ++ reads_line shape.now history.now turn) }
 {
     push_head(alloc, b"reads", shape, turn, out)?;
     push_epochs(alloc, history, turn, shape.clients, out)?;

@@ -1,7 +1,6 @@
-ghost use Rattle.std.specs.Prelude.{◌≡◌, ◌<◌, ◌++◌, ◌∷◌, [], flat_map, codes, decimal, OnOk};
-ghost use Rattle.std.specs.List.{range_with_len};
+ghost use Rattle.std.specs.Prelude.{◌≡◌, ◌<◌, ◌++◌, ◌∷◌, [], codes, decimal, OnOk};
 ghost use Rattle.tk_report.specs.Leaving.{got_by};
-ghost use Rattle.tk_report.specs.Report.{line, got_line, got_lines, log_lines, role_in};
+ghost use Rattle.tk_report.specs.Report.{line, got_line, got_lines, log_lines, followers_lines, logs_lines};
 
 use crate::left::Left;
 use crate::told_by::Telling;
@@ -16,10 +15,8 @@ pub(crate) fn push_logs<L: Left>(
     told: &Telling<L>,
     out: &mut Vec<u8>,
 ) -> Result<(), Memory>
-    ensures ok { let clients = L.clients told.now.left.now in
-        OnOk result (out.new.items ≡ out.old.items
-        ++ flat_map (λ log. flat_map (λ c. log_lines log c (got_by clients c log))
-        (role_in told.now.roles.now log).followers) (range_with_len 0 told.now.shape.now.logs)) }
+    ensures ok { OnOk result (out.new.items ≡ out.old.items ++ logs_lines told.now.shape.now.logs
+        told.now.roles.now (got_by (L.clients told.now.left.now))) }
 {
     for log in 0..told.shape.logs {
         push_followers(alloc, told, log, out)?;
@@ -35,10 +32,8 @@ fn push_followers<L: Left>(
     out: &mut Vec<u8>,
 ) -> Result<(), Memory>
     requires log_in { log < told.now.shape.now.logs }
-    ensures ok { let clients = L.clients told.now.left.now in
-        OnOk result (out.new.items ≡ out.old.items
-        ++ flat_map (λ c. log_lines log c (got_by clients c log))
-        (role_in told.now.roles.now log).followers) }
+    ensures ok { OnOk result (out.new.items ≡ out.old.items
+        ++ followers_lines told.now.roles.now (got_by (L.clients told.now.left.now)) log) }
 {
     let followers = told.role(log).followers.as_slice();
     for client in followers {

@@ -1,7 +1,6 @@
-ghost use Rattle.std.specs.Prelude.{◌≡◌, ◌++◌, flat_map, OnOk, OnErr};
-ghost use Rattle.std.specs.List.{range_with_len};
+ghost use Rattle.std.specs.Prelude.{◌≡◌, ◌++◌, OnOk, OnErr};
 ghost use Rattle.tk_report.specs.Leaving.{unsent_by, left_text};
-ghost use Rattle.tk_report.specs.Report.{unsent_line};
+ghost use Rattle.tk_report.specs.Report.{unsent_line, unsent_lines};
 
 use crate::history_text::push_history;
 use crate::left::Left;
@@ -18,9 +17,8 @@ pub(crate) fn print_told<L: Left>(
     told: &Telling<L>,
     out: &mut Vec<u8>,
 ) -> Result<(), Memory>
-    ensures ok { let clients = L.clients told.now.left.now in
-        OnOk result (out.new.items ≡ out.old.items
-        ++ left_text told.now.shape.now told.now.roles.now told.now.history.now clients) }
+    ensures ok { OnOk result (out.new.items ≡ out.old.items ++ left_text told.now.shape.now
+        told.now.roles.now told.now.history.now (L.clients told.now.left.now)) }
     ensures err { OnErr result (out.new.items ≡ out.old.items) }
 {
     let mut text = Vec::new(alloc);
@@ -31,9 +29,8 @@ pub(crate) fn print_told<L: Left>(
 
 /// Appends it part by part.
 fn push_told<L: Left>(alloc: Global, told: &Telling<L>, out: &mut Vec<u8>) -> Result<(), Memory>
-    ensures ok { let clients = L.clients told.now.left.now in
-        OnOk result (out.new.items ≡ out.old.items
-        ++ left_text told.now.shape.now told.now.roles.now told.now.history.now clients) }
+    ensures ok { OnOk result (out.new.items ≡ out.old.items ++ left_text told.now.shape.now
+        told.now.roles.now told.now.history.now (L.clients told.now.left.now)) }
 {
     out.extend_from_slice(b"report\n")?;
     push_history(alloc, told.shape, told.history, out)?;
@@ -49,10 +46,8 @@ fn push_all_unsent<L: Left>(
     told: &Telling<L>,
     out: &mut Vec<u8>,
 ) -> Result<(), Memory>
-    ensures ok { let clients = L.clients told.now.left.now in
-        OnOk result (out.new.items ≡ out.old.items
-        ++ flat_map (λ c. unsent_line c (unsent_by clients c))
-        (range_with_len 0 told.now.shape.now.clients)) }
+    ensures ok { OnOk result (out.new.items ≡ out.old.items
+        ++ unsent_lines told.now.shape.now.clients (unsent_by (L.clients told.now.left.now))) }
 {
     for client in 0..told.shape.clients {
         push_unsent(alloc, client, told.left.unsent(client), out)?;

@@ -1,7 +1,7 @@
 ghost use Rattle.std.specs.Prelude.{◌≡◌, ◌+◌, ◌<◌, ℕ, length, IfOk, OnOk};
 ghost use Rattle.tk_shape.specs.Lengths.{turn_count};
 ghost use Rattle.tk_client.specs.Reader.{Reader};
-ghost use Rattle.tk_report.specs.Clients.{AreClients, client_knowing, client_told};
+ghost use Rattle.tk_report.specs.Clients.{AreKnowing, HaveSaid};
 ghost use Rattle.tk_report.specs.Queues.{said_before};
 
 use std::alloc::Global;
@@ -33,10 +33,8 @@ pub(crate) fn say_turn(
     requires counted { length clients.old ≡ script.now.shape.clients }
     ensures counted { length clients.new ≡ length clients.old }
     ensures said { IfOk result (λ place. place ≡ said_before script.now (now + 1)) }
-    ensures clients { (knows : ℕ → Reader)
-        → AreClients script.now.shape.clients (client_knowing script.now knows now) clients.old
-        → OnOk result
-        (AreClients script.now.shape.clients (client_told script.now knows now) clients.new) }
+    ensures clients { (knows : ℕ → Reader) → AreKnowing script.now knows now clients.old
+        → OnOk result (HaveSaid script.now knows now clients.new) }
 {
     for place in said..script.says.as_slice().len() {
         let say = script.say(place);

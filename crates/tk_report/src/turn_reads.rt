@@ -1,10 +1,6 @@
-ghost use Rattle.std.specs.Prelude.{◌≡◌, ◌+◌, ◌<◌, OnOk};
+ghost use Rattle.std.specs.Prelude.{◌+◌, ◌<◌, OnOk};
 ghost use Rattle.tk_shape.specs.Lengths.{turn_count};
-ghost use Rattle.tk_words.specs.Words.{words_of};
-ghost use Rattle.tk_report.specs.Clients.{AreFollowers, follower_before};
-ghost use Rattle.tk_report.specs.Ledgers.{Keeps, IsLeftBy};
-ghost use Rattle.tk_report.specs.Report.{read_over};
-ghost use Rattle.tk_report.specs.Turns.{placed_before};
+ghost use Rattle.tk_report.specs.Folds.{KeepsBefore, KnowsBefore, KnowBefore, IsOpenTo};
 
 use crate::ledger::Ledger;
 use crate::marked::Marked;
@@ -24,16 +20,12 @@ pub fn read_turn<D: Draws>(
     followers: &mut [Follower],
 ) -> Result<(), Memory>
     requires turn_in { turn < turn_count plan.now.script.now.shape }
-    requires ledger { let S = plan.now.script.now in
-        let words = words_of S.shape (D.book plan.now.draws.now) in
-        Keeps S.shape (placed_before S words plan.now.history.now (turn + 1)) ledger.now }
-    requires followers { let S = plan.now.script.now in
-        let words = words_of S.shape (D.book plan.now.draws.now) in
-        AreFollowers S.shape.clients (follower_before S words plan.now.history.now turn) followers.old }
-    ensures followers { let S = plan.now.script.now in
-        let words = words_of S.shape (D.book plan.now.draws.now) in
-        OnOk result (AreFollowers S.shape.clients
-        (follower_before S words plan.now.history.now (turn + 1)) followers.new) }
+    requires ledger { KeepsBefore plan.now.script.now (D.book plan.now.draws.now)
+        plan.now.history.now (turn + 1) ledger.now }
+    requires followers { KnowBefore plan.now.script.now (D.book plan.now.draws.now)
+        plan.now.history.now turn followers.old }
+    ensures followers { OnOk result (KnowBefore plan.now.script.now (D.book plan.now.draws.now)
+        plan.now.history.now (turn + 1) followers.new) }
 {
     for (number, follower) in followers.iter_mut().enumerate() {
         read_one(alloc, plan, turn, number as u32, ledger, follower)?;
@@ -52,16 +44,12 @@ fn read_one<D: Draws>(
 ) -> Result<(), Memory>
     requires turn_in { turn < turn_count plan.now.script.now.shape }
     requires number_in { number < plan.now.script.now.shape.clients }
-    requires ledger { let S = plan.now.script.now in
-        let words = words_of S.shape (D.book plan.now.draws.now) in
-        Keeps S.shape (placed_before S words plan.now.history.now (turn + 1)) ledger.now }
-    requires follower { let S = plan.now.script.now in
-        let words = words_of S.shape (D.book plan.now.draws.now) in
-        follower.old ≡ follower_before S words plan.now.history.now turn number }
-    ensures follower { let S = plan.now.script.now in
-        let words = words_of S.shape (D.book plan.now.draws.now) in
-        OnOk result
-        (follower.new ≡ follower_before S words plan.now.history.now (turn + 1) number) }
+    requires ledger { KeepsBefore plan.now.script.now (D.book plan.now.draws.now)
+        plan.now.history.now (turn + 1) ledger.now }
+    requires follower { KnowsBefore plan.now.script.now (D.book plan.now.draws.now)
+        plan.now.history.now turn number follower.old }
+    ensures follower { OnOk result (KnowsBefore plan.now.script.now (D.book plan.now.draws.now)
+        plan.now.history.now (turn + 1) number follower.new) }
 {
     let due = plan.history.epoch(turn, number);
     let open = open_to(plan, turn, number, ledger);
@@ -77,12 +65,10 @@ pub fn open_to<'a, D: Draws>(
 ) -> &'a Marked
     requires turn_in { turn < turn_count plan.now.script.now.shape }
     requires number_in { number < plan.now.script.now.shape.clients }
-    requires ledger { let S = plan.now.script.now in
-        let words = words_of S.shape (D.book plan.now.draws.now) in
-        Keeps S.shape (placed_before S words plan.now.history.now (turn + 1)) ledger.now }
-    ensures { let S = plan.now.script.now in
-        let words = words_of S.shape (D.book plan.now.draws.now) in
-        IsLeftBy S.shape (read_over S words plan.now.history.now turn number) result.now }
+    requires ledger { KeepsBefore plan.now.script.now (D.book plan.now.draws.now)
+        plan.now.history.now (turn + 1) ledger.now }
+    ensures { IsOpenTo plan.now.script.now (D.book plan.now.draws.now) plan.now.history.now turn
+        number result.now }
 {
     ledger.epoch(plan.history.epoch(turn, number))
 }

@@ -1,16 +1,15 @@
-ghost use Rattle.std.specs.Prelude.{◌≡◌, ◌<◌, ◌+◌, [], ℕ, length, IsTrue, IfOk, OnOk};
+ghost use Rattle.std.specs.Prelude.{◌≡◌, ◌<◌, ◌+◌, ℕ, length, IsTrue, IfOk, OnOk};
 ghost use Rattle.std.specs.Prelude.{slice_index_or, slice_set};
 ghost use Rattle.tk_shape.specs.Lengths.{turn_count};
 ghost use Rattle.tk_schedule.specs.declared.item.Item.TheVariants.{Client as Writes, Publish};
-ghost use Rattle.tk_schedule.specs.Schedule.{is_within, phase_of};
-ghost use Rattle.tk_words.specs.Words.{words_of};
+ghost use Rattle.tk_schedule.specs.Schedule.{is_within};
 ghost use Rattle.tk_frames.specs.Ranges.{IsEntry};
 ghost use Rattle.tk_client.specs.Client.{ClientState};
 ghost use Rattle.tk_client.specs.Reader.{Reader};
-ghost use Rattle.tk_report.specs.Clients.{AreClients, AreTold, IsTold, client_told};
+ghost use Rattle.tk_report.specs.Clients.{AreKnowing, HaveSaid, AreTold, IsTold, client_told};
 ghost use Rattle.tk_report.specs.Clients.{client_knowing};
-ghost use Rattle.tk_report.specs.Entries.{write_at, entries_at};
-ghost use Rattle.tk_report.specs.Turns.{placed_before, entry_due};
+ghost use Rattle.tk_report.specs.Taking.{IsBeforeTurn, TookTurn};
+ghost use Rattle.tk_report.specs.Turns.{IsDue};
 
 use crate::plan::Plan;
 use crate::takes::{Takes, place_next};
@@ -33,16 +32,12 @@ pub(crate) fn write_turn<D: Draws, T: Takes>(
 ) -> Result<(), Memory>
     requires turn_in { turn < turn_count plan.now.script.now.shape }
     requires clients { AreTold plan.now.script.now turn clients.old }
-    requires taker { let S = plan.now.script.now in
-        let words = words_of S.shape (D.book plan.now.draws.now) in
-        T.took taker.old S.shape (placed_before S words plan.now.history.now turn) [] taker.old }
-    ensures clients { let S = plan.now.script.now in
-        (knows : ℕ → Reader) → AreClients S.shape.clients (client_told S knows turn) clients.old
-        → OnOk result (AreClients S.shape.clients (client_knowing S knows (turn + 1)) clients.new) }
-    ensures taker { let S = plan.now.script.now in
-        let words = words_of S.shape (D.book plan.now.draws.now) in
-        OnOk result (T.took taker.old S.shape (placed_before S words plan.now.history.now turn)
-        (entries_at (write_at S words) plan.now.history.now turn) taker.new) }
+    requires taker { IsBeforeTurn T.took plan.now.script.now (D.book plan.now.draws.now)
+        plan.now.history.now turn taker.old }
+    ensures clients { (knows : ℕ → Reader) → HaveSaid plan.now.script.now knows turn clients.old
+        → OnOk result (AreKnowing plan.now.script.now knows (turn + 1) clients.new) }
+    ensures taker { OnOk result (TookTurn T.took plan.now.script.now (D.book plan.now.draws.now)
+        plan.now.history.now turn taker.old taker.new) }
 {
     'items: for item in plan.history.order(turn) {
         let entry = entry_of(alloc, plan, turn, item, clients)?;
@@ -66,9 +61,8 @@ fn entry_of<D: Draws>(
     requires due { (c : ℕ) (d : ClientState) → item.now ≡ Writes c
         → IsTold plan.now.script.now turn c (slice_index_or clients.old c d) }
     ensures in_range { IfOk result (IsEntry plan.now.script.now.shape) }
-    ensures entry { let S = plan.now.script.now in
-        let words = words_of S.shape (D.book plan.now.draws.now) in
-        IfOk result (λ e. e ≡ entry_due (write_at S words turn) (phase_of S.shape turn) item.now) }
+    ensures entry { IfOk result
+        (IsDue plan.now.script.now (D.book plan.now.draws.now) turn item.now) }
     ensures wrote { let S = plan.now.script.now in
         (knows : ℕ → Reader) (c : ℕ) → item.now ≡ Writes c
         → ((d : ClientState) → slice_index_or clients.old c d ≡ client_told S knows turn c)
