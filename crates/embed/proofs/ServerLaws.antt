@@ -8,7 +8,7 @@ use Rattle.tk_frames.specs.declared.entry.Placed.{Placed}
 use Rattle.tk_frames.specs.Ranges.{IsPlaced}
 use Rattle.tk_frames.specs.Spelling.{placed_frame}
 use Rattle.tk_replica.specs.Replica.{ReplicaView, StandsFor}
-use Rattle.embed.specs.Servers.{AreServers}
+use Rattle.embed.specs.Servers.{AllStandFor}
 use Rattle.tk_lists.proofs.Offers.{ChangedUpTo}
 
 -- a server has taken the entry that these bytes spell
@@ -19,8 +19,8 @@ Takes bytes old new =
 
 pub all_take : (bytes : List ℕ) (i : ℕ) (old new : List ReplicaView) (shape : Shape)
     (E : List Placed) (p : Placed) → length new ≤ i → ChangedUpTo (Takes bytes) i old new →
-    AreServers shape E old → IsPlaced shape p → bytes ≡ placed_frame p →
-    AreServers shape (E ++ p ∷ []) new
+    AllStandFor shape E old → IsPlaced shape p → bytes ≡ placed_frame p →
+    AllStandFor shape (E ++ p ∷ []) new
 all_take bytes i old new shape E p past h are in_range spelled =
     let same = h.counted in
     record {

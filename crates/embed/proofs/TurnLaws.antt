@@ -10,7 +10,7 @@ use Rattle.tk_frames.specs.declared.write_frame.WriteFrame.{WriteFrame}
 use Rattle.tk_frames.specs.InOrder.{IsNext}
 use Rattle.tk_frames.specs.Ranges.{IsPlaced, IsWrite}
 use Rattle.tk_frames.proofs.Offers.{marks-write}
-use Rattle.embed.specs.Turns.{IsTurn, mark_of}
+use Rattle.embed.specs.Turns.{IsBeforeTurn, mark_of}
 
 -- where each turn closes a phase there are as many turns as phases
 pub turns-phases : (shape : Shape) → shape.ticks ≡ 1 → turn_count shape ≡ shape.phases
@@ -34,7 +34,7 @@ abbrev pub record_at : ℕ → WriteFrame → Placed
 record_at g w = record { position = 2 * g + 1; entry = Write w }
 
 pub next-record : (shape : Shape) (E : List Placed) (g : ℕ) (w : WriteFrame) →
-    g < shape.phases → IsTurn g E → IsWrite shape w → IsNext shape E (record_at g w)
+    g < shape.phases → IsBeforeTurn g E → IsWrite shape w → IsNext shape E (record_at g w)
 next-record shape E g w low is in_range =
     let room = room shape g low in
     record {
@@ -57,7 +57,7 @@ placed-mark shape g low =
     }
 
 pub next-mark : (shape : Shape) (E : List Placed) (g : ℕ) (w : WriteFrame) →
-    g < shape.phases → IsTurn g E → IsNext shape (E ++ record_at g w ∷ []) (mark_of g)
+    g < shape.phases → IsBeforeTurn g E → IsNext shape (E ++ record_at g w ∷ []) (mark_of g)
 next-mark shape E g w low is =
     let counted = length-append E (record_at g w ∷ []) in
     let marks = marks-write E (record_at g w) w refl in

@@ -31,7 +31,7 @@ abbrev pub mark_of : ℕ → Placed
 mark_of g = record { position = 2 * g + 2; entry = Mark (g + 1) }
 
 -- these entries came before turn g: a record and a mark in each turn
-pub record IsTurn (g : ℕ) (E : List Placed) : Type 0 where
+pub record IsBeforeTurn (g : ℕ) (E : List Placed) : Type 0 where
   pub entries : length E ≡ 2 * g
   pub marks : mark_count E ≡ g
 

@@ -11,7 +11,7 @@ ghost use Rattle.tk_frames.specs.Spelling.{placed_frame};
 ghost use Rattle.tk_replica.specs.Replica.{StandsFor};
 ghost use Rattle.tk_replica.specs.Replies.{reply_bytes};
 ghost use Rattle.embed.specs.Faults.{IsReadFault};
-ghost use Rattle.embed.specs.Servers.{AreServers};
+ghost use Rattle.embed.specs.Servers.{AllStandFor};
 
 use crate::fault::Fault;
 use std::alloc::Global;
@@ -21,7 +21,7 @@ use tk_shape::{Bytes, Memory, Shape};
 
 /// The servers of a shape, before any entry.
 pub fn open_servers(alloc: Global, shape: &Shape) -> Result<Vec<ReplicaState>, Memory>
-    ensures { IfOk result (λ servers. AreServers shape.now [] servers.items) }
+    ensures { IfOk result (λ servers. AllStandFor shape.now [] servers.items) }
 {
     let mut servers = Vec::new(alloc);
     for _ in 0..shape.servers {
@@ -72,10 +72,10 @@ pub fn take(alloc: Global, server: &mut ReplicaState, frame: &[u8]) -> Result<()
 /// Each server takes the frame of the next entry, unless memory runs out.
 pub fn take_all(alloc: Global, servers: &mut [ReplicaState], frame: &[u8]) -> Result<(), Fault>
     ensures taken { (shape : Shape) (E : List Placed) (p : Placed)
-        → AreServers shape E servers.old → IsPlaced shape p → frame.now ≡ placed_frame p
-        → OnOk result (AreServers shape (E ++ p ∷ []) servers.new) }
+        → AllStandFor shape E servers.old → IsPlaced shape p → frame.now ≡ placed_frame p
+        → OnOk result (AllStandFor shape (E ++ p ∷ []) servers.new) }
     ensures due { (shape : Shape) (E : List Placed) (p : Placed)
-        → AreServers shape E servers.old → IsNext shape E p → frame.now ≡ placed_frame p
+        → AllStandFor shape E servers.old → IsNext shape E p → frame.now ≡ placed_frame p
         → IfErr result (λ e. e ≡ Fault.Memory) }
 {
     for server in servers.iter_mut() {
@@ -92,7 +92,7 @@ pub fn answers(
 ) -> Result<Vec<Bytes>, Fault>
     requires { length frames.now ≡ length servers.now }
     ensures counted { IfOk result (λ replies. length replies.items ≡ length frames.now) }
-    ensures replies { (shape : Shape) (E : List Placed) → AreServers shape E servers.now
+    ensures replies { (shape : Shape) (E : List Placed) → AllStandFor shape E servers.now
         → IfOk result (λ replies. replies.items ≡ map (reply_bytes shape E) frames.now) }
     ensures fault { IfErr result IsReadFault }
 {

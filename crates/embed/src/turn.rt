@@ -10,9 +10,9 @@ ghost use Rattle.tk_frames.specs.declared.entry.Placed.{Placed};
 ghost use Rattle.tk_client.specs.Writing.{first_waiting};
 ghost use Rattle.tk_frames.specs.InOrder.{IsNext};
 ghost use Rattle.embed.specs.Faults.{IsReadFault};
-ghost use Rattle.embed.specs.Servers.{AreServers};
+ghost use Rattle.embed.specs.Servers.{AllStandFor};
 ghost use Rattle.embed.specs.Turns.{written, record_of, mark_of, with_turn, after_read};
-ghost use Rattle.embed.specs.Turns.{IsTurn, after_turn};
+ghost use Rattle.embed.specs.Turns.{IsBeforeTurn, after_turn};
 
 use crate::fault::Fault;
 use crate::order::{mark_frame, record_frame};
@@ -36,11 +36,11 @@ fn write<D: Draws>(
     requires number_in { ForSome (first_waiting client.old.writing)
         (λ y. y.number < turn_count client.old.shape) }
     ensures client { OnOk result (client.new ≡ written client.old) }
-    ensures servers { (E : List Placed) → AreServers client.old.shape E servers.old
-        → OnOk result (AreServers client.old.shape
+    ensures servers { (E : List Placed) → AllStandFor client.old.shape E servers.old
+        → OnOk result (AllStandFor client.old.shape
         (E ++ record_of (D.book draws.now) turn client.old ∷ []) servers.new) }
-    ensures due { (E : List Placed) → AreServers client.old.shape E servers.old
-        → IsTurn turn E → IfErr result (λ e. e ≡ Fault.Memory) }
+    ensures due { (E : List Placed) → AllStandFor client.old.shape E servers.old
+        → IsBeforeTurn turn E → IfErr result (λ e. e ≡ Fault.Memory) }
 {
     let shape = *client.shape();
     let mut frame = Vec::new(alloc);
@@ -54,10 +54,10 @@ fn write<D: Draws>(
 fn mark(alloc: Global, turn: u32, servers: &mut [ReplicaState]) -> Result<(), Fault>
     requires { turn + 1 < 2 ^ 32 }
     ensures servers { (shape : Shape) (E : List Placed)
-        → AreServers shape E servers.old → turn < shape.phases
-        → OnOk result (AreServers shape (E ++ mark_of turn ∷ []) servers.new) }
+        → AllStandFor shape E servers.old → turn < shape.phases
+        → OnOk result (AllStandFor shape (E ++ mark_of turn ∷ []) servers.new) }
     ensures due { (shape : Shape) (E : List Placed)
-        → AreServers shape E servers.old → IsNext shape E (mark_of turn)
+        → AllStandFor shape E servers.old → IsNext shape E (mark_of turn)
         → IfErr result (λ e. e ≡ Fault.Memory) }
 {
     let position = 2 * u64::from(turn) + 2;
@@ -80,7 +80,7 @@ fn read<D: Draws>(
     requires closed { client.old.read ≡ None }
     requires turn_in { turn < turn_count client.old.shape }
     requires counted { length servers.now ≡ client.old.shape.servers }
-    ensures client { (E : List Placed) → AreServers client.old.shape E servers.now
+    ensures client { (E : List Placed) → AllStandFor client.old.shape E servers.now
         → OnOk result (client.new ≡ after_read (D.book draws.now) turn E client.old) }
     ensures fault { IfErr result IsReadFault }
 {
@@ -108,13 +108,13 @@ pub fn take_turn<D: Draws>(
     requires number_in { ForSome (first_waiting client.old.writing)
         (λ y. y.number < turn_count client.old.shape) }
     requires counted { length servers.old ≡ client.old.shape.servers }
-    ensures servers { (E : List Placed) → AreServers client.old.shape E servers.old
-        → OnOk result (AreServers client.old.shape
+    ensures servers { (E : List Placed) → AllStandFor client.old.shape E servers.old
+        → OnOk result (AllStandFor client.old.shape
         (with_turn (D.book draws.now) turn client.old E) servers.new) }
-    ensures client { (E : List Placed) → AreServers client.old.shape E servers.old
+    ensures client { (E : List Placed) → AllStandFor client.old.shape E servers.old
         → OnOk result (client.new ≡ after_turn (D.book draws.now) turn E client.old) }
-    ensures fault { (E : List Placed) → AreServers client.old.shape E servers.old
-        → IsTurn turn E → IfErr result IsReadFault }
+    ensures fault { (E : List Placed) → AllStandFor client.old.shape E servers.old
+        → IsBeforeTurn turn E → IfErr result IsReadFault }
 {
     write(alloc, draws, turn, client, servers)?;
     mark(alloc, turn, servers)?;

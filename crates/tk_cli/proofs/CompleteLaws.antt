@@ -12,7 +12,7 @@ use Rattle.tk_cli.specs.declared.status.Status.{Status}
 use Rattle.tk_cli.specs.declared.status.Status.TheVariants as status
 use Rattle.tk_cli.specs.declared.ended.Ended.{Ended}
 use Rattle.tk_cli.specs.Puts.{PutsSome}
-use Rattle.tk_cli.specs.Inputs.{TakesAll, IsRefused, form_of, refusal_of}
+use Rattle.tk_cli.specs.Inputs.{TakesAll, IsRefusedWith, form_of, refusal_of}
 use Rattle.tk_cli.specs.Outside.{Outside}
 use Rattle.tk_cli.specs.Endings.{EndsWith}
 use Rattle.tk_cli.specs.Completeness.{NoFault, HasAccepted, Completes}
@@ -45,7 +45,7 @@ short-taken bytes taken left (Some rest) is takes =
 -- ---- by the status
 
 refused-not : (one : SpellsOne) (r : Request) (s : Status) (old new : Outside) →
-    IsRefused r s old.left new.left → HasAccepted r old → ⊥
+    IsRefusedWith r s old.left new.left → HasAccepted r old → ⊥
 refused-not one r s old new refused has =
     let same = all-taken has.bytes refused.read.bytes old.left new.left has.left refused.read.all in
     let spelled = subst (λ b. Spells (form_of r) b refused.input) same refused.read.spelled in

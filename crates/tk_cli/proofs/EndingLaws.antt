@@ -14,18 +14,18 @@ use Rattle.tk_cli.specs.declared.status.Status.{Status}
 use Rattle.tk_cli.specs.declared.status.Status.TheVariants as status
 use Rattle.tk_cli.specs.declared.ended.Ended.{Ended}
 use Rattle.tk_cli.specs.Errors.{run_status}
-use Rattle.tk_cli.specs.Puts.{Puts, PutsSome}
+use Rattle.tk_cli.specs.Puts.{PutsText, PutsSome}
 use Rattle.tk_cli.specs.Texts.{IsTextOf}
 use Rattle.tk_cli.specs.Requests.{Words, Asks, AsksNothing}
 use Rattle.tk_cli.proofs.RequestLaws.{asks-one}
-use Rattle.tk_cli.specs.Inputs.{IsDue, Stops}
+use Rattle.tk_cli.specs.Inputs.{IsDoneWith, Stops}
 use Rattle.tk_cli.specs.Outside.{Outside, IsUnwritten, IsUntapped}
-use Rattle.tk_cli.specs.Endings.{output_of, TapsGainAll, TapsGainSome, IsMade, HandsNothing, HandsAs, HandsBack}
-use Rattle.tk_cli.specs.Endings.{StopsInTaps, FailsInTaps, IsQuiet, EndsWith, Ends}
+use Rattle.tk_cli.specs.Endings.{output_of, TapsGainAll, TapsGainSome, IsAnswered, HandsNothing, HandsAs, HandsBack}
+use Rattle.tk_cli.specs.Endings.{StopsInTaps, FailsInTaps, TouchesNothing, EndsWith, Ends}
 
 -- an input wasn't had
 pub stopped : (s : Status) (r : Request) (e : Ended) (old new : Outside) →
-    Stops r s old.left new.left old.source_faults new.source_faults → IsQuiet e old new →
+    Stops r s old.left new.left old.source_faults new.source_faults → TouchesNothing e old new →
     EndsWith s r e old new
 stopped status.Done r e old new stops quiet = absurd stops
 stopped status.Memory r e old new stops quiet =
@@ -50,12 +50,12 @@ run_stopped run_error.Memory r e old new nothing unwritten stops fails =
 -- what was done was told to the sink, or a front of it, or nothing
 module _ (r : Request) (e : Ended) (old new : Outside) (input : Input) (H : History)
     (text : List ℕ) (o : Outcome) (closed : Option Closed)
-    (due : IsDue r old.left new.left input H)
+    (due : IsDoneWith r old.left new.left input H)
     (all : TapsGainAll r input H old new) (some : TapsGainSome r input H old new)
     (is : text ≡ output_of r input H)
     (back : e.outcome ≡ Some o → e.closed ≡ closed → HandsBack r input H e) where
   pub told : (s : Status) →
-      Puts s text old.held new.held old.sink_faults new.sink_faults → HandsAs s e o closed →
+      PutsText s text old.held new.held old.sink_faults new.sink_faults → HandsAs s e o closed →
       EndsWith s r e old new
   told status.Done puts hands = record {
     input = input;
@@ -92,9 +92,9 @@ pub record IsPlain (r : Request) (old new : Outside) : Type 0 where
   pub back : (input : Input) (H : History) (e : Ended) → HandsNothing e → HandsBack r input H e
 
 module _ (r : Request) (e : Ended) (old new : Outside) (text : List ℕ)
-    (plain : IsPlain r old new) (made : IsMade r old.left new.left text)
+    (plain : IsPlain r old new) (made : IsAnswered r old.left new.left text)
     (nothing : HandsNothing e) (untapped : IsUntapped old new) where
-  is-due : IsDue r old.left new.left made.input made.answer.history
+  is-due : IsDoneWith r old.left new.left made.input made.answer.history
   is-due = record {
     read = made.read;
     accepted = made.answer.accepted;
@@ -102,7 +102,7 @@ module _ (r : Request) (e : Ended) (old new : Outside) (text : List ℕ)
   }
 
   pub made-ends : (s : Status) →
-      Puts s text old.held new.held old.sink_faults new.sink_faults → EndsWith s r e old new
+      PutsText s text old.held new.held old.sink_faults new.sink_faults → EndsWith s r e old new
   made-ends status.Done puts = record {
     input = made.input;
     history = made.answer.history;

@@ -20,9 +20,9 @@ use Rattle.tk_hostile.specs.Wrong.{wrong_mirror}
 use Rattle.tk_cli.specs.declared.hiding.Hiding.{Hiding}
 use Rattle.tk_cli.specs.declared.request.Request.TheVariants as request
 use Rattle.tk_cli.specs.Chosen.{HasReplies, chosen}
-use Rattle.tk_cli.specs.Endings.{IsAnswer, mirror_of, wrong_of}
+use Rattle.tk_cli.specs.Endings.{IsTextFor, mirror_of, wrong_of}
 use Rattle.tk_cli.specs.Hidings.{IsHiding, IsOfTwo}
-use Rattle.tk_cli.specs.Inputs.{TellsIn}
+use Rattle.tk_cli.specs.Inputs.{HasHistory}
 
 -- ---- what is spelled
 
@@ -59,7 +59,7 @@ wrong-replies bytes input spelled =
 -- ---- its parts
 
 pub told-legal : (shape : Shape) (raw : Option (List RawLine)) (H : History) →
-    TellsIn shape raw H → IsLegal shape H
+    HasHistory shape raw H → IsLegal shape H
 told-legal shape None H told = absurd told
 told-legal shape (Some raw) H told = told.legal
 
@@ -75,7 +75,7 @@ with-parts hidden input x is has =
 module _ (hidden : ℕ) (input : Input) (x : Hiding) (is : IsHiding hidden input x)
     (v : List ℕ) {text : List ℕ} (printed : text ≡ printed_tape v) where
   pub mirror-answers : v ≡ mirror x.first x.second x.history hidden x.tape →
-      IsAnswer (request.Mirror hidden) input text
+      IsTextFor (request.Mirror hidden) input text
   mirror-answers made = record {
     history = x.history;
     accepted = is.accepted;
@@ -86,7 +86,7 @@ module _ (hidden : ℕ) (input : Input) (x : Hiding) (is : IsHiding hidden input
 
   pub wrong-answers : (F : Choice) → F ≡ chosen x.first.shape x.replies →
       v ≡ wrong_mirror x.first x.second x.history hidden F x.tape →
-      IsAnswer (request.Wrong hidden) input text
+      IsTextFor (request.Wrong hidden) input text
   wrong-answers F choice made = record {
     history = x.history;
     accepted = is.accepted;

@@ -23,10 +23,10 @@ use Rattle.tk_cli.specs.declared.request.Request.TheVariants as request
 use Rattle.tk_cli.specs.declared.status.Status.{Status}
 use Rattle.tk_cli.specs.declared.status.Status.TheVariants as status
 use Rattle.tk_cli.specs.Errors.{book_status, history_status}
-use Rattle.tk_cli.specs.Inputs.{Reads, Refuses, Stops}
+use Rattle.tk_cli.specs.Inputs.{ReadsWhole, Refuses, Stops}
 use Rattle.tk_cli.specs.Inputs.{form_of, tape_refusal, wide_refusal, shapes_refusal, history_refusal}
 use Rattle.tk_cli.specs.Inputs.{server_refusal, phase_refusal, difference, bad_history_line, hiding_refusal, refusal_of}
-use Rattle.tk_cli.specs.Endings.{IsAnswer, IsMade}
+use Rattle.tk_cli.specs.Endings.{IsTextFor, IsAnswered}
 
 -- ---- how much was taken
 
@@ -98,7 +98,7 @@ accepted-whole f bytes input behind spelled none =
 
 -- an input that was read refuses it
 pub refuses-stops : (r : Request) (s : Status) (left left' : Option (List ℕ)) (f f' : ℕ)
-    (input : Input) → Reads (form_of r) left left' input → Refuses r input s →
+    (input : Input) → ReadsWhole (form_of r) left left' input → Refuses r input s →
     Stops r s left left' f f'
 refuses-stops r status.Done left left' f f' input read refuses = absurd refuses
 refuses-stops r status.Memory left left' f f' input read refuses = tt
@@ -184,11 +184,11 @@ epoch-refuses e s input whole is refused =
 
 -- a run that an input of its form refuses
 pub run-stops : (form : Form) (r : Request) (s : Status) (left left' : Option (List ℕ)) (f f' : ℕ)
-    (input : Input) → Reads form left left' input → form_of r ≡ form → Refuses r input s →
+    (input : Input) → ReadsWhole form left left' input → form_of r ≡ form → Refuses r input s →
     Stops r s left left' f f'
 run-stops form r s left left' f f' input read is refuses =
     refuses-stops r s left left' f f' input
-    (subst (λ k. Reads k left left' input) (sym is) read) refuses
+    (subst (λ k. ReadsWhole k left left' input) (sym is) read) refuses
 
 refused-short : (s : Status) (r : Request) (input : Input) → Refuses r input s →
     s ≢ status.TooLong
@@ -212,9 +212,9 @@ book-short book_error.Memory s is long = cc
 
 -- what an input that was read is answered with
 module _ {X : Type 0} (r : Request) (left left' : Option (List ℕ)) (f f' : ℕ) (input : Input)
-    (read : Reads (form_of r) left left' input) (items : X → List ℕ) where
-  pub made-by : (res : Result X Status) → IfOk res (λ x. IsAnswer r input (items x)) →
-      IfOk res (λ x. IsMade r left left' (items x))
+    (read : ReadsWhole (form_of r) left left' input) (items : X → List ℕ) where
+  pub made-by : (res : Result X Status) → IfOk res (λ x. IsTextFor r input (items x)) →
+      IfOk res (λ x. IsAnswered r left left' (items x))
   made-by (Ok x) answer = record { input = input; read = read; answer = answer }
   made-by (Err s) answer = tt
 

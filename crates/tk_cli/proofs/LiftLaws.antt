@@ -24,7 +24,7 @@ use Rattle.tk_cli.specs.declared.status.Status.{Status}
 use Rattle.tk_cli.specs.declared.status.Status.TheVariants as status
 use Rattle.tk_cli.specs.Errors.{lift_status}
 use Rattle.tk_cli.specs.Inputs.{Refuses, kept_in, refusal_of, wide_refusal}
-use Rattle.tk_cli.specs.Endings.{IsAnswer, IsLiftedText, sections_of}
+use Rattle.tk_cli.specs.Endings.{IsTextFor, IsLiftedText, sections_of}
 use Rattle.tk_cli.proofs.InputLaws.{whole-not_refused}
 
 -- ---- the tape of a drawn script
@@ -92,7 +92,7 @@ keyed_sections shape None tape T is = absurd cc
 keyed_sections shape (Some keys) tape T is = refl
 
 pub keyed-answer : (input : Input) (bytes text : List ℕ) → Spells form.Run bytes input → IsSome input.first.keys →
-    IsLiftedText input.first text → IsAnswer request.Lift input text
+    IsLiftedText input.first text → IsTextFor request.Lift input text
 keyed-answer input bytes text spelled keyed lifted =
     let shape = input.first.shape in
     let none = no_tape shape input.first.keys spelled.rest input.tape keyed spelled.tape in
@@ -112,7 +112,7 @@ pub drawn-answer : (input : Input) (T : Script) (text : List ℕ) → input.firs
     HasTape input.first.shape None input.tape → IsWholeTape input.first.shape input.tape →
     tape_len (lifted_shape input.first.shape) ≤ 2097152 → lifted_script input.first ≡ Some T →
     text ≡ printed T ++ printed_tape (lifted_tape input.first.shape (kept_in input.tape)) →
-    IsAnswer request.Lift input text
+    IsTextFor request.Lift input text
 drawn-answer input T text none has whole fits lifted is =
     let shape = input.first.shape in
     record {

@@ -5,7 +5,7 @@ use Rattle.std.specs.Str.{bytes_eq}
 use Rattle.std.proofs.lemmas.Fmt.{decimal_injective}
 use Rattle.tk_cli.specs.declared.request.Request.{Request}
 use Rattle.tk_cli.specs.declared.request.Request.TheVariants.{Serial, Relay, Resume, Run, View, Mirror, Wrong, Handle, Make, Tally, Lift, Nothing}
-use Rattle.tk_cli.specs.Requests.{Words, Asks, AsksNothing, AsksRun, IsCrew, IsLong, IsSmall, SpellsRoot}
+use Rattle.tk_cli.specs.Requests.{Words, Asks, AsksNothing, AsksRun, IsCrew, IsNumeral, IsSmall, SpellsRoot}
 
 -- a number is 1 to 64
 abbrev IsTo64 : ℕ → Type 0
@@ -48,13 +48,13 @@ nothing-alone words Nothing nothing asks = refl
 
 -- ---- numbers
 
-one_long : (m n : ℕ) (text : List ℕ) → IsLong m text → IsLong n text → m ≡ n
+one_long : (m n : ℕ) (text : List ℕ) → IsNumeral m text → IsNumeral n text → m ≡ n
 one_long m n text a b = decimal_injective m n a.0 b.0 (sym a.1 ∙ b.1)
 
-crew_long : (n : ℕ) (text : List ℕ) → IsCrew n text → IsLong n text
+crew_long : (n : ℕ) (text : List ℕ) → IsCrew n text → IsNumeral n text
 crew_long n text a = (omega (arith, a.0.1), a.1)
 
-small_long : (n : ℕ) (text : List ℕ) → IsSmall n text → IsLong n text
+small_long : (n : ℕ) (text : List ℕ) → IsSmall n text → IsNumeral n text
 small_long n text a = (omega (arith, a.0), a.1)
 
 -- ---- by the count of words
@@ -104,7 +104,7 @@ by_number w n =
 -- the number of a request of a word and a number
 record ByNumber (w text : List ℕ) (r : Request) : Type 0 where
   pub number : ℕ
-  pub long : IsLong number text
+  pub long : IsNumeral number text
   pub is : r ≡ by_number w number
 
 number_asks : (w text : List ℕ) (r : Request) → Asks (w ∷ text ∷ []) r →

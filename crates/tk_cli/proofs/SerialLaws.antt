@@ -23,8 +23,8 @@ use Rattle.tk_cli.specs.declared.request.Request.{Request}
 use Rattle.tk_cli.specs.declared.request.Request.TheVariants as request
 use Rattle.tk_cli.specs.declared.ended.Ended.{Ended}
 use Rattle.tk_cli.specs.Errors.{run_status}
-use Rattle.tk_cli.specs.Puts.{Puts, PutsNothing}
-use Rattle.tk_cli.specs.Inputs.{IsDue, IsReady}
+use Rattle.tk_cli.specs.Puts.{PutsText, PutsNothing}
+use Rattle.tk_cli.specs.Inputs.{IsDoneWith, HasScript}
 use Rattle.tk_cli.specs.Outside.{Outside, NoCountFalls}
 use Rattle.tk_cli.specs.Endings.{report_in, output_of, TapsSee, TapsSeeFronts, TapsGainAll, TapsGainSome}
 use Rattle.tk_cli.specs.Endings.{HandsNothing, HandsAs, HandsSerial, HandsBack, LeavesTaps, Ends}
@@ -97,7 +97,7 @@ resume-runs epoch = record {
 -- how the report of what was left was told, or why there was none
 pub record IsTold (left : Result Outcome RunError) (e : Ended) (old new : Outside) : Type 0 where
   pub puts : IfOk left (λ o.
-      Puts e.status (outcome_text o) old.held new.held old.sink_faults new.sink_faults)
+      PutsText e.status (outcome_text o) old.held new.held old.sink_faults new.sink_faults)
   pub handed : IfOk left (λ o. HandsAs e.status e o None)
   pub status : IfErr left (λ error. e.status ≡ run_status error)
   pub nothing : IfErr left (λ error. HandsNothing e)
@@ -107,7 +107,7 @@ pub record IsTold (left : Result Outcome RunError) (e : Ended) (old new : Outsid
 module _ (r : Request) (seen : Seen) (runs : RunsSerially r seen) (e : Ended) (old new : Outside)
     (counts : NoCountFalls old new) (reports : OutcomesReport) {X : Type 0} (x : X)
     (taken : Taken (IsOverOk x) old.left new.left) (input : Input)
-    (due : IsDue r old.left new.left input (serial_history input.first.shape)) where
+    (due : IsDoneWith r old.left new.left input (serial_history input.first.shape)) where
   was-left : (left : Result Outcome RunError) →
       IsSerialRun seen input.first (book_of input) left old.tap new.tap → IsTold left e old new →
       IfErr left (λ error. error ≡ run_error.Taps → Rose old.tap_faults new.tap_faults) →
@@ -142,8 +142,8 @@ module _ (r : Request) (seen : Seen) (runs : RunsSerially r seen) (e : Ended) (o
 pub serial-ends : (r : Request) (seen : Seen) → RunsSerially r seen → (e : Ended)
     (old new : Outside) → NoCountFalls old new → OutcomesReport → {X : Type 0} (x : X) →
     Taken (IsOverOk x) old.left new.left → (f : Form) (script : Script) (book : Book)
-    (ready : IsReady f old.left new.left script book) →
-    IsDue r old.left new.left ready.input (serial_history ready.input.first.shape) →
+    (ready : HasScript f old.left new.left script book) →
+    IsDoneWith r old.left new.left ready.input (serial_history ready.input.first.shape) →
     (left : Result Outcome RunError) →
     IsSerialRun seen script (words_in book) left old.tap new.tap → IsTold left e old new →
     IfErr left (λ error. error ≡ run_error.Taps → Rose old.tap_faults new.tap_faults) →

@@ -21,12 +21,12 @@ use Rattle.tk_cli.specs.declared.status.Status.{Status}
 use Rattle.tk_cli.specs.declared.status.Status.TheVariants as status
 use Rattle.tk_cli.specs.declared.ended.Ended.{Ended}
 use Rattle.tk_cli.specs.Errors.{run_status}
-use Rattle.tk_cli.specs.Puts.{Puts, PutsNothing, PutsSome}
+use Rattle.tk_cli.specs.Puts.{PutsText, PutsNothing, PutsSome}
 use Rattle.tk_cli.specs.Texts.{IsTextOf}
-use Rattle.tk_cli.specs.Inputs.{IsDue, IsReady, Reads, Stops, HasBookOfKeys, tape_refusal, phase_refusal}
+use Rattle.tk_cli.specs.Inputs.{IsDoneWith, HasScript, ReadsWhole, Stops, HasBookOfKeys, tape_refusal, phase_refusal}
 use Rattle.tk_cli.specs.Outside.{Outside, outside, IsUnwritten, IsUntapped, NoCountFalls}
 use Rattle.tk_cli.specs.Endings.{LeavesSource, LeavesTaps, HandsNothing}
-use Rattle.tk_cli.specs.Endings.{IsMade, StopsInTaps, EndsWith}
+use Rattle.tk_cli.specs.Endings.{IsAnswered, StopsInTaps, EndsWith}
 use Rattle.tk_cli.specs.Endings.{HowEnds, Ends, WritesText}
 use Rattle.tk_cli.proofs.InputLaws.{not_over, over-as, err_same, ok_long, whole-not_refused, run-stops, epoch-refuses}
 use Rattle.tk_cli.proofs.EndingLaws.{IsPlain, stopped, run_stopped, made-ends}
@@ -86,9 +86,9 @@ ok-taken x e left left' t short =
     (t.0, not_over input_limit left left' t.0 t.1 (ok_long x) short)
 
 puts-short : (s : Status) (text : List ℕ) (held held' : Option (List ℕ)) (f f' : ℕ) →
-    Puts s text held held' f f' → s ≢ status.TooLong
+    PutsText s text held held' f f' → s ≢ status.TooLong
 puts-short s text held held' f f' puts is =
-    absurd (subst (λ x. Puts x text held held' f f') is puts)
+    absurd (subst (λ x. PutsText x text held held' f f') is puts)
 
 run-short : (error : RunError) (s : Status) → s ≡ run_status error → s ≢ status.TooLong
 run-short run_error.Taps s is long = cc
@@ -129,9 +129,9 @@ module _ (r : Request) (reads : ReadsInput r) (e : Ended) (old new : Outside)
 
   -- a text was made of it
   pub made : {X : Type 0} (x : X) (text : List ℕ) → IsPlain r old new →
-      IsMade r old.left new.left text → HandsNothing e → Taken (IsOverOk x) old.left new.left →
+      IsAnswered r old.left new.left text → HandsNothing e → Taken (IsOverOk x) old.left new.left →
       IsUntapped old new →
-      Puts e.status text old.held new.held old.sink_faults new.sink_faults → Ends r e old new
+      PutsText e.status text old.held new.held old.sink_faults new.sink_faults → Ends r e old new
   made x text plain is nothing taken untapped puts = record {
     taken = ok-taken x e old.left new.left taken
         (puts-short e.status text old.held new.held old.sink_faults new.sink_faults puts);
@@ -160,7 +160,7 @@ module _ (r : Request) (reads : ReadsInput r) (e : Ended) (old new : Outside)
 
     -- it was told, or a front of it
     pub run-told : (text : List ℕ) → EndsWith e.status r e old new →
-        Puts e.status text old.held new.held old.sink_faults new.sink_faults → Ends r e old new
+        PutsText e.status text old.held new.held old.sink_faults new.sink_faults → Ends r e old new
     run-told text how puts = record {
       taken = ok-taken x e old.left new.left taken
           (puts-short e.status text old.held new.held old.sink_faults new.sink_faults puts);
@@ -173,7 +173,7 @@ module _ (r : Request) (reads : ReadsInput r) (e : Ended) (old new : Outside)
 -- ---- runs of an input
 
 module _ (f : Form) (left left' : Option (List ℕ)) (script : Script) (book : Book)
-    (ready : IsReady f left left' script book) where
+    (ready : HasScript f left left' script book) where
   -- what holds of the script and the words holds of the input's
   pub as-input : (P : Script → WordBook → Type 0) → P script (words_in book) →
       P ready.input.first (book_of ready.input)
@@ -186,18 +186,18 @@ module _ (f : Form) (left left' : Option (List ℕ)) (script : Script) (book : B
   accepted behind =
       whole-not_refused ready.input.first.shape ready.input.tape behind ready.whole
 
-  pub serial-due : f ≡ form.Run → IsDue request.Serial left left' ready.input
+  pub serial-due : f ≡ form.Run → IsDoneWith request.Serial left left' ready.input
       (serial_history ready.input.first.shape)
   serial-due is = record {
-    read = subst (λ k. Reads k left left' ready.input) is ready.read;
+    read = subst (λ k. ReadsWhole k left left' ready.input) is ready.read;
     accepted = accepted None;
     history = refl;
   }
 
-  pub relay-due : f ≡ form.Relay → IsDue request.Relay left left' ready.input
+  pub relay-due : f ≡ form.Relay → IsDoneWith request.Relay left left' ready.input
       (serial_history ready.input.first.shape)
   relay-due is = record {
-    read = subst (λ k. Reads k left left' ready.input) is ready.read;
+    read = subst (λ k. ReadsWhole k left left' ready.input) is ready.read;
     accepted = accepted None;
     history = refl;
   }
@@ -206,9 +206,9 @@ module _ (f : Form) (left left' : Option (List ℕ)) (script : Script) (book : B
   phases-is = ap (λ (S : Script). S.shape.phases) ready.of_input
 
   pub resume-due : (e : ℕ) → f ≡ form.Run → phase_refusal e script.shape.phases ≡ None →
-      IsDue (request.Resume e) left left' ready.input (serial_history ready.input.first.shape)
+      IsDoneWith (request.Resume e) left left' ready.input (serial_history ready.input.first.shape)
   resume-due e is within = record {
-    read = subst (λ k. Reads k left left' ready.input) is ready.read;
+    read = subst (λ k. ReadsWhole k left left' ready.input) is ready.read;
     accepted = accepted (phase_refusal e ready.input.first.shape.phases)
         ∙ ap (phase_refusal e) (sym phases-is) ∙ within;
     history = refl;
@@ -228,16 +228,16 @@ module _ (f : Form) (left left' : Option (List ℕ)) (script : Script) (book : B
       (ap (phase_refusal e) (sym phases-is) ∙ refused))
 
   pub run-due : (n m : ℕ) (H : History) → f ≡ form.Run → IsLegal ready.input.first.shape H →
-      IsDue (request.Run n m) left left' ready.input H
+      IsDoneWith (request.Run n m) left left' ready.input H
   run-due n m H is legal = record {
-    read = subst (λ k. Reads k left left' ready.input) is ready.read;
+    read = subst (λ k. ReadsWhole k left left' ready.input) is ready.read;
     accepted = accepted None;
     history = legal;
   }
 
 -- a script that is relayed has keys, which are its book
 pub has-book_of_keys : (left left' : Option (List ℕ)) (script : Script) (book : Book) →
-    IsReady form.Relay left left' script book → HasBookOfKeys script (words_in book)
+    HasScript form.Relay left left' script book → HasBookOfKeys script (words_in book)
 has-book_of_keys left left' script book ready =
     let spelled = ready.read.spelled in
     record {
@@ -263,10 +263,10 @@ plain-lift old new = record { taps = λ input H. tt; back = λ input H e nothing
 pub text-ends : {X : Type 0} (r : Request) → ReadsInput r → (items : X → List ℕ) (e : Ended)
     (old new : Outside) → NoCountFalls old new → IsPlain r old new → HandsNothing e →
     IsUntapped old new → (res : Result X Status) →
-    IfOk res (λ x. IsMade r old.left new.left (items x)) →
+    IfOk res (λ x. IsAnswered r old.left new.left (items x)) →
     IfErr res (λ s. Stops r s old.left new.left old.source_faults new.source_faults) →
     Taken (res ≡ Err status.TooLong) old.left new.left →
-    IfOk res (λ x. Puts e.status (items x) old.held new.held old.sink_faults new.sink_faults) →
+    IfOk res (λ x. PutsText e.status (items x) old.held new.held old.sink_faults new.sink_faults) →
     IfErr res (λ s. e.status ≡ s) →
     IfErr res (λ s. PutsNothing old.held new.held old.sink_faults new.sink_faults) →
     Ends r e old new
@@ -309,7 +309,7 @@ tally-reads_nothing n = record { how = λ e old new how. how }
 
 -- a text that is put is some text
 some-put : (Is : List ℕ → Type 0) (s : Status) (text : List ℕ) (held held' : Option (List ℕ))
-    (f f' : ℕ) → Is text → Puts s text held held' f f' → PutsSome Is s held held' f f'
+    (f f' : ℕ) → Is text → PutsText s text held held' f f' → PutsSome Is s held held' f f'
 some-put Is status.Memory text held held' f f' is puts = puts
 some-put Is status.Done text held held' f f' is puts = (text, is, puts)
 some-put Is status.Write text held held' f f' is puts = (text, is, puts)
@@ -325,7 +325,7 @@ pub text-written : {X : Type 0} (r : Request) → ReadsNothing r → (items : X 
     (left : Option (List ℕ)) (f : ℕ) (held held' : Option (List ℕ)) (sf sf' : ℕ)
     (tap : ℕ → Option (List ℕ)) (tf : ℕ) → sf ≤ sf' → HandsNothing e → (res : Result X Status) →
     IfOk res (λ x. IsTextOf r (items x)) → IfErr res (λ s. s ≡ status.Memory) →
-    IfOk res (λ x. Puts e.status (items x) held held' sf sf') → IfErr res (λ s. e.status ≡ s) →
+    IfOk res (λ x. PutsText e.status (items x) held held' sf sf') → IfErr res (λ s. e.status ≡ s) →
     IfErr res (λ s. PutsNothing held held' sf sf') →
     Ends r e (outside left f held sf tap tf) (outside left f held' sf' tap tf)
 text-written {X} r reads items e left f held held' sf sf' tap tf rises nothing res text memory puts
@@ -344,7 +344,7 @@ text-written {X} r reads items e left f held held' sf sf' tap tf rises nothing r
   where
     written-by : (res : Result X Status) → IfOk res (λ x. IsTextOf r (items x)) →
         IfErr res (λ s. s ≡ status.Memory) →
-        IfOk res (λ x. Puts e.status (items x) held held' sf sf') →
+        IfOk res (λ x. PutsText e.status (items x) held held' sf sf') →
         IfErr res (λ s. e.status ≡ s) → IfErr res (λ s. PutsNothing held held' sf sf') →
         PutsSome (IsTextOf r) e.status held held' sf sf'
     written-by (Ok x) text memory puts same quiet =

@@ -31,7 +31,7 @@ use Rattle.tk_cli.specs.Handles.{hex_lines}
 use Rattle.tk_cli.specs.Chosen.{chosen}
 use Rattle.tk_cli.specs.Puts.{PutsSome}
 use Rattle.tk_cli.specs.Texts.{IsTextOf}
-use Rattle.tk_cli.specs.Inputs.{Reads, IsDue, IsHistoryFor, Stops, form_of, kept_in, refusal_of}
+use Rattle.tk_cli.specs.Inputs.{ReadsWhole, IsDoneWith, IsHistoryFor, Stops, form_of, kept_in, refusal_of}
 use Rattle.tk_cli.specs.Outside.{Outside, IsUnread, IsUnwritten, IsUntapped, NoCountFalls}
 
 -- ---- what a request gives
@@ -98,17 +98,17 @@ output_of request.Lift input H = lifted_in input
 output_of _ input H = []
 
 -- nothing refuses the input, and this text is what a request gives of it
-pub record IsAnswer (r : Request) (input : Input) (text : List ℕ) : Type 0 where
+pub record IsTextFor (r : Request) (input : Input) (text : List ℕ) : Type 0 where
   pub history : History
   pub accepted : refusal_of r input ≡ None
   pub due : IsHistoryFor r input history
   pub made : text ≡ output_of r input history
 
 -- all was taken, and the text is the answer to the input that it spells
-pub record IsMade (r : Request) (left left' : Option (List ℕ)) (text : List ℕ) : Type 0 where
+pub record IsAnswered (r : Request) (left left' : Option (List ℕ)) (text : List ℕ) : Type 0 where
   pub input : Input
-  pub read : Reads (form_of r) left left' input
-  pub answer : IsAnswer r input text
+  pub read : ReadsWhole (form_of r) left left' input
+  pub answer : IsTextFor r input text
 
 -- what the taps gain: what each server sees, and no other tap anything
 pub record TapsSee (input : Input) (seen : ℕ → List ℕ) (old new : Outside) : Type 0 where
@@ -174,7 +174,7 @@ HandsBack _ input H e = HandsNothing e
 pub record Does (r : Request) (e : Ended) (old new : Outside) : Type 0 where
   pub input : Input
   pub history : History
-  pub due : IsDue r old.left new.left input history
+  pub due : IsDoneWith r old.left new.left input history
   pub written : new.held ≡ gained old.held (output_of r input history)
   pub taps : TapsGainAll r input history old new
   pub handed : HandsBack r input history e
@@ -183,7 +183,7 @@ pub record Does (r : Request) (e : Ended) (old new : Outside) : Type 0 where
 pub record FailsInSink (r : Request) (old new : Outside) : Type 0 where
   pub input : Input
   pub history : History
-  pub due : IsDue r old.left new.left input history
+  pub due : IsDoneWith r old.left new.left input history
   pub front : ℕ
   pub written : new.held ≡ gained old.held (take front (output_of r input history))
   pub rose : Rose old.sink_faults new.sink_faults
@@ -193,7 +193,7 @@ pub record FailsInSink (r : Request) (old new : Outside) : Type 0 where
 pub record StopsInTaps (r : Request) (old new : Outside) : Type 0 where
   pub input : Input
   pub history : History
-  pub due : IsDue r old.left new.left input history
+  pub due : IsDoneWith r old.left new.left input history
   pub taps : TapsGainSome r input history old new
 
 -- a tap failed
@@ -203,7 +203,7 @@ pub record FailsInTaps (r : Request) (old new : Outside) : Type 0 where
   pub rose : Rose old.tap_faults new.tap_faults
 
 -- nothing is handed back, and neither the sink nor a tap was touched
-pub record IsQuiet (e : Ended) (old new : Outside) : Type 0 where
+pub record TouchesNothing (e : Ended) (old new : Outside) : Type 0 where
   pub handed : HandsNothing e
   pub unwritten : IsUnwritten old new
   pub untapped : IsUntapped old new
@@ -215,7 +215,7 @@ EndsWith status.Memory r e old new =
 EndsWith status.Write r e old new =
     HandsNothing e × (FailsInSink r old new ⊎ FailsInTaps r old new)
 EndsWith s r e old new =
-    Stops r s old.left new.left old.source_faults new.source_faults × IsQuiet e old new
+    Stops r s old.left new.left old.source_faults new.source_faults × TouchesNothing e old new
 
 -- ---- how a request ends that reads nothing
 
@@ -245,7 +245,7 @@ LeavesTaps _ = Unit {0}
 -- it ends with this status, with which nothing else comes
 pub record IsOnly (s : Status) (e : Ended) (old new : Outside) : Type 0 where
   pub status : e.status ≡ s
-  pub quiet : IsQuiet e old new
+  pub quiet : TouchesNothing e old new
 
 abbrev pub HowEnds : Request → Ended → Outside → Outside → Type 0
 HowEnds (request.Handle id root) e old new = WritesText (request.Handle id root) e old new

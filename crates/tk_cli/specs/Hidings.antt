@@ -5,7 +5,7 @@ use Rattle.tk_schedule.specs.Schedule.{IsLegal}
 use Rattle.tk_script.specs.Book.{HasTape}
 use Rattle.tk_script.specs.declared.input.Input.{Input}
 use Rattle.tk_cli.specs.declared.hiding.Hiding.{Hiding}
-use Rattle.tk_cli.specs.Inputs.{TellsIn, hiding_refusal, kept_in}
+use Rattle.tk_cli.specs.Inputs.{HasHistory, hiding_refusal, kept_in}
 
 -- an input of two scripts of drawn words with a history and a tape
 pub record IsOfTwo (input : Input) : Type 0 where
@@ -19,7 +19,7 @@ pub record IsHiding (hidden : ℕ) (input : Input) (x : Hiding) : Type 0 where
   pub accepted : hiding_refusal hidden input ≡ None
   pub first : x.first ≡ input.first
   pub second : input.second ≡ Some x.second
-  pub told : TellsIn input.first.shape input.history x.history
+  pub told : HasHistory input.first.shape input.history x.history
   pub replies : x.replies ≡ input.replies
   pub kept : x.tape ≡ kept_in input.tape
   pub legal : IsLegal x.first.shape x.history

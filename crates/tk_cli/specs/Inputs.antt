@@ -45,7 +45,7 @@ pub record TakesAll (bytes : List ℕ) (left left' : Option (List ℕ)) : Type 0
   pub emptied : left' ≡ emptied left
 
 -- all was taken, and it spells this input
-pub record Reads (f : Form) (left left' : Option (List ℕ)) (input : Input) : Type 0 where
+pub record ReadsWhole (f : Form) (left left' : Option (List ℕ)) (input : Input) : Type 0 where
   pub bytes : List ℕ
   pub all : TakesAll bytes left left'
   pub spelled : Spells f bytes input
@@ -133,9 +133,9 @@ refusal_of (request.Resume epoch) input =
 refusal_of _ input = tape_refusal input.first.shape input.tape None
 
 -- all was taken, and what it spells is refused with this status
-pub record IsRefused (r : Request) (s : Status) (left left' : Option (List ℕ)) : Type 0 where
+pub record IsRefusedWith (r : Request) (s : Status) (left left' : Option (List ℕ)) : Type 0 where
   pub input : Input
-  pub read : Reads (form_of r) left left' input
+  pub read : ReadsWhole (form_of r) left left' input
   pub refused : refusal_of r input ≡ Some s
 
 -- How a request ends of which the input isn't had: because memory ran out; as the source failed, or had
@@ -150,7 +150,7 @@ Stops r (status.Script line c) left left' faults faults' =
 Stops r status.Read left left' faults faults' = Rose faults faults'
 Stops r status.Write left left' faults faults' = ⊥
 Stops r status.TooLong left left' faults faults' = Unit {0}
-Stops r s left left' faults faults' = IsRefused r s left left'
+Stops r s left left' faults faults' = IsRefusedWith r s left left'
 
 -- some bytes spell this input
 pub record IsSpelled (f : Form) (input : Input) : Type 0 where
@@ -174,10 +174,10 @@ Refuses r input = IsOfRefusal (refusal_of r input)
 
 -- All was taken, and it spells an input that its tape doesn't refuse: this is its script, and these
 -- are its words.
-pub record IsReady (f : Form) (left left' : Option (List ℕ)) (script : Script) (book : Book)
+pub record HasScript (f : Form) (left left' : Option (List ℕ)) (script : Script) (book : Book)
     : Type 0 where
   pub input : Input
-  pub read : Reads f left left' input
+  pub read : ReadsWhole f left left' input
   pub whole : IsWholeTape input.first.shape input.tape
   pub of_input : script ≡ input.first
   pub shape : shape_of book ≡ script.shape
@@ -192,9 +192,9 @@ pub record HasBookOfKeys (S : Script) (b : WordBook) : Type 0 where
 -- ---- the history
 
 -- the history that an input has
-abbrev pub TellsIn : Shape → Option (List RawLine) → History → Type 0
-TellsIn shape None H = ⊥
-TellsIn shape (Some raw) H = Tells shape raw H
+abbrev pub HasHistory : Shape → Option (List RawLine) → History → Type 0
+HasHistory shape None H = ⊥
+HasHistory shape (Some raw) H = Tells shape raw H
 
 -- a request is done for this history of the input; a script is lifted whatever the history
 abbrev pub IsHistoryFor : Request → Input → History → Type 0
@@ -202,16 +202,16 @@ IsHistoryFor request.Serial input H = H ≡ serial_history input.first.shape
 IsHistoryFor request.Relay input H = H ≡ serial_history input.first.shape
 IsHistoryFor (request.Resume epoch) input H = H ≡ serial_history input.first.shape
 IsHistoryFor (request.Run workers shards) input H = IsLegal input.first.shape H
-IsHistoryFor (request.View server) input H = TellsIn input.first.shape input.history H
-IsHistoryFor (request.Mirror hidden) input H = TellsIn input.first.shape input.history H
-IsHistoryFor (request.Wrong hidden) input H = TellsIn input.first.shape input.history H
+IsHistoryFor (request.View server) input H = HasHistory input.first.shape input.history H
+IsHistoryFor (request.Mirror hidden) input H = HasHistory input.first.shape input.history H
+IsHistoryFor (request.Wrong hidden) input H = HasHistory input.first.shape input.history H
 IsHistoryFor request.Lift input H = Unit {0}
 IsHistoryFor _ input H = ⊥
 
 -- All was taken, and it spells this input, which nothing refuses; and this is a history for which
 -- the request is done.
-pub record IsDue (r : Request) (left left' : Option (List ℕ)) (input : Input) (H : History)
+pub record IsDoneWith (r : Request) (left left' : Option (List ℕ)) (input : Input) (H : History)
     : Type 0 where
-  pub read : Reads (form_of r) left left' input
+  pub read : ReadsWhole (form_of r) left left' input
   pub accepted : refusal_of r input ≡ None
   pub history : IsHistoryFor r input H

@@ -18,15 +18,15 @@ pub record PutsNothing (held held' : Option (List ℕ)) (faults faults' : ℕ) :
 
 -- How putting a text into a sink ends, over what it held and holds now, and its count of faults
 -- before and now: all is put; or a front, and the count rose; or nothing, because memory ran out.
-abbrev pub Puts : Status → List ℕ → (held held' : Option (List ℕ)) → (faults faults' : ℕ) → Type 0
-Puts Done text held held' faults faults' = held' ≡ gained held text
-Puts Write text held held' faults faults' = PutsFront text held held' faults faults'
-Puts Memory text held held' faults faults' = PutsNothing held held' faults faults'
-Puts _ text held held' faults faults' = ⊥
+abbrev pub PutsText : Status → List ℕ → (held held' : Option (List ℕ)) → (faults faults' : ℕ) → Type 0
+PutsText Done text held held' faults faults' = held' ≡ gained held text
+PutsText Write text held held' faults faults' = PutsFront text held held' faults faults'
+PutsText Memory text held held' faults faults' = PutsNothing held held' faults faults'
+PutsText _ text held held' faults faults' = ⊥
 
 -- How putting some text of a kind ends; if memory runs out there may be none.
 abbrev pub PutsSome :
     (List ℕ → Type 0) → Status → (held held' : Option (List ℕ)) → (faults faults' : ℕ) → Type 0
 PutsSome Is Memory held held' faults faults' = PutsNothing held held' faults faults'
 PutsSome Is s held held' faults faults' =
-    (text : List ℕ) × Is text × Puts s text held held' faults faults'
+    (text : List ℕ) × Is text × PutsText s text held held' faults faults'

@@ -26,8 +26,8 @@ AsksLift _ = ⊥
 abbrev pub IsSmall : ℕ → List ℕ → Type 0
 IsSmall n text = (n < 2 ^ 32) × (text ≡ decimal n)
 
-abbrev pub IsLong : ℕ → List ℕ → Type 0
-IsLong n text = (n < 2 ^ 64) × (text ≡ decimal n)
+abbrev pub IsNumeral : ℕ → List ℕ → Type 0
+IsNumeral n text = (n < 2 ^ 64) × (text ≡ decimal n)
 
 -- the report of a run with threads, by 1 to 64 workers over 1 to 64 shards; what isn't named is one
 abbrev pub IsCrew : ℕ → List ℕ → Type 0
@@ -63,12 +63,12 @@ AsksWrong _ hidden = ⊥
 
 -- the script that is made from a number
 abbrev pub AsksMake : Words → ℕ → Type 0
-AsksMake (word ∷ number ∷ []) n = (word ≡ codes "make") × IsLong n number
+AsksMake (word ∷ number ∷ []) n = (word ≡ codes "make") × IsNumeral n number
 AsksMake _ n = ⊥
 
 -- what comes of its serial run
 abbrev pub AsksTally : Words → ℕ → Type 0
-AsksTally (word ∷ number ∷ []) n = (word ≡ codes "tally") × IsLong n number
+AsksTally (word ∷ number ∷ []) n = (word ≡ codes "tally") × IsNumeral n number
 AsksTally _ n = ⊥
 
 -- 64 hexadecimal digits, in either case, for the 32 bytes of a root
@@ -78,7 +78,7 @@ SpellsRoot digits root = (length digits ≡ 64) × (decode_of digits ≡ Ok root
 -- the handle of a log: an id of 64 bits in plain decimal, and a root
 abbrev pub AsksHandle : Words → (id : ℕ) → (root : List ℕ) → Type 0
 AsksHandle (word ∷ number ∷ digits ∷ []) id root =
-    (word ≡ codes "handle") × IsLong id number × SpellsRoot digits root
+    (word ≡ codes "handle") × IsNumeral id number × SpellsRoot digits root
 AsksHandle _ id root = ⊥
 
 -- a run by some workers over some shards, one that begins anew at some epoch, the view of some server, some

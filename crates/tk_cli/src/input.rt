@@ -4,8 +4,8 @@ ghost use Rattle.tk_io.specs.Content.{TakesUpTo};
 ghost use Rattle.tk_schedule.specs.Told.{Names};
 ghost use Rattle.tk_script.specs.Book.{HasTape, IsOtherTape, IsWholeTape};
 ghost use Rattle.tk_cli.specs.declared.request.Request.{Request as Requested};
-ghost use Rattle.tk_cli.specs.Inputs.{form_of, kept_in, IsReady, Reads, Stops};
-ghost use Rattle.tk_cli.specs.Inputs.{TellsIn, bad_history_line, phase_refusal, server_refusal};
+ghost use Rattle.tk_cli.specs.Inputs.{form_of, kept_in, HasScript, ReadsWhole, Stops};
+ghost use Rattle.tk_cli.specs.Inputs.{HasHistory, bad_history_line, phase_refusal, server_refusal};
 ghost use Rattle.tk_cli.specs.Limits.{input_limit};
 
 use crate::status::Status;
@@ -27,7 +27,7 @@ pub(crate) fn ready<S: Source>(
     form: Form,
 ) -> Result<(Script, Book), Status>
     ensures ready { IfOk result (λ x.
-        IsReady form (S.left source.old) (S.left source.new) x.0 x.1) }
+        HasScript form (S.left source.old) (S.left source.new) x.0 x.1) }
     ensures stopped { IfErr result (λ s. (request : Requested) → form_of request ≡ form →
         Stops request s (S.left source.old) (S.left source.new)
         (S.faults source.old) (S.faults source.new)) }
@@ -47,7 +47,7 @@ pub(crate) fn input_from<S: Source>(
     form: Form,
 ) -> Result<Input, Status>
     ensures read { IfOk result (λ input.
-        Reads form (S.left source.old) (S.left source.new) input) }
+        ReadsWhole form (S.left source.old) (S.left source.new) input) }
     ensures stopped { IfErr result (λ s. (request : Requested) → form_of request ≡ form →
         Stops request s (S.left source.old) (S.left source.new)
         (S.faults source.old) (S.faults source.new)) }
@@ -66,7 +66,7 @@ pub(crate) fn history_in(
     raw: Option<RawHistory>,
 ) -> Result<History, HistoryError>
     requires { IsSome raw }
-    ensures told { IfOk result (λ history. TellsIn shape.now raw history) }
+    ensures told { IfOk result (λ history. HasHistory shape.now raw history) }
     ensures bad { Names (λ history. None) result (bad_history_line shape.now raw) }
 {
     let Some(raw) = raw else { unreachable!() };

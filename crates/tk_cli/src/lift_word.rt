@@ -1,7 +1,7 @@
 //! The word `lift`: an input's script in format 2, and the tape of a drawn one.
 ghost use Rattle.std.specs.Prelude.{◌≡◌, ◌≤◌, ℕ, List, None, IsSome, IfOk, IfErr, Err};
 ghost use Rattle.tk_io.specs.Content.{TakesUpTo};
-ghost use Rattle.tk_cli.specs.Endings.{IsAnswer, IsMade, IsLiftedText};
+ghost use Rattle.tk_cli.specs.Endings.{IsTextFor, IsAnswered, IsLiftedText};
 ghost use Rattle.tk_cli.specs.Inputs.{IsSpelled, Refuses, Stops};
 ghost use Rattle.tk_cli.specs.Limits.{input_limit};
 
@@ -16,7 +16,7 @@ use tk_words::lift_tape;
 
 /// An input's script in format 2, and the tape of a drawn one, in their one printed form.
 pub(crate) fn lift_text<S: Source>(alloc: Global, source: &mut S) -> Result<Vec<u8>, Status>
-    ensures made { IfOk result (λ text. IsMade Request.Lift
+    ensures made { IfOk result (λ text. IsAnswered Request.Lift
         (S.left source.old) (S.left source.new) text.items) }
     ensures stopped { IfErr result (λ s. Stops Request.Lift s
         (S.left source.old) (S.left source.new) (S.faults source.old) (S.faults source.new)) }
@@ -31,7 +31,7 @@ pub(crate) fn lift_text<S: Source>(alloc: Global, source: &mut S) -> Result<Vec<
 /// The text of an input in format 2, unless something refuses it.
 fn lifted(alloc: Global, input: Input) -> Result<Vec<u8>, Status>
     requires { IsSpelled Form.Run input }
-    ensures answer { IfOk result (λ text. IsAnswer Request.Lift input text.items) }
+    ensures answer { IfOk result (λ text. IsTextFor Request.Lift input text.items) }
     ensures refused { IfErr result (Refuses Request.Lift input) }
 {
     if input.first.keys.is_some() {
@@ -55,7 +55,7 @@ fn keyed_text(alloc: Global, script: &Script) -> Result<Vec<u8>, Memory>
 fn drawn_text(alloc: Global, input: Input) -> Result<Vec<u8>, Status>
     requires spelled { IsSpelled Form.Run input }
     requires drawn { input.first.keys ≡ None }
-    ensures answer { IfOk result (λ text. IsAnswer Request.Lift input text.items) }
+    ensures answer { IfOk result (λ text. IsTextFor Request.Lift input text.items) }
     ensures refused { IfErr result (Refuses Request.Lift input) }
 {
     let Input { first, tape, .. } = input;

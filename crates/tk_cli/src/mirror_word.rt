@@ -1,7 +1,7 @@
 //! The word `mirror`: the tape over which another script shows the same to all servers but one.
 ghost use Rattle.std.specs.Prelude.{◌≡◌, ◌≤◌, ℕ, List, IfOk, IfErr, Err};
 ghost use Rattle.tk_io.specs.Content.{TakesUpTo};
-ghost use Rattle.tk_cli.specs.Endings.{IsAnswer, IsMade};
+ghost use Rattle.tk_cli.specs.Endings.{IsTextFor, IsAnswered};
 ghost use Rattle.tk_cli.specs.Inputs.{IsSpelled, Refuses, Stops};
 ghost use Rattle.tk_cli.specs.Limits.{input_limit};
 
@@ -20,7 +20,7 @@ pub(crate) fn mirror_text<S: Source>(
     hidden: u32,
     source: &mut S,
 ) -> Result<Vec<u8>, Status>
-    ensures made { IfOk result (λ text. IsMade (Request.Mirror hidden)
+    ensures made { IfOk result (λ text. IsAnswered (Request.Mirror hidden)
         (S.left source.old) (S.left source.new) text.items) }
     ensures stopped { IfErr result (λ s. Stops (Request.Mirror hidden) s
         (S.left source.old) (S.left source.new) (S.faults source.old) (S.faults source.new)) }
@@ -35,7 +35,7 @@ pub(crate) fn mirror_text<S: Source>(
 /// The mirrored tape of two scripts, unless something refuses it.
 fn mirrored(alloc: Global, hidden: u32, input: Input) -> Result<Vec<u8>, Status>
     requires { IsSpelled Form.Mirror input }
-    ensures answer { IfOk result (λ text. IsAnswer (Request.Mirror hidden) input text.items) }
+    ensures answer { IfOk result (λ text. IsTextFor (Request.Mirror hidden) input text.items) }
     ensures refused { IfErr result (Refuses (Request.Mirror hidden) input) }
 {
     let Hiding {

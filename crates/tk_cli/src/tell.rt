@@ -2,7 +2,7 @@
 ghost use Rattle.std.specs.Prelude.{◌≡◌, ◌≤◌, None, IfOk, IfErr};
 ghost use Rattle.tk_report.specs.Outcomes.{outcome_text};
 ghost use Rattle.tk_cli.specs.Errors.{run_status};
-ghost use Rattle.tk_cli.specs.Puts.{Puts, PutsNothing};
+ghost use Rattle.tk_cli.specs.Puts.{PutsText, PutsNothing};
 ghost use Rattle.tk_cli.specs.Endings.{HandsAs, HandsNothing};
 
 use crate::ended::Ended;
@@ -15,7 +15,7 @@ use tk_run::RunError;
 
 /// Writes a text to a sink at once.
 pub(crate) fn put<K: Sink>(text: &[u8], sink: &mut K) -> Status
-    ensures puts { Puts result text.now (K.held sink.old) (K.held sink.new)
+    ensures puts { PutsText result text.now (K.held sink.old) (K.held sink.new)
         (K.faults sink.old) (K.faults sink.new) }
     ensures counts { K.faults sink.old ≤ K.faults sink.new }
 {
@@ -28,7 +28,7 @@ pub(crate) fn put<K: Sink>(text: &[u8], sink: &mut K) -> Status
 /// Writes a text to a sink at once, where there is one.
 pub(crate) fn answer<K: Sink>(text: Result<Vec<u8>, Status>, sink: &mut K) -> Ended
     ensures nothing { HandsNothing result }
-    ensures puts { IfOk text (λ t. Puts result.status t.items (K.held sink.old) (K.held sink.new)
+    ensures puts { IfOk text (λ t. PutsText result.status t.items (K.held sink.old) (K.held sink.new)
         (K.faults sink.old) (K.faults sink.new)) }
     ensures status { IfErr text (λ s. result.status ≡ s) }
     ensures quiet { IfErr text (λ s. PutsNothing (K.held sink.old) (K.held sink.new)
@@ -48,7 +48,7 @@ pub(crate) fn tell<K: Sink>(
     closed: Option<Closed>,
     sink: &mut K,
 ) -> Ended
-    ensures puts { Puts result.status (outcome_text outcome) (K.held sink.old) (K.held sink.new)
+    ensures puts { PutsText result.status (outcome_text outcome) (K.held sink.old) (K.held sink.new)
         (K.faults sink.old) (K.faults sink.new) }
     ensures handed { HandsAs result.status result outcome closed }
     ensures counts { K.faults sink.old ≤ K.faults sink.new }
@@ -74,7 +74,7 @@ pub(crate) fn tell_left<K: Sink>(
     left: Result<Outcome, RunError>,
     sink: &mut K,
 ) -> Ended
-    ensures puts { IfOk left (λ outcome. Puts result.status (outcome_text outcome)
+    ensures puts { IfOk left (λ outcome. PutsText result.status (outcome_text outcome)
         (K.held sink.old) (K.held sink.new) (K.faults sink.old) (K.faults sink.new)) }
     ensures handed { IfOk left (λ outcome. HandsAs result.status result outcome None) }
     ensures status { IfErr left (λ e. result.status ≡ run_status e) }

@@ -4,7 +4,7 @@ ghost use Rattle.tk_io.specs.Content.{TakesUpTo};
 ghost use Rattle.tk_schedule.specs.Schedule.{IsLegal};
 ghost use Rattle.tk_words.specs.Book.{shape_of, words_in};
 ghost use Rattle.tk_report.specs.Exchange as told;
-ghost use Rattle.tk_cli.specs.Endings.{IsAnswer, IsMade};
+ghost use Rattle.tk_cli.specs.Endings.{IsTextFor, IsAnswered};
 ghost use Rattle.tk_cli.specs.Handles.{hex_line, hex_lines};
 ghost use Rattle.tk_cli.specs.Inputs.{IsSpelled, Refuses, Stops};
 ghost use Rattle.tk_cli.specs.Limits.{input_limit};
@@ -26,7 +26,7 @@ pub(crate) fn view_text<S: Source>(
     server: u32,
     source: &mut S,
 ) -> Result<Vec<u8>, Status>
-    ensures made { IfOk result (λ text. IsMade (Request.View server)
+    ensures made { IfOk result (λ text. IsAnswered (Request.View server)
         (S.left source.old) (S.left source.new) text.items) }
     ensures stopped { IfErr result (λ s. Stops (Request.View server) s
         (S.left source.old) (S.left source.new) (S.faults source.old) (S.faults source.new)) }
@@ -41,7 +41,7 @@ pub(crate) fn view_text<S: Source>(
 /// What a server sees of the run of an input's history, unless something refuses it.
 fn viewed(alloc: Global, server: u32, input: Input) -> Result<Vec<u8>, Status>
     requires { IsSpelled Form.View input }
-    ensures answer { IfOk result (λ text. IsAnswer (Request.View server) input text.items) }
+    ensures answer { IfOk result (λ text. IsTextFor (Request.View server) input text.items) }
     ensures refused { IfErr result (Refuses (Request.View server) input) }
 {
     let Input {

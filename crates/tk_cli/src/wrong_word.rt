@@ -6,7 +6,7 @@ ghost use Rattle.std.specs.List.{AllByRecursion};
 ghost use Rattle.tk_script.specs.SoundReplies.{IsReply};
 ghost use Rattle.tk_hostile.specs.Given.{sums_at};
 ghost use Rattle.tk_cli.specs.Chosen.{HasReplies, chosen, sums_chosen};
-ghost use Rattle.tk_cli.specs.Endings.{IsAnswer, IsMade};
+ghost use Rattle.tk_cli.specs.Endings.{IsTextFor, IsAnswered};
 ghost use Rattle.tk_cli.specs.Inputs.{IsSpelled, Refuses, Stops};
 ghost use Rattle.tk_cli.specs.Limits.{input_limit};
 
@@ -26,7 +26,7 @@ pub(crate) fn wrong_text<S: Source>(
     hidden: u32,
     source: &mut S,
 ) -> Result<Vec<u8>, Status>
-    ensures made { IfOk result (λ text. IsMade (Request.Wrong hidden)
+    ensures made { IfOk result (λ text. IsAnswered (Request.Wrong hidden)
         (S.left source.old) (S.left source.new) text.items) }
     ensures stopped { IfErr result (λ s. Stops (Request.Wrong hidden) s
         (S.left source.old) (S.left source.new) (S.faults source.old) (S.faults source.new)) }
@@ -41,7 +41,7 @@ pub(crate) fn wrong_text<S: Source>(
 /// The mirrored tape of two scripts under replies, unless something refuses it.
 fn under_replies(alloc: Global, hidden: u32, input: Input) -> Result<Vec<u8>, Status>
     requires { IsSpelled Form.Wrong input }
-    ensures answer { IfOk result (λ text. IsAnswer (Request.Wrong hidden) input text.items) }
+    ensures answer { IfOk result (λ text. IsTextFor (Request.Wrong hidden) input text.items) }
     ensures refused { IfErr result (Refuses (Request.Wrong hidden) input) }
 {
     let Hiding {

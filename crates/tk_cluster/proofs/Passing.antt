@@ -15,7 +15,7 @@ use Rattle.tk_order.specs.Seats as seats
 use Rattle.tk_board.specs.Boards.{Known, AllFit, IsLast, GoesOn}
 use Rattle.tk_board.specs.Boards as boards
 use Rattle.tk_cluster.specs.declared.set.EpochSet.{EpochSet}
-use Rattle.tk_cluster.specs.Passes.{Passing, Reading, IsPass, Pins, Knows, Learns, Reads}
+use Rattle.tk_cluster.specs.Passes.{Passing, Reading, IsPass, Pins, Knows, Learns, ReadsOnly}
 use Rattle.tk_lists.proofs.Offers.{prefix_whole, prefix_length, prefix_get, last-got}
 
 pub on_err : {V E : Type 0} {P : Type 0} (r : Result V E) → P → OnErr r P
@@ -60,7 +60,7 @@ abbrev pub passing : ℕ → List Placed → Reading → Passing
 passing client seen reads = record { client = client; seen = seen; reads = reads }
 
 pub reads_on : (step : Reading → Reading → Type 0) (client : ℕ) (seen : List Placed)
-    (a b : Reading) → step a b → Reads step (passing client seen a) (passing client seen b)
+    (a b : Reading) → step a b → ReadsOnly step (passing client seen a) (passing client seen b)
 reads_on step client seen a b h = record { client = refl; seen = refl; reads = h }
 
 module _ (shape : Shape) (seat : Seated) (client : ℕ) (old new : Known EpochSet)

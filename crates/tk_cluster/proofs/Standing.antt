@@ -15,7 +15,7 @@ use Rattle.tk_replica.specs.Epochs.{EpochStandsFor, IsEpochOf}
 use Rattle.tk_replica.specs.Following.{marks_among}
 use Rattle.tk_replica.proofs.Offers.{position-same}
 use Rattle.tk_cluster.specs.declared.set.EpochSet.{EpochSet}
-use Rattle.tk_cluster.specs.Sets.{Stands, Shows}
+use Rattle.tk_cluster.specs.Sets.{StandsAtMark, AreShown}
 
 -- an epoch is that of the same mark when more entries come
 epoch-more : (shape : Shape) (E F : List Placed) (e : ℕ) (epoch : Epoch) → IsOrder shape (E ++ F) →
@@ -30,7 +30,7 @@ epoch-more shape E F e epoch order within is =
     }
 
 stands-append : (shape : Shape) (E F : List Placed) (e : ℕ) (set : EpochSet) →
-    IsOrder shape (E ++ F) → Stands shape E e set → Stands shape (E ++ F) e set
+    IsOrder shape (E ++ F) → StandsAtMark shape E e set → StandsAtMark shape (E ++ F) e set
 stands-append shape E F e set order is =
     record {
       same = is.same;
@@ -40,13 +40,13 @@ stands-append shape E F e set order is =
     }
 
 pub stands-more : (shape : Shape) (E F : List Placed) (e : ℕ) (set : EpochSet) → IsPrefix E F →
-    IsOrder shape F → Stands shape E e set → Stands shape F e set
+    IsOrder shape F → StandsAtMark shape E e set → StandsAtMark shape F e set
 stands-more shape E F e set more order is =
-    subst (λ G. Stands shape G e set) more.1
+    subst (λ G. StandsAtMark shape G e set) more.1
     (stands-append shape E more.0 e set (subst (IsOrder shape) (sym more.1) order) is)
 
 pub shows-more : (shape : Shape) (E F : List Placed) (sets : List EpochSet) → IsPrefix E F →
-    IsOrder shape F → Shows shape sets E → Shows shape sets F
+    IsOrder shape F → AreShown shape sets E → AreShown shape sets F
 shows-more shape E F sets more order shows e set at =
     stands-more shape E F e set more order (shows e set at)
 
@@ -62,11 +62,11 @@ get_snoc (z ∷ xs) y (suc k) x h =
 
 -- one set more
 pub shows-next : (shape : Shape) (E : List Placed) (sets : List EpochSet) (set : EpochSet) →
-    Shows shape sets E → Stands shape E (length sets) set → Shows shape (sets ++ set ∷ []) E
+    AreShown shape sets E → StandsAtMark shape E (length sets) set → AreShown shape (sets ++ set ∷ []) E
 shows-next shape E sets set shows next e x at =
     ⊎_elim (λ was. shows e x was)
     (λ (new : (e ≡ length sets) × (set ≡ x)).
-    subst (λ n. Stands shape E n x) (sym new.0) (subst (Stands shape E (length sets)) new.1 next))
+    subst (λ n. StandsAtMark shape E n x) (sym new.0) (subst (StandsAtMark shape E (length sets)) new.1 next))
     (get_snoc sets set e x at)
 
 -- the marks among the first entries, when more come

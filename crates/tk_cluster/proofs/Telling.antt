@@ -12,7 +12,7 @@ use Rattle.tk_order.specs.Seats.{Seated, own, own_in, Ordered}
 use Rattle.tk_order.proofs.Offers.{marks_under_zero}
 use Rattle.tk_board.specs.Boards.{Known}
 use Rattle.tk_cluster.specs.declared.set.EpochSet.{EpochSet}
-use Rattle.tk_cluster.specs.Sets.{Stands, Shows}
+use Rattle.tk_cluster.specs.Sets.{StandsAtMark, AreShown}
 use Rattle.tk_cluster.specs.Tellings.{Telling, IsPublisher, Grows, Published}
 use Rattle.tk_cluster.proofs.Standing.{shows-more, shows-next, among-more}
 use Rattle.tk_lists.proofs.Offers.{prefix_self, prefix_trans, prefix_length}
@@ -98,20 +98,20 @@ module _ (shape : Shape) (s : Seated) (board : Known EpochSet) (marked ordered s
   one_left due = omega (arith, due, is.made, is.counted)
 
   -- a set of its number is the next one
-  pub is_next : (set : EpochSet) → ordered ≡ shown + 1 → Stands shape s.seen ordered set →
-      Stands shape s.seen (length board.list) set
+  pub is_next : (set : EpochSet) → ordered ≡ shown + 1 → StandsAtMark shape s.seen ordered set →
+      StandsAtMark shape s.seen (length board.list) set
   is_next set due stands =
-      subst (λ n. Stands shape s.seen n set) (due ∙ sym is.counted) stands
+      subst (λ n. StandsAtMark shape s.seen n set) (due ∙ sym is.counted) stands
 
   -- its set is shown
   pub shown_on : (board' : Known EpochSet) (set : EpochSet) → ordered ≡ shown + 1 →
-      Stands shape s.seen (length board.list) set → board'.list ≡ board.list ++ set ∷ [] →
+      StandsAtMark shape s.seen (length board.list) set → board'.list ≡ board.list ++ set ∷ [] →
       IsPublisher shape s board' marked ordered ordered
   shown_on board' set due stands more = record {
     number = is.number;
     counted = omega (arith, ap length more, length-append board.list (set ∷ []), is.counted, due);
     shows =
-        subst (λ sets. Shows shape sets s.seen) (sym more)
+        subst (λ sets. AreShown shape sets s.seen) (sym more)
         (shows-next shape s.seen board.list set is.shows stands);
     within = is.within;
     among = is.among;
@@ -120,7 +120,7 @@ module _ (shape : Shape) (s : Seated) (board : Known EpochSet) (marked ordered s
   }
 
   pub published : (board' : Known EpochSet) (set : EpochSet) → board'.board ≡ board.board →
-      ordered ≡ shown + 1 → Stands shape s.seen (length board.list) set →
+      ordered ≡ shown + 1 → StandsAtMark shape s.seen (length board.list) set →
       board'.list ≡ board.list ++ set ∷ [] →
       Published shape (telling s.seen board) (telling s.seen board')
   published board' set one due stands more = record {
@@ -140,6 +140,6 @@ published_on shape a b p g h = record {
   seen = prefix_trans a.seen b.seen p.seen g.seen h.seen;
   set = h.set;
   shown = h.shown ∙ ap (λ xs. xs ++ h.set ∷ []) g.shown;
-  stands = subst (λ (xs : List EpochSet). Stands shape p.seen (length xs) h.set) g.shown h.stands;
+  stands = subst (λ (xs : List EpochSet). StandsAtMark shape p.seen (length xs) h.set) g.shown h.stands;
   marks = h.marks ∙ ap length g.shown;
 }

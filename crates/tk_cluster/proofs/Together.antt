@@ -30,7 +30,7 @@ use Rattle.tk_cluster.specs.declared.error.AnswerError.TheVariants.{Epoch as Oth
 use Rattle.tk_cluster.specs.declared.set.EpochSet.{EpochSet}
 use Rattle.tk_cluster.specs.Refusals.{answer_error, refusal_behind, answer_refusal, first_unanswered}
 use Rattle.tk_cluster.specs.Refusals.{other_epoch, SpellsRead, IsManyRefusal, IsAnswerRefusal, IsAsked}
-use Rattle.tk_cluster.specs.Many.{Names, AreNamed, AreReads}
+use Rattle.tk_cluster.specs.Many.{NamesEpoch, AreNamed, AreReads}
 use Rattle.tk_cluster.proofs.Replying.{reply-blocks}
 
 -- ---- what is refused
@@ -135,7 +135,7 @@ refused-at shape number frames i frame error none low at refused = elim refused 
 
 module _ (shape : Shape) (number : ℕ) where
   named-push : (fs : List (List ℕ)) (rs : List ReadFrame) (f : List ℕ) (r : ReadFrame) →
-      AreNamed shape number fs rs → Names shape number f r →
+      AreNamed shape number fs rs → NamesEpoch shape number f r →
       AreNamed shape number (fs ++ f ∷ []) (rs ++ r ∷ [])
   named-push [] [] f r named one = (one, tt)
   named-push (x ∷ fs) (y ∷ rs) f r named one = (named.0, named-push fs rs f r named.1 one)
@@ -145,7 +145,7 @@ module _ (shape : Shape) (number : ℕ) where
   -- one more read
   pub reads-push : (fs : List (List ℕ)) (askers : List Asker) (vectors : List (List ℕ))
       (f : List ℕ) (r : ReadFrame) → AreReads shape number fs askers vectors →
-      Names shape number f r →
+      NamesEpoch shape number f r →
       AreReads shape number (fs ++ f ∷ []) (askers ++ asker_of r ∷ [])
       (vectors ++ r.first ∷ r.second ∷ [])
   reads-push fs askers vectors f r are one =

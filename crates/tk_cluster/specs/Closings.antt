@@ -6,7 +6,7 @@ use Rattle.tk_shape.specs.declared.shape.Shape.{Shape}
 use Rattle.tk_frames.specs.declared.entry.Placed.{Placed}
 use Rattle.tk_order.specs.Legality.{of, IsLegal}
 use Rattle.tk_cluster.specs.declared.set.EpochSet.{EpochSet}
-use Rattle.tk_cluster.specs.Sets.{Shows}
+use Rattle.tk_cluster.specs.Sets.{AreShown}
 use Rattle.tk_cluster.specs.Passes.{Passing, own}
 use Rattle.tk_cluster.specs.Tellings.{Telling, marks}
 
@@ -42,7 +42,7 @@ pub record EndsPass (shown : List EpochSet) (order : List Placed) (a : Passing) 
 -- begins with what each had seen, and has what each ordered.
 pub record Closes (shape : Shape) (passes : List Passing) (p : Telling) (c : Ended) : Type 0 where
   pub legal : IsLegal shape c.order
-  pub shows : Shows shape p.shown c.order
+  pub shows : AreShown shape p.shown c.order
   pub each : All (EndsPass p.shown c.order) passes
   pub begins : IsPrefix p.seen c.order
   pub marks : of 0 c.order ≡ marks p

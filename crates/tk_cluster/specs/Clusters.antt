@@ -5,7 +5,7 @@ use mathlib.Core.List.{IsPrefix}
 use Rattle.tk_shape.specs.declared.shape.Shape.{Shape}
 use Rattle.tk_order.specs.Legality.{IsLegal}
 use Rattle.tk_cluster.specs.declared.set.EpochSet.{EpochSet}
-use Rattle.tk_cluster.specs.Sets.{Stands}
+use Rattle.tk_cluster.specs.Sets.{StandsAtMark}
 use Rattle.tk_cluster.specs.Passes.{Passing, MeetsAt, fresh}
 use Rattle.tk_cluster.specs.Tellings.{Telling, marks}
 
@@ -14,7 +14,7 @@ pub record Opened (shape : Shape) (p : Telling) (passes : List Passing) : Type 0
   pub seen : p.seen ≡ []
   pub first : EpochSet
   pub shown : p.shown ≡ first ∷ []
-  pub stands : Stands shape [] 0 first
+  pub stands : StandsAtMark shape [] 0 first
   pub all : passes ≡ map (fresh p.board first) (range_with_len 0 shape.clients)
 
 -- the step holds between the two lists, place by place
@@ -25,7 +25,7 @@ Each R [] (y ∷ ys) = ⊥
 Each R (x ∷ xs) [] = ⊥
 
 -- All have seen one list, which begins with what each had seen. None ordered anything.
-pub record Met (shape : Shape) (xs : List Passing) (p : Telling) (ys : List Passing) (q : Telling)
+pub record HaveMet (shape : Shape) (xs : List Passing) (p : Telling) (ys : List Passing) (q : Telling)
     : Type 0 where
   pub passes : Each (MeetsAt q.seen) xs ys
   pub begins : IsPrefix p.seen q.seen

@@ -7,14 +7,14 @@ use Rattle.tk_replica.specs.Replies.{asker_of, both_vectors}
 use Rattle.tk_cluster.specs.Refusals.{SpellsRead}
 
 -- the bytes spell this read, which names the epoch
-pub record Names (shape : Shape) (number : ℕ) (bytes : List ℕ) (r : ReadFrame) : Type 0 where
+pub record NamesEpoch (shape : Shape) (number : ℕ) (bytes : List ℕ) (r : ReadFrame) : Type 0 where
   pub spells : SpellsRead shape bytes r
   pub named : r.epoch ≡ number
 
 -- frame by frame
 abbrev pub AreNamed : Shape → ℕ → List (List ℕ) → List ReadFrame → Type 0
 AreNamed shape number [] [] = Unit {0}
-AreNamed shape number (f ∷ fs) (r ∷ rs) = Names shape number f r × AreNamed shape number fs rs
+AreNamed shape number (f ∷ fs) (r ∷ rs) = NamesEpoch shape number f r × AreNamed shape number fs rs
 AreNamed shape number (f ∷ fs) [] = ⊥
 AreNamed shape number [] (r ∷ rs) = ⊥
 

@@ -68,7 +68,7 @@ pub record WroteBytes (shape : Shape) (bytes : List ℕ) (a b : Passing) : Type 
   pub wrote : Wrote a write b
 
 -- it ordered nothing, and may have seen more
-pub record Sees (a b : Passing) : Type 0 where
+pub record SeesMore (a b : Passing) : Type 0 where
   pub client : b.client ≡ a.client
   pub reads : b.reads ≡ a.reads
   pub seen : IsPrefix a.seen b.seen
@@ -106,7 +106,7 @@ pub record Learns (a : Reading) (told : Known EpochSet) (b : Reading) : Type 0 w
   pub pinned : b.pinned ≡ a.pinned
 
 -- the same pass, of which only what it reads changed
-pub record Reads (step : Reading → Reading → Type 0) (a b : Passing) : Type 0 where
+pub record ReadsOnly (step : Reading → Reading → Type 0) (a b : Passing) : Type 0 where
   pub client : b.client ≡ a.client
   pub seen : b.seen ≡ a.seen
   pub reads : step a.reads b.reads

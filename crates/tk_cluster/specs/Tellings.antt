@@ -9,7 +9,7 @@ use Rattle.tk_order.specs.Seats.{Seated}
 use Rattle.tk_board.specs.Boards.{Known}
 use Rattle.tk_replica.specs.Following.{marks_among}
 use Rattle.tk_cluster.specs.declared.set.EpochSet.{EpochSet}
-use Rattle.tk_cluster.specs.Sets.{Stands, Shows}
+use Rattle.tk_cluster.specs.Sets.{StandsAtMark, AreShown}
 
 -- the list of entries that the publisher has seen, and the sets that it has shown
 pub record Telling : Type 0 where
@@ -32,7 +32,7 @@ pub record IsPublisher (shape : Shape) (seat : Seated) (board : Known EpochSet)
     (marked ordered shown : ℕ) : Type 0 where
   pub number : seat.number ≡ Some 0
   pub counted : length board.list ≡ shown + 1
-  pub shows : Shows shape board.list seat.seen
+  pub shows : AreShown shape board.list seat.seen
   pub within : marked ≤ length seat.seen
   pub among : marks_among marked seat.seen ≡ ordered
   pub made : length (of 0 seat.seen) ≡ ordered
@@ -50,7 +50,7 @@ pub record Published (shape : Shape) (a b : Telling) : Type 0 where
   pub seen : IsPrefix a.seen b.seen
   pub set : EpochSet
   pub shown : b.shown ≡ a.shown ++ set ∷ []
-  pub stands : Stands shape b.seen (length a.shown) set
+  pub stands : StandsAtMark shape b.seen (length a.shown) set
   pub marks : length (marks b) ≡ length a.shown
 
 -- nothing more is shown; the mark of the next set may be ordered

@@ -11,7 +11,7 @@ ghost use Rattle.tk_replica.specs.Epochs.{filter_of, IsEpochOf};
 ghost use Rattle.tk_frames.specs.Order.{before};
 ghost use Rattle.tk_cluster.specs.Refusals.{IsAnswerRefusal, IsAsked, SpellsRead};
 ghost use Rattle.tk_cluster.specs.Refusals.{answer_refusal, IsManyRefusal};
-ghost use Rattle.tk_cluster.specs.Sets.{Stands};
+ghost use Rattle.tk_cluster.specs.Sets.{StandsAtMark};
 
 use crate::{AnswerError, EpochSet};
 use std::alloc::Global;
@@ -24,9 +24,9 @@ use tk_table::Snapshot;
 impl EpochSet {
     /// What is worth reading in its epochs.
     pub fn filter(&self) -> &Filter
-        ensures marks { (shape : Shape) (E : List Placed) → Stands shape E self.now.number self.now
+        ensures marks { (shape : Shape) (E : List Placed) → StandsAtMark shape E self.now.number self.now
             → result.now ≡ filter_of shape (before E self.now.number) }
-        ensures shows { (shape : Shape) (E : List Placed) → Stands shape E self.now.number self.now
+        ensures shows { (shape : Shape) (E : List Placed) → StandsAtMark shape E self.now.number self.now
             → (hits : List ℕ)
             → all_marked result.now hits ≡ is_shown shape (before E self.now.number) hits }
     {
@@ -38,7 +38,7 @@ impl EpochSet {
         requires server { (1 ≤ server) × (server ≤ self.now.shape.servers) }
         ensures count { length result.now.blocks ≡ self.now.shape.buckets }
         ensures width { result.now.width ≡ width self.now.shape }
-        ensures stands { (shape : Shape) (E : List Placed) → Stands shape E self.now.number self.now
+        ensures stands { (shape : Shape) (E : List Placed) → StandsAtMark shape E self.now.number self.now
             → result.now.blocks ≡ blocks_of (layout shape (before E self.now.number)) }
     {
         self.epoch(server).blocks()
@@ -51,7 +51,7 @@ impl EpochSet {
         ensures refused { IfErr result
             (IsAnswerRefusal self.now.shape self.now.number frame.now) }
         ensures asked { OnOk result (IsAsked self.now frame.now) }
-        ensures reply { (shape : Shape) (E : List Placed) → Stands shape E self.now.number self.now
+        ensures reply { (shape : Shape) (E : List Placed) → StandsAtMark shape E self.now.number self.now
             → IfOk result (λ reply. reply ≡ reply_bytes shape E frame.now) }
     {
         let alloc = *self.epochs.allocator();
@@ -63,7 +63,7 @@ impl EpochSet {
     pub(crate) fn epoch(&self, server: u32) -> &Epoch
         requires { (1 ≤ server) × (server ≤ self.now.shape.servers) }
         ensures same { result.now.shape ≡ self.now.shape }
-        ensures is { (shape : Shape) (E : List Placed) → Stands shape E self.now.number self.now
+        ensures is { (shape : Shape) (E : List Placed) → StandsAtMark shape E self.now.number self.now
             → IsEpochOf shape E self.now.number result.now }
     {
         &self.epochs[(server - 1) as usize]

@@ -2,7 +2,7 @@ ghost use Rattle.std.specs.Prelude.{◌≡◌, ◌<◌, ◌≤◌, length, IfOk,
 ghost use Rattle.std.specs.Arc.{arc_value};
 ghost use Rattle.tk_shape.specs.Lengths.{turn_count};
 ghost use Rattle.tk_cluster.specs.Refusals.{IsWriteRefusal};
-ghost use Rattle.tk_cluster.specs.Passes.{own, WroteBytes, Sees, Pins, Knows, Learns, Reads};
+ghost use Rattle.tk_cluster.specs.Passes.{own, WroteBytes, SeesMore, Pins, Knows, Learns, ReadsOnly};
 ghost use Rattle.tk_cluster.specs.Tellings.{told_of, Published, Withheld};
 
 use crate::{Cluster, EpochSet, Pass, Publisher, Told, WriteError};
@@ -25,7 +25,7 @@ impl<B: Naming> Cluster<B> {
         ensures last { IfOk result (λ p. p ≡ length pass.new.seen) }
         ensures wrote { OnOk result (WroteBytes B.shape frame.now pass.old pass.new) }
         ensures refused { IfErr result (IsWriteRefusal B.shape pass.old.client frame.now) }
-        ensures err { OnErr result (Sees pass.old pass.new) }
+        ensures err { OnErr result (SeesMore pass.old pass.new) }
     {
         pass.write(rt, &self.shape, &self.order, frame)
     }
@@ -52,8 +52,8 @@ impl<B: Naming> Cluster<B> {
     pub fn pin(&self, pass: &mut Pass<B>, most: u32) -> Result<Arc<EpochSet>, Memory>
         requires { pass.old.reads.known ≤ most }
         ensures ok { IfOk result
-            (λ s. Reads (λ a b. Pins a most (arc_value s) b) pass.old pass.new) }
-        ensures err { OnErr result (Reads Knows pass.old pass.new) }
+            (λ s. ReadsOnly (λ a b. Pins a most (arc_value s) b) pass.old pass.new) }
+        ensures err { OnErr result (ReadsOnly Knows pass.old pass.new) }
     {
         pass.pin(most)
     }
@@ -62,7 +62,7 @@ impl<B: Naming> Cluster<B> {
     pub fn learn(&self, pass: &mut Pass<B>, told: &mut Told) -> Result<(), Memory>
         requires { told.old.board ≡ pass.old.reads.board }
         ensures told { told.new ≡ told.old }
-        ensures ok { OnOk result (Reads (λ a b. Learns a told.old b) pass.old pass.new) }
+        ensures ok { OnOk result (ReadsOnly (λ a b. Learns a told.old b) pass.old pass.new) }
         ensures err { OnErr result (pass.new ≡ pass.old) }
     {
         pass.learn(told)

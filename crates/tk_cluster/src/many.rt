@@ -6,7 +6,7 @@ ghost use Rattle.tk_frames.specs.declared.entry.Placed.{Placed};
 ghost use Rattle.tk_replica.specs.Replies.{sum_over, reply_bytes};
 ghost use Rattle.tk_cluster.specs.Refusals.{first_unanswered, IsManyRefusal, IsAsked};
 ghost use Rattle.tk_cluster.specs.Many.{AreReads};
-ghost use Rattle.tk_cluster.specs.Sets.{Stands};
+ghost use Rattle.tk_cluster.specs.Sets.{StandsAtMark};
 
 use crate::{AnswerError, EpochSet};
 use std::alloc::Global;
@@ -34,7 +34,7 @@ impl EpochSet {
         ensures plain { All (IsAsked self.now) frames.now
             → IfErr result (λ e. e ≡ AnswerError.Memory) }
         ensures asked { OnOk result (All (IsAsked self.now) frames.now) }
-        ensures replies { (shape : Shape) (E : List Placed) → Stands shape E self.now.number self.now
+        ensures replies { (shape : Shape) (E : List Placed) → StandsAtMark shape E self.now.number self.now
             → IfOk result (λ replies. replies.items ≡ map (reply_bytes shape E) frames.now) }
     {
         let alloc = *self.epochs.allocator();

@@ -1,4 +1,4 @@
-ghost use Rattle.tk_cluster.specs.Clusters.{Met};
+ghost use Rattle.tk_cluster.specs.Clusters.{HaveMet};
 
 use crate::{Cluster, Pass, Publisher};
 use tk_order::Naming;
@@ -8,7 +8,7 @@ impl<B: Naming> Cluster<B> {
     /// All have seen one list then, which begins with what each had seen. It waits for nobody, and
     /// orders nothing.
     pub fn meet(&self, passes: &mut [Pass<B>], publisher: &mut Publisher<B>) -> Result<(), Memory>
-        ensures { Met B.shape passes.old publisher.old passes.new publisher.new }
+        ensures { HaveMet B.shape passes.old publisher.old passes.new publisher.new }
     {
         self.gather(passes, publisher);
         Ok(())
@@ -16,7 +16,7 @@ impl<B: Naming> Cluster<B> {
 
     /// Takes in what the passes have seen, and gives each a note of all of it.
     fn gather(&self, passes: &mut [Pass<B>], publisher: &mut Publisher<B>)
-        ensures { Met B.shape passes.old publisher.old passes.new publisher.new }
+        ensures { HaveMet B.shape passes.old publisher.old passes.new publisher.new }
     {
         let Some((first, rest)) = passes.split_first_mut() else {
             publisher.stands();

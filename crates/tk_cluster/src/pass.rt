@@ -7,8 +7,8 @@ ghost use Rattle.tk_order.specs.Seats.{seated, BeginOne};
 ghost use Rattle.tk_frames.specs.Ranges.{IsWrite};
 ghost use Rattle.tk_cluster.specs.Refusals.{IsWriteRefusal, SpellsWrite};
 ghost use Rattle.tk_cluster.specs.Passes.{own, fresh, seat_for, reader_of, seat_of};
-ghost use Rattle.tk_cluster.specs.Passes.{Wrote, WroteBytes, Sees, MeetsAt};
-ghost use Rattle.tk_cluster.specs.Passes.{Pins, Knows, Learns, Reads};
+ghost use Rattle.tk_cluster.specs.Passes.{Wrote, WroteBytes, SeesMore, MeetsAt};
+ghost use Rattle.tk_cluster.specs.Passes.{Pins, Knows, Learns, ReadsOnly};
 
 use crate::{EpochSet, Told, WriteError};
 use std::alloc::Global;
@@ -111,7 +111,7 @@ impl<B: Naming> Pass<B> {
         ensures last { IfOk result (λ p. p ≡ length self.new.seen) }
         ensures wrote { OnOk result (WroteBytes B.shape frame.now self.old self.new) }
         ensures refused { IfErr result (IsWriteRefusal B.shape self.old.client frame.now) }
-        ensures err { OnErr result (Sees self.old self.new) }
+        ensures err { OnErr result (SeesMore self.old self.new) }
     {
         let alloc = *self.pinned.allocator();
         let write = self.checked(alloc, shape, frame)?;
@@ -142,7 +142,7 @@ impl<B: Naming> Pass<B> {
         requires room { length (own self.old) < turn_count B.shape }
         ensures last { IfOk result (λ p. p ≡ length self.new.seen) }
         ensures wrote { OnOk result (Wrote self.old write self.new) }
-        ensures err { OnErr result (Sees self.old self.new) }
+        ensures err { OnErr result (SeesMore self.old self.new) }
     {
         order.append(rt, &mut self.seat, &Entry::Write(write))
     }
@@ -151,8 +151,8 @@ impl<B: Naming> Pass<B> {
     pub(crate) fn pin(&mut self, most: u32) -> Result<Arc<EpochSet>, Memory>
         requires { self.old.reads.known ≤ most }
         ensures ok { IfOk result
-            (λ s. Reads (λ a b. Pins a most (arc_value s) b) self.old self.new) }
-        ensures err { OnErr result (Reads Knows self.old self.new) }
+            (λ s. ReadsOnly (λ a b. Pins a most (arc_value s) b) self.old self.new) }
+        ensures err { OnErr result (ReadsOnly Knows self.old self.new) }
     {
         self.pinned.reserve(1)?;
         let Ok(newest) = self.reader.look() else {
@@ -175,7 +175,7 @@ impl<B: Naming> Pass<B> {
     pub(crate) fn learn(&mut self, told: &mut Told) -> Result<(), Memory>
         requires { told.old.board ≡ self.old.reads.board }
         ensures told { told.new ≡ told.old }
-        ensures ok { OnOk result (Reads (λ a b. Learns a told.old b) self.old self.new) }
+        ensures ok { OnOk result (ReadsOnly (λ a b. Learns a told.old b) self.old self.new) }
         ensures err { OnErr result (self.new ≡ self.old) }
     {
         let newest = Arc::try_clone(told.value())?;

@@ -4,7 +4,7 @@ ghost use Rattle.std.specs.Arc.{arc_value};
 ghost use mathlib.Core.List.{IsPrefix};
 ghost use Rattle.tk_order.specs.Legality.{IsLegal};
 ghost use Rattle.tk_order.specs.Seats.{seated};
-ghost use Rattle.tk_cluster.specs.Sets.{Shows, Stands};
+ghost use Rattle.tk_cluster.specs.Sets.{AreShown, StandsAtMark};
 ghost use Rattle.tk_cluster.specs.Tellings.{marks, told_of, Grows, Published, Withheld};
 
 use crate::{Cluster, EpochSet, Told};
@@ -49,7 +49,7 @@ impl<B: Naming> Publisher<B> {
     /// A publisher that has seen nothing, and shown the first set.
     pub(crate) fn new(seat: OrderSeat<B>, board: Board<Arc<EpochSet>>) -> Publisher<B>
         requires seat { seat ≡ seated [] (Some 0) }
-        requires first { (set : _) × (board.list ≡ set ∷ []) × Stands B.shape [] 0 set }
+        requires first { (set : _) × (board.list ≡ set ∷ []) × StandsAtMark B.shape [] 0 set }
         ensures { (result.seen ≡ []) × (told_of result ≡ board) }
     {
         Publisher {
@@ -70,7 +70,7 @@ impl<B: Naming> Publisher<B> {
 
     /// Each shown set stands for the writes before its mark in what was seen, which may be an order.
     pub fn stands(&self)
-        ensures shows { Shows B.shape self.now.shown self.now.seen }
+        ensures shows { AreShown B.shape self.now.shown self.now.seen }
         ensures legal { IsLegal B.shape self.now.seen }
     {
         self.seat.legal();
@@ -120,12 +120,12 @@ impl<B: Naming> Publisher<B> {
         requires { length (marks self.old) ≡ length self.old.shown }
         ensures same { self.new ≡ self.old }
         ensures stands { IfOk result
-            (λ s. Stands B.shape self.old.seen (length self.old.shown) (arc_value s)) }
+            (λ s. StandsAtMark B.shape self.old.seen (length self.old.shown) (arc_value s)) }
     {
         cluster.set(rt, &mut self.seat, self.ordered, self.marked)
     }
 
-    /// Shows the set of the mark that stands in the order.
+    /// AreShown the set of the mark that stands in the order.
     fn show<R: Wait + AllocGlobal>(
         &mut self,
         rt: &R,
@@ -134,7 +134,7 @@ impl<B: Naming> Publisher<B> {
     ) -> Result<Told, Memory>
         requires room { length self.old.shown ≤ B.shape.phases }
         requires due { length (marks self.old) ≡ length self.old.shown }
-        requires stands { Stands B.shape self.old.seen (length self.old.shown) (arc_value set) }
+        requires stands { StandsAtMark B.shape self.old.seen (length self.old.shown) (arc_value set) }
         ensures published { OnOk result (Published B.shape self.old self.new) }
         ensures told { IfOk result (λ t. t ≡ told_of self.new) }
         ensures err { OnErr result (self.new ≡ self.old) }
@@ -176,7 +176,7 @@ impl<B: Naming> Publisher<B> {
     pub(crate) fn into_parts(self) -> (OrderSeat<B>, Board<Arc<EpochSet>>)
         ensures seat { result.0 ≡ seated self.seen (Some 0) }
         ensures board { result.1 ≡ told_of self }
-        ensures shows { Shows B.shape self.shown self.seen }
+        ensures shows { AreShown B.shape self.shown self.seen }
     {
         let Publisher {
             seat,
@@ -219,7 +219,7 @@ impl<B: Naming + Send + Sync> Publisher<B> {
         requires workers { 1 ≤ workers }
         ensures same { self.new ≡ self.old }
         ensures stands { IfOk result
-            (λ s. Stands B.shape self.old.seen (length self.old.shown) (arc_value s)) }
+            (λ s. StandsAtMark B.shape self.old.seen (length self.old.shown) (arc_value s)) }
     {
         cluster.set_with(rt, &mut self.seat, self.ordered, self.marked, workers)
     }

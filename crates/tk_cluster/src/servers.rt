@@ -6,7 +6,7 @@ ghost use Rattle.tk_frames.specs.InOrder.{mark_count};
 ghost use Rattle.tk_replica.specs.declared.epoch.Epoch.{Epoch};
 ghost use Rattle.tk_replica.specs.Epochs.{IsEpochOf};
 ghost use Rattle.tk_replica.specs.Following.{marks_among, IsEpochAt};
-ghost use Rattle.tk_cluster.specs.Sets.{Stands};
+ghost use Rattle.tk_cluster.specs.Sets.{StandsAtMark};
 
 use crate::{Cluster, EpochSet};
 use std::alloc::{AllocGlobal, Global};
@@ -26,7 +26,7 @@ impl EpochSet {
         ensures number { result.number ≡ number }
         ensures stands { (E : List Placed) → number ≤ mark_count E
             → All (λ a. IsEpochOf shape.now E number (arc_value a)) epochs.items
-            → Stands shape.now E number result }
+            → StandsAtMark shape.now E number result }
     {
         EpochSet {
             shape: *shape,
@@ -50,7 +50,7 @@ impl<B: Naming> Cluster<B> {
         requires among { marks_among upto seat.old.seen ≡ number }
         requires marked { number ≤ mark_count seat.old.seen }
         ensures same { seat.new ≡ seat.old }
-        ensures stands { IfOk result (λ s. Stands B.shape seat.old.seen number (arc_value s)) }
+        ensures stands { IfOk result (λ s. StandsAtMark B.shape seat.old.seen number (arc_value s)) }
     {
         let epochs = self.epochs(rt, seat, upto)?;
         let set = EpochSet {
@@ -104,7 +104,7 @@ impl<B: Naming + Send + Sync> Cluster<B> {
         requires marked { number ≤ mark_count seat.old.seen }
         requires workers { 1 ≤ workers }
         ensures same { seat.new ≡ seat.old }
-        ensures stands { IfOk result (λ s. Stands B.shape seat.old.seen number (arc_value s)) }
+        ensures stands { IfOk result (λ s. StandsAtMark B.shape seat.old.seen number (arc_value s)) }
     {
         let epochs = self.epochs_with(rt, seat, upto, workers)?;
         let set = EpochSet {

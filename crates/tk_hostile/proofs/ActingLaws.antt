@@ -14,7 +14,7 @@ use Rattle.tk_client.specs.Replies.{frames_in, answer_in}
 use Rattle.tk_client.specs.declared.open_read.OpenRead.{OpenRead}
 use Rattle.tk_client.specs.Client.{ClientState, reader_after, after_replies, target_over}
 use Rattle.tk_hostile.specs.Attack.{Adversary, Acting, Attacked, Ask, heard, unattacked, ask_of, after_ask}
-use Rattle.tk_hostile.specs.Acting.{reader_open, target_open, IsActing, AreTold, NewIsActing, ActsAsClient}
+use Rattle.tk_hostile.specs.Acting.{reader_open, target_open, IsActing, AreChosen, NewIsActing, ActsAsClient}
 
 pub new_is_acting : NewIsActing
 unfolding unattacked
@@ -34,7 +34,7 @@ reader-heard shape w replies reader (Some read) = refl
 module _ (S : Script) (b : WordBook) (h : ℕ) (adversary : Adversary) (c : ℕ) (run : Attacked)
     (client : ClientState) (replies : List (List ℕ)) (marks : List Bool)
     (is : IsActing S c (run.clients c) client)
-    (told : AreTold S (words_of S.shape b) adversary c run replies marks) where
+    (told : AreChosen S (words_of S.shape b) adversary c run replies marks) where
   hears : (after_replies (words_of S.shape b) replies client).reader
       ≡ heard S (words_of S.shape b) (adversary.sums run.seen run.hidden) (run.clients c)
   hears =

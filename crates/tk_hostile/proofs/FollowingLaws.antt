@@ -7,13 +7,13 @@ use Rattle.tk_words.specs.Words.{WordBook}
 use Rattle.tk_client.specs.Client.{ClientState}
 use Rattle.tk_report.specs.Clients.{AreClients, client_knowing}
 use Rattle.tk_hostile.specs.Choice.{Choice}
-use Rattle.tk_hostile.specs.Wrong.{wrong_reader, AreClientsAtEnd}
+use Rattle.tk_hostile.specs.Wrong.{wrong_reader, AreWrongedClients}
 
 pub clients-at_end : (S : Script) (b : WordBook) (H : History) (h : ℕ) (F : Choice)
     (clients : List ClientState) →
     let turns = turn_count S.shape in
     AreClients S.shape.clients (client_knowing S (λ c. wrong_reader S b H h F c turns) turns) clients →
-    AreClientsAtEnd S b H h F clients
+    AreWrongedClients S b H h F clients
 unfolding client_knowing
 clients-at_end S b H h F clients are =
     record {

@@ -39,7 +39,7 @@ NewIsActing =
 
 -- bytes that are replies with the sums that the adversary chooses, and a filter that shows of each
 -- number's positions what it chooses
-pub record AreTold (S : Script) (w : BookWords) (adversary : Adversary) (c : ℕ) (run : Attacked)
+pub record AreChosen (S : Script) (w : BookWords) (adversary : Adversary) (c : ℕ) (run : Attacked)
     (replies : List (List ℕ)) (marks : List Bool) : Type 0 where
   pub chosen : let r = (run.clients c).hidden in
       frames_in S.shape replies
@@ -71,5 +71,5 @@ ActsAsClient =
     (S : Script) (b : WordBook) (h : ℕ) (adversary : Adversary) (c : ℕ) (run : Attacked)
     (client : ClientState) (replies : List (List ℕ)) (marks : List Bool) →
     IsActing S c (run.clients c) client →
-    AreTold S (words_of S.shape b) adversary c run replies marks →
+    AreChosen S (words_of S.shape b) adversary c run replies marks →
     AsksAlike S b h adversary c run client replies marks

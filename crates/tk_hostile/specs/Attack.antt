@@ -51,16 +51,16 @@ keys_of shape w holds log s =
     None
 
 -- a client's write, or its read: the frame for each server but the hidden one
-pub data Sight : Type 0 where
-  Wrote : WriteFrame → Sight
-  Asked : List ReadFrame → Sight
+pub data SeenAct : Type 0 where
+  Wrote : WriteFrame → SeenAct
+  Asked : List ReadFrame → SeenAct
 
 -- all that an adversary has seen so far
 pub record Seen : Type 0 where
   pub keys : Keys
-  pub sights : List Sight
+  pub sights : List SeenAct
 
-abbrev pub seen_more : Seen → Sight → Seen
+abbrev pub seen_more : Seen → SeenAct → Seen
 seen_more seen sight = record seen { sights = seen.sights ++ sight ∷ [] }
 
 -- ---- the adversary

@@ -51,7 +51,7 @@ abbrev pub read_in : Script → WordBook → History → Sides → Choice → �
 read_in S b H sides F j g c = read_for S.shape b H (pair_in S b H sides F g c) g c j
 
 -- before turn g all is as the definitions say of it, and the reads so far are those of the seen one
-pub record IsFoldBefore (S : Script) (b : WordBook) (H : History) (sides : Sides) (F : Choice)
+pub record IsWalkBefore (S : Script) (b : WordBook) (H : History) (sides : Sides) (F : Choice)
     (g : ℕ) (f : Walked) : Type 0 where
   pub group : IsGroup S (knows_before S b H sides F g) g f.group
   pub ledger : Keeps S.shape (placed_before S (words_of S.shape b) H g) f.ledger

@@ -77,7 +77,7 @@ abbrev pub wrong_logs : Script → WordBook → History → ℕ → Choice → �
 wrong_logs S b H h F c = (wrong_reader S b H h F c (turn_count S.shape)).follows
 
 -- the clients at its end, and what each log gave to each
-pub record AreClientsAtEnd (S : Script) (b : WordBook) (H : History) (h : ℕ) (F : Choice)
+pub record AreWrongedClients (S : Script) (b : WordBook) (H : History) (h : ℕ) (F : Choice)
     (clients : List ClientState) : Type 0 where
   pub are : let turns = turn_count S.shape in
       AreClients S.shape.clients

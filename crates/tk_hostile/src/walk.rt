@@ -4,7 +4,7 @@ ghost use Rattle.tk_schedule.specs.declared.history.History.{History};
 ghost use Rattle.tk_words.specs.Words.{WordBook};
 ghost use Rattle.tk_hostile.specs.Given.{sums_at};
 ghost use Rattle.tk_hostile.specs.Choice.{Choice};
-ghost use Rattle.tk_hostile.specs.Walks.{AreSides, IsFoldBefore};
+ghost use Rattle.tk_hostile.specs.Walks.{AreSides, IsWalkBefore};
 ghost use Rattle.tk_hostile.specs.declared.sides.Sides.{Sides as Servers};
 
 use crate::replies::Replies;
@@ -39,7 +39,7 @@ pub(crate) struct Walked {
 /// A run gone through to its end.
 pub(crate) fn walk_all<D: Draws>(alloc: Global, walk: &Walk<D>) -> Result<Walked, Memory>
     ensures { let S = walk.now.plan.now.script.now in
-        IfOk result (IsFoldBefore S (D.book walk.now.plan.now.draws.now)
+        IfOk result (IsWalkBefore S (D.book walk.now.plan.now.draws.now)
         walk.now.plan.now.history.now walk.now.sides (sums_at walk.now.replies.now)
         (turn_count S.shape)) }
 {
@@ -53,7 +53,7 @@ pub(crate) fn walk_all<D: Draws>(alloc: Global, walk: &Walk<D>) -> Result<Walked
 /// A run before its first turn.
 fn open_fold(alloc: Global, script: &Script) -> Result<Walked, Memory>
     ensures { (b : WordBook) (H : History) (sides : Servers) (F : Choice)
-        → IfOk result (IsFoldBefore script.now b H sides F 0) }
+        → IfOk result (IsWalkBefore script.now b H sides F 0) }
 {
     Ok(Walked {
         group: Group::open(alloc, script)?,
@@ -71,10 +71,10 @@ fn take_turn<D: Draws>(
     fold: &mut Walked,
 ) -> Result<(), Memory>
     requires turn_in { turn < turn_count walk.now.plan.now.script.now.shape }
-    requires fold { IsFoldBefore walk.now.plan.now.script.now (D.book walk.now.plan.now.draws.now)
+    requires fold { IsWalkBefore walk.now.plan.now.script.now (D.book walk.now.plan.now.draws.now)
         walk.now.plan.now.history.now walk.now.sides (sums_at walk.now.replies.now) turn fold.old }
     ensures { OnOk result
-        (IsFoldBefore walk.now.plan.now.script.now (D.book walk.now.plan.now.draws.now)
+        (IsWalkBefore walk.now.plan.now.script.now (D.book walk.now.plan.now.draws.now)
         walk.now.plan.now.history.now walk.now.sides (sums_at walk.now.replies.now) (turn + 1)
         fold.new) }
 {

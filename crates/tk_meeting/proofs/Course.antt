@@ -1,7 +1,6 @@
 -- The course of a group apart in numbers: how far each client is, how many packets of each came to each
 -- server, and what is on its way. It depends on no text and no key.
-use Rattle.std.specs.Prelude.{ℕ, ◌+◌, ◌/◌, min, nat_lt, ◌==◌, ◌&&◌, cond}
-use Rattle.std.specs.Prelude.{List, [], ◌∷◌, ◌++◌, map}
+use Rattle.std.specs.Prelude.{ℕ, ◌+◌, ◌/◌, min, nat_lt, ◌==◌, ◌&&◌, cond, List, [], ◌∷◌, ◌++◌, map}
 use Rattle.std.specs.List.{range_with_len}
 use Rattle.tk_shape.specs.declared.shape.Shape.{Shape}
 use Rattle.tk_shape.specs.Lengths.{turn_count}

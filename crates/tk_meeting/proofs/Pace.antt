@@ -1,6 +1,5 @@
 -- How far a client is, in numbers. When it writes and asks follows from these alone.
-use Rattle.std.specs.Prelude.{◌≡◌, ℕ, ◌+◌, ◌-◌, ◌*◌, ◌≤◌, ◌<◌, min}
-use Rattle.std.specs.Prelude.{nat_le, nat_lt, ◌&&◌, Bool, true, false, not, cond}
+use Rattle.std.specs.Prelude.{◌≡◌, ℕ, ◌+◌, ◌-◌, ◌*◌, ◌≤◌, ◌<◌, min, nat_le, nat_lt, ◌&&◌, Bool, true, false, not, cond}
 use Rattle.std.specs.Prelude.{List, [], ◌∷◌, ◌++◌, map, replicate}
 use Rattle.std.specs.List.{range_with_len, list_all}
 use Rattle.tk_shape.specs.declared.shape.Shape.{Shape}

@@ -13,7 +13,7 @@ use Rattle.tk_report.specs.Queues.{writing_before}
 use Rattle.tk_report.specs.Report.{reader_before, target_at}
 use Rattle.tk_member.specs.declared.fault.Fault.{Fault}
 use Rattle.tk_member.specs.Members.{MemberState}
-use Rattle.tk_member.specs.Acting.{Turned}
+use Rattle.tk_member.specs.Acting.{ActedMember}
 use Rattle.tk_member.specs.Steps.{tells_and_acts}
 use Rattle.tk_meeting.specs.Meeting.{Saying, for_peer, frames_for}
 use Rattle.tk_meeting.specs.Laws.{sayings, tells_read}
@@ -69,8 +69,8 @@ said_on g n saids = cond (g == n) saids []
 -- A member before whose step the pace was p went to the pace that follows and sent what is sent then,
 -- and told its host this of its reads.
 pub record Goes (S : Script) (b : WordBook) (c : ℕ) (p : Pace) (saids : List Saying)
-    (news : List PacketView) (result : Result Turned Fault) : Type 0 where
-  pub turned : Turned
+    (news : List PacketView) (result : Result ActedMember Fault) : Type 0 where
+  pub turned : ActedMember
   pub is : result ≡ Ok turned
   pub at : IsAt S b c (acted S.shape p).pace
       (said_on p.written (acted S.shape p).pace.written saids) turned.member
@@ -81,7 +81,7 @@ pub record Goes (S : Script) (b : WordBook) (c : ℕ) (p : Pace) (saids : List S
 -- What a step comes to before the member acts: it stands at the pace p, and tells its host this. That asks
 -- for nothing to be foretold, so it says how far the member will write before one knows what.
 pub record Readies (S : Script) (b : WordBook) (c : ℕ) (p : Pace) (saids : List Saying)
-    (news : List PacketView) (result : Result Turned Fault) : Type 0 where
+    (news : List PacketView) (result : Result ActedMember Fault) : Type 0 where
   pub member : MemberState
   pub told : List PacketView
   pub is : result ≡ tells_and_acts b told member

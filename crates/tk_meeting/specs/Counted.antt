@@ -12,7 +12,7 @@ use Rattle.tk_serve.specs.Seats.{Seat, seat_of}
 use Rattle.tk_meeting.specs.Meeting.{Meeting}
 use Rattle.tk_meeting.specs.Events.{Event, met}
 use Rattle.tk_meeting.specs.OwnBooks.{HaveKeys}
-use Rattle.tk_meeting.specs.Laws.{Tells}
+use Rattle.tk_meeting.specs.Laws.{HasWhatWasSaid}
 use Rattle.tk_meeting.specs.Hidden.{unsaid}
 
 -- what a server sees of a client: what it took of it, what is on its way to it, and what it sends
@@ -37,7 +37,7 @@ AreDrawn S books = (u : List ℕ) → length u ≡ tape_len S.shape → HaveKeys
 -- over each tape the events say what the script has
 abbrev pub TellsOver : Script → (List ℕ → ℕ → WordBook) → List Event → Type 0
 TellsOver S books events =
-    (u : List ℕ) → length u ≡ tape_len S.shape → Tells S (met S (books u) events)
+    (u : List ℕ) → length u ≡ tape_len S.shape → HasWhatWasSaid S (met S (books u) events)
 
 -- Two groups in which the same happens but for what is said: whatever all servers but the hidden one
 -- look for at any time in what they see together, they find it over as many tapes of the one as of

@@ -13,7 +13,7 @@ use Rattle.tk_report.specs.Report.{read_over, got_of}
 use Rattle.tk_meeting.specs.Meeting.{Meeting}
 use Rattle.tk_meeting.specs.Events.{Event, met}
 use Rattle.tk_meeting.specs.OwnBooks.{HaveKeys}
-use Rattle.tk_meeting.specs.Laws.{Tells, HasToldOf}
+use Rattle.tk_meeting.specs.Laws.{HasWhatWasSaid, HasToldOf}
 
 -- a text is that of number s of a log, which a client read in some turn, and whose record was retained in
 -- the epoch of that read
@@ -29,7 +29,7 @@ pub record IsAsWritten (S : Script) (b : WordBook) (c log s : ℕ) (text : List 
 
 -- what a member told of a log: in a clear run each text as it was written; and each number that it
 -- told to be absent was rightly passed over
-pub record IsDelivered (S : Script) (b : WordBook) (m : Meeting) (c log : ℕ) : Type 0 where
+pub record HasDelivered (S : Script) (b : WordBook) (m : Meeting) (c log : ℕ) : Type 0 where
   pub told : HasToldOf S b m c log
   pub texts : IsClear S (words_of S.shape b) (serial_history S.shape) → (s : ℕ) (text : List ℕ) →
       slice_get told.got s ≡ Some (Text text) → IsAsWritten S b c log s text
@@ -42,6 +42,6 @@ pub record IsDelivered (S : Script) (b : WordBook) (m : Meeting) (c log : ℕ) :
 abbrev pub MeetingsDeliver : Type 0
 MeetingsDeliver =
     (S : Script) (b : WordBook) (books : ℕ → WordBook) (events more : List Event) →
-    IsBook S.shape b → HaveKeys S b books → Tells S (met S books (events ++ more)) →
+    IsBook S.shape b → HaveKeys S b books → HasWhatWasSaid S (met S books (events ++ more)) →
     (c log : ℕ) → c < S.shape.clients → log < S.shape.logs →
-    IsDelivered S b (met S books events) c log
+    HasDelivered S b (met S books events) c log

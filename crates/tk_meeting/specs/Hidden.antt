@@ -11,7 +11,7 @@ use Rattle.tk_serve.specs.Seats.{seat_of}
 use Rattle.tk_meeting.specs.Meeting.{Meeting}
 use Rattle.tk_meeting.specs.Events.{Event, Said, Ticked, WentAhead, Greeted, Up, Down, met}
 use Rattle.tk_meeting.specs.OwnBooks.{HaveKeys}
-use Rattle.tk_meeting.specs.Laws.{Tells}
+use Rattle.tk_meeting.specs.Laws.{HasWhatWasSaid}
 
 -- ---- events without what is said
 
@@ -63,7 +63,7 @@ MeetingsLookAlike =
     AreMirrored A B H h u →
     (books other_books : ℕ → WordBook) → HaveKeys A (drawn u) books →
     HaveKeys B (drawn (mirror A B H h u)) other_books →
-    (events more : List Event) → Tells A (met A books (events ++ more)) →
-    (other_events rest : List Event) → Tells B (met B other_books (other_events ++ rest)) →
+    (events more : List Event) → HasWhatWasSaid A (met A books (events ++ more)) →
+    (other_events rest : List Event) → HasWhatWasSaid B (met B other_books (other_events ++ rest)) →
     unsaid events ≡ unsaid other_events →
     LooksAlike A.shape h (met A books events) (met B other_books other_events)

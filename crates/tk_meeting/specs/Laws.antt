@@ -1,7 +1,6 @@
 -- What a group apart does is what the serial run does.
 use Rattle.std.specs.Prelude.{◌≡◌, ℕ, ◌+◌, ◌-◌, ◌<◌, ◌≤◌, ◌==◌, Bool, true, false, cond, not, ◌&&◌}
-use Rattle.std.specs.Prelude.{List, [], ◌++◌, length, map, filter, flat_map}
-use Rattle.std.specs.Prelude.{slice_index, None}
+use Rattle.std.specs.Prelude.{List, [], ◌++◌, length, map, filter, flat_map, slice_index, None}
 use Rattle.std.specs.List.{range_with_len, list_any}
 use Rattle.std.specs.Option.{is_none}
 use Rattle.tk_shape.specs.declared.shape.Shape.{Shape}
@@ -35,8 +34,8 @@ abbrev pub sayings : Script → ℕ → ℕ → List Saying
 sayings S c g = map saying_of (filter (λ y. writer_of S y.log == c) (says_in S g))
 
 -- the script has what was said: each text in the turn that its writer wrote next
-abbrev pub Tells : Script → Meeting → Type 0
-Tells S m =
+abbrev pub HasWhatWasSaid : Script → Meeting → Type 0
+HasWhatWasSaid S m =
     (c g : ℕ) → c < S.shape.clients → g < turn_count S.shape → m.said c g ≡ sayings S c g
 
 -- ---- fronts of the serial run
@@ -88,7 +87,7 @@ abbrev pub is_refusal : List ℕ → Bool
 is_refusal frame = slice_index frame 0 == 0x0c
 
 -- no member has ended, and no server tells that it refused a frame
-pub record IsQuiet (shape : Shape) (m : Meeting) : Type 0 where
+pub record HasNoFaults (shape : Shape) (m : Meeting) : Type 0 where
   pub members : (c : ℕ) → c < shape.clients → m.ended c ≡ None
   pub servers : (j c : ℕ) → 1 ≤ j → j ≤ shape.servers → c < shape.clients →
       list_any is_refusal (m.down j c) ≡ false
@@ -120,7 +119,7 @@ pub record IsSerial (S : Script) (b : WordBook) (m : Meeting) : Type 0 where
       HasFront S b m c j
   pub told : (c : ℕ) → c < S.shape.clients → HasTold S b m c
   pub told_of : (c log : ℕ) → c < S.shape.clients → log < S.shape.logs → HasToldOf S b m c log
-  pub quiet : IsQuiet S.shape m
+  pub quiet : HasNoFaults S.shape m
   pub over : (c : ℕ) → c < S.shape.clients → is_over (m.members c) ≡ true → HasToldAll S b m c
   -- a group is never stuck
   pub whole : IsAllHanded S.shape m → (c : ℕ) → c < S.shape.clients →
@@ -131,5 +130,5 @@ pub record IsSerial (S : Script) (b : WordBook) (m : Meeting) : Type 0 where
 abbrev pub MeetingsAreSerial : Type 0
 MeetingsAreSerial =
     (S : Script) (b : WordBook) (books : ℕ → WordBook) (events more : List Event) →
-    IsBook S.shape b → HaveKeys S b books → Tells S (met S books (events ++ more)) →
+    IsBook S.shape b → HaveKeys S b books → HasWhatWasSaid S (met S books (events ++ more)) →
     IsSerial S b (met S books events)

@@ -5,7 +5,7 @@ use Rattle.tk_script.specs.declared.script.Script.{Script}
 use Rattle.tk_words.specs.Words.{WordBook}
 use Rattle.tk_packets.specs.Packets.{PacketView, packet}
 use Rattle.tk_member.specs.declared.fault.Fault.{Fault}
-use Rattle.tk_member.specs.Acting.{Turned, unmoved, behind}
+use Rattle.tk_member.specs.Acting.{ActedMember, unmoved, behind}
 use Rattle.tk_member.specs.Steps as member
 use Rattle.tk_member.specs.Courses.{after_packets}
 use Rattle.tk_serve.specs.Seats.{Seat, empty_seats, seat_of}
@@ -18,7 +18,7 @@ use Rattle.tk_meeting.specs.Programs.{first_member}
 -- it was last begun. Of each server what it took since then.
 pub record Lives : Type 0 where
   pub journals : ℕ → List PacketView
-  pub members : ℕ → Turned
+  pub members : ℕ → ActedMember
   pub seats : ℕ → List Seat
 
 abbrev pub at_first : Script → Lives
@@ -41,7 +41,7 @@ pub data Happening : Type 0 where
 -- ---- members
 
 -- the packet is in its journal before it takes it; one that ends it changes nothing more
-abbrev pub taken_so : Lives → ℕ → PacketView → Result Turned Fault → Lives
+abbrev pub taken_so : Lives → ℕ → PacketView → Result ActedMember Fault → Lives
 taken_so v c p (Ok t) =
     record v {
       journals = changed c (v.journals c ++ p ∷ []) v.journals;
@@ -52,7 +52,7 @@ taken_so v c p (Err fault) = record v { journals = changed c (v.journals c ++ p 
 abbrev pub takes : (ℕ → WordBook) → Lives → ℕ → PacketView → Lives
 takes b v c p = taken_so v c p (member.step (b c) (v.members c).member p)
 
-abbrev pub begun_so : Lives → ℕ → Option Turned → Lives
+abbrev pub begun_so : Lives → ℕ → Option ActedMember → Lives
 begun_so v c None = v
 begun_so v c (Some t) = record v { members = changed c t v.members }
 

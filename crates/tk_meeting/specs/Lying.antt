@@ -20,7 +20,7 @@ use Rattle.tk_member.specs.declared.fault.Fault.{Fault}
 use Rattle.tk_member.specs.declared.fault.Fault.TheVariants.{Peer}
 use Rattle.tk_member.specs.declared.word.HostWord.TheVariants.{Say, Tick, Ahead, Has}
 use Rattle.tk_member.specs.Members.{MemberState}
-use Rattle.tk_member.specs.Acting.{Turned}
+use Rattle.tk_member.specs.Acting.{ActedMember}
 use Rattle.tk_member.specs.Steps.{heard, served}
 use Rattle.tk_meeting.specs.Meeting.{Meeting, Saying, opening, changed, member_went}
 use Rattle.tk_meeting.specs.Events.{say_fault, is_server, client_does}
@@ -69,7 +69,7 @@ answer_to h b table shape c (Some read) =
 -- ---- what is done
 
 -- what becomes of the client's member
-abbrev pub member_does : Hidden → WordBook → MemberState → Deed → Result Turned Fault
+abbrev pub member_does : Hidden → WordBook → MemberState → Deed → Result ActedMember Fault
 member_does h b m (Says c log text) = heard b m (Some (Say log text))
 member_does h b m (Ticks c) = heard b m (Some Tick)
 member_does h b m (GoesAhead c turns) = heard b m (Some (Ahead turns))
@@ -94,7 +94,7 @@ said_after m (Sends c j frame) = m.said
 said_after m (Answers c table) = m.said
 
 -- a text is noted where the member goes on
-abbrev pub went_on : Meeting → Deed → Result Turned Fault → Meeting
+abbrev pub went_on : Meeting → Deed → Result ActedMember Fault → Meeting
 went_on m d (Ok t) = record (member_went m (doer d) (Ok t)) { said = said_after m d }
 went_on m d (Err fault) = member_went m (doer d) (Err fault)
 
@@ -128,7 +128,7 @@ abbrev pub DoAlike : List Deed → List Deed → Type 0
 DoAlike deeds others = map deed_shown deeds ≡ map deed_shown others
 
 -- each client stands alike or has ended for the same fault, and each server but the hidden one got the same frames
-pub record AreAlike (shape : Shape) (h : Hidden) (m n : Meeting) : Type 0 where
+pub record StandAlike (shape : Shape) (h : Hidden) (m n : Meeting) : Type 0 where
   pub stands : (c : ℕ) → c < shape.clients → stand (m.members c) ≡ stand (n.members c)
   pub ended : (c : ℕ) → c < shape.clients → m.ended c ≡ n.ended c
   pub sent : (c j : ℕ) → c < shape.clients → 1 ≤ j → j ≤ shape.servers → j ≢ h.server →

@@ -10,8 +10,8 @@ use Rattle.tk_report.specs.Entries.{entries}
 use Rattle.tk_client.specs.declared.open_read.OpenRead.{OpenRead}
 use Rattle.tk_privacy.specs.Privacy.{Pairs, normal_for}
 use Rattle.tk_meeting.specs.Meeting.{Meeting, opening}
-use Rattle.tk_meeting.specs.Laws.{Tells}
-use Rattle.tk_meeting.specs.Lying.{Deed, Hidden, HoldsBlocks, pair_open, does, lied, DoAlike, AreAlike}
+use Rattle.tk_meeting.specs.Laws.{HasWhatWasSaid}
+use Rattle.tk_meeting.specs.Lying.{Deed, Hidden, HoldsBlocks, pair_open, does, lied, DoAlike, StandAlike}
 
 -- ---- the buckets that are read in a run
 
@@ -59,8 +59,8 @@ abbrev pub LiarsSeeAlike : Type 0
 LiarsSeeAlike =
     (A B : Script) (h : Hidden) → AreGroups A B h → (deeds more others rest : List Deed) (u v : List ℕ) →
     AreMatched A B h (deeds ++ more) (others ++ rest) u v → DoAlike deeds others →
-    Tells A (lied A h (drawn u) (deeds ++ more)) → Tells B (lied B h (drawn v) (others ++ rest)) →
-    AreAlike A.shape h (lied A h (drawn u) deeds) (lied B h (drawn v) others)
+    HasWhatWasSaid A (lied A h (drawn u) (deeds ++ more)) → HasWhatWasSaid B (lied B h (drawn v) (others ++ rest)) →
+    StandAlike A.shape h (lied A h (drawn u) deeds) (lied B h (drawn v) others)
 
 -- the one tape of a group that is matched with one of another
 pub record HasMatch (A B : Script) (h : Hidden) (deeds others : List Deed) (u : List ℕ) : Type 0 where

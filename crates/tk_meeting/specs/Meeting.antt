@@ -1,6 +1,5 @@
 -- A group apart: clients and servers on machines of their own, and what is on its way between them.
-use Rattle.std.specs.Prelude.{ℕ, ◌+◌, ◌==◌, cond, List, [], ◌++◌, map, filter, Option, Some, None}
-use Rattle.std.specs.Prelude.{Result, Ok, Err}
+use Rattle.std.specs.Prelude.{ℕ, ◌+◌, ◌==◌, cond, List, [], ◌++◌, map, filter, Option, Some, None, Result, Ok, Err}
 use Rattle.tk_script.specs.declared.script.Script.{Script}
 use Rattle.tk_packets.specs.Packets.{PacketView}
 use Rattle.tk_client.specs.Client.{new_client}
@@ -8,9 +7,9 @@ use Rattle.tk_report.specs.Queues.{writes_of}
 use Rattle.tk_report.specs.Report.{follows_of}
 use Rattle.tk_member.specs.declared.fault.Fault.{Fault}
 use Rattle.tk_member.specs.Members.{MemberState, new_member}
-use Rattle.tk_member.specs.Acting.{Turned}
+use Rattle.tk_member.specs.Acting.{ActedMember}
 use Rattle.tk_serve.specs.Seats.{Seat, empty_seats}
-use Rattle.tk_serve.specs.Steps.{Step}
+use Rattle.tk_serve.specs.Steps.{SeatsAndPackets}
 
 -- a log, and a text that was said on it
 pub record Saying : Type 0 where
@@ -58,7 +57,7 @@ frames_for peer packets = map (λ p. p.bytes) (for_peer peer packets)
 
 -- A client's member stands as it is told: its frames are on their way, and its host is told the
 -- rest. Or it has ended.
-abbrev pub member_went : Meeting → ℕ → Result Turned Fault → Meeting
+abbrev pub member_went : Meeting → ℕ → Result ActedMember Fault → Meeting
 member_went m c (Ok t) =
     record m {
       members = changed c t.member m.members;
@@ -68,7 +67,7 @@ member_went m c (Ok t) =
 member_went m c (Err fault) = record m { ended = changed c (Some fault) m.ended }
 
 -- server j stands as it is told, and its frames are on their way; client c is peer c + 1
-abbrev pub server_went : Meeting → ℕ → Step → Meeting
+abbrev pub server_went : Meeting → ℕ → SeatsAndPackets → Meeting
 server_went m j s =
     record m {
       seats = changed j s.seats m.seats;

@@ -3,8 +3,7 @@ use Rattle.std.specs.Prelude.{◌≡◌, ◌⊎◌, ℕ, ◌<◌, true, List}
 use Rattle.tk_handle.specs.declared.handle.Handle.{Handle}
 use Rattle.tk_script.specs.declared.script.Script.{Script}
 use Rattle.tk_script.specs.Sent.{writer_of}
-use Rattle.tk_words.specs.Words.{WordBook, keyed, handle_at, seed_at}
-use Rattle.tk_words.specs.Words.{pair_of, hits_of, pad_of, tag_of, shows_vectors}
+use Rattle.tk_words.specs.Words.{WordBook, keyed, handle_at, seed_at, pair_of, hits_of, pad_of, tag_of, shows_vectors}
 use Rattle.tk_words.specs.Words.{fresh_write, fresh_pair, fresh_seeds, fresh_vectors}
 use Rattle.tk_report.specs.Report.{is_follower}
 
@@ -14,7 +13,7 @@ Uses S c log = (writer_of S log ≡ c) ⊎ (is_follower S c log ≡ true)
 
 -- A client's own book says what the group's book says of each log that the client uses, and draws what
 -- that draws for the client. Of other logs and other clients it may say anything.
-pub record HasKeys (S : Script) (b : WordBook) (c : ℕ) (own : WordBook) : Type 0 where
+pub record AgreesForClient (S : Script) (b : WordBook) (c : ℕ) (own : WordBook) : Type 0 where
   pub pairs : (log s : ℕ) → log < S.shape.logs → Uses S c log →
       pair_of S.shape own log s ≡ pair_of S.shape b log s
   pub hits : (log s : ℕ) → log < S.shape.logs → Uses S c log →
@@ -31,7 +30,7 @@ pub record HasKeys (S : Script) (b : WordBook) (c : ℕ) (own : WordBook) : Type
 
 -- and so has each client
 abbrev pub HaveKeys : Script → WordBook → (ℕ → WordBook) → Type 0
-HaveKeys S b books = (c : ℕ) → c < S.shape.clients → HasKeys S b c (books c)
+HaveKeys S b books = (c : ℕ) → c < S.shape.clients → AgreesForClient S b c (books c)
 
 -- ---- keys
 
@@ -47,4 +46,4 @@ abbrev pub OwnKeysServe : Type 0
 OwnKeysServe =
     (S : Script) (handles own_handles : List Handle) (seeds own_seeds : List (List ℕ)) (c : ℕ) →
     HasHandles S handles seeds c own_handles own_seeds →
-    HasKeys S (keyed handles seeds) c (keyed own_handles own_seeds)
+    AgreesForClient S (keyed handles seeds) c (keyed own_handles own_seeds)

@@ -6,7 +6,7 @@ use Rattle.tk_words.specs.Words.{WordBook, IsBook, shows_vectors}
 use Rattle.tk_meeting.specs.Meeting.{Meeting}
 use Rattle.tk_meeting.specs.Events.{Event, met}
 use Rattle.tk_meeting.specs.OwnBooks.{HaveKeys}
-use Rattle.tk_meeting.specs.Laws.{Tells}
+use Rattle.tk_meeting.specs.Laws.{HasWhatWasSaid}
 use Rattle.tk_meeting.specs.Hidden.{unsaid, ActsAlike, IsSizedAlike}
 
 -- on each link there are as many frames
@@ -33,7 +33,7 @@ abbrev pub MeetingsKeepPace : Type 0
 MeetingsKeepPace =
     (A B : Script) (a b : WordBook) → A.shape ≡ B.shape → IsBook A.shape a → IsBook B.shape b →
     (books other_books : ℕ → WordBook) → HaveKeys A a books → HaveKeys B b other_books →
-    (events more : List Event) → Tells A (met A books (events ++ more)) →
-    (other_events rest : List Event) → Tells B (met B other_books (other_events ++ rest)) →
+    (events more : List Event) → HasWhatWasSaid A (met A books (events ++ more)) →
+    (other_events rest : List Event) → HasWhatWasSaid B (met B other_books (other_events ++ rest)) →
     unsaid events ≡ unsaid other_events →
     KeepsPace A.shape a b (met A books events) (met B other_books other_events)

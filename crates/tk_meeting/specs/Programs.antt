@@ -16,7 +16,7 @@ use Rattle.tk_member.specs.declared.word.HostWord.{HostWord}
 use Rattle.tk_member.specs.declared.word.HostWord.TheVariants.{Say, Tick, Ahead, Has}
 use Rattle.tk_member.specs.Words.{word_in}
 use Rattle.tk_member.specs.Members.{MemberState}
-use Rattle.tk_member.specs.Acting.{Turned}
+use Rattle.tk_member.specs.Acting.{ActedMember}
 use Rattle.tk_member.specs.Courses.{after_packets, member_next, TookPart}
 use Rattle.tk_member.specs.Courses as taking
 use Rattle.tk_meeting.specs.Meeting.{Meeting, opening, for_peer, frames_for}
@@ -61,7 +61,7 @@ first_member S c = (opening S).members c
 -- packet behind them: `take_part` ensures that.
 pub record ActsAsMember (S : Script) (b : WordBook) (c : ℕ) (past : List Passing) : Type 0 where
   pub packets : List PacketView
-  pub turned : Turned
+  pub turned : ActedMember
   pub stands : after_packets b (first_member S c) packets ≡ Some turned
   pub last : Option PacketView
   pub count : ℕ
@@ -109,8 +109,8 @@ pub record IsFront {X : Type 0} (xs ys : List X) : Type 0 where
   pub whole : xs ++ rest ≡ ys
 
 -- it is the next of the frames that were put, of which these were taken
-abbrev pub IsNext : List ℕ → List (List ℕ) → List (List ℕ) → Type 0
-IsNext frame taken put = IsFront (taken ++ frame ∷ []) put
+abbrev pub IsNextFrame : List ℕ → List (List ℕ) → List (List ℕ) → Type 0
+IsNextFrame frame taken put = IsFront (taken ++ frame ∷ []) put
 
 -- a server takes the next frame of a client
 pub record IsFrameUp (shape : Shape) (before : List Doing) (j : ℕ) (p : PacketView) : Type 0 where
@@ -119,14 +119,14 @@ pub record IsFrameUp (shape : Shape) (before : List Doing) (j : ℕ) (p : Packet
   pub client : ℕ
   pub low : client < shape.clients
   pub peer : p.peer ≡ client + 1
-  pub next : IsNext p.bytes (frames_for (client + 1) (taken_in (of_server j before)))
+  pub next : IsNextFrame p.bytes (frames_for (client + 1) (taken_in (of_server j before)))
       (frames_for j (put_in (of_client client before)))
 
 -- a client takes the next frame of a server
 pub record IsFrameDown (shape : Shape) (before : List Doing) (c : ℕ) (p : PacketView) : Type 0 where
   pub one : 1 ≤ p.peer
   pub most : p.peer ≤ shape.servers
-  pub next : IsNext p.bytes (frames_for p.peer (taken_in (of_client c before)))
+  pub next : IsNextFrame p.bytes (frames_for p.peer (taken_in (of_client c before)))
       (frames_for (c + 1) (put_in (of_server p.peer before)))
 
 -- how many frames of a client a server took and didn't refuse
@@ -156,17 +156,17 @@ pub record IsWord (shape : Shape) (before : List Doing) (c : ℕ) (p : PacketVie
   pub honest : IsHonest shape before c word
 
 -- what may happen next
-abbrev pub MayCome : Shape → List Doing → Doing → Type 0
-MayCome shape before (OfClient c (Took p)) =
+abbrev pub MayHappen : Shape → List Doing → Doing → Type 0
+MayHappen shape before (OfClient c (Took p)) =
     (c < shape.clients) × (IsWord shape before c p ⊎ IsFrameDown shape before c p)
-MayCome shape before (OfClient c (Put p)) = Unit {0}
-MayCome shape before (OfServer j (Took p)) = IsFrameUp shape before j p
-MayCome shape before (OfServer j (Put p)) = Unit {0}
+MayHappen shape before (OfClient c (Put p)) = Unit {0}
+MayHappen shape before (OfServer j (Took p)) = IsFrameUp shape before j p
+MayHappen shape before (OfServer j (Put p)) = Unit {0}
 
 -- The streams of the programs agree, link by link: whatever is taken is the next of what was put, or a host's word.
 abbrev pub StreamsAgree : Shape → List Doing → Type 0
 StreamsAgree shape ds =
-    (before after : List Doing) (d : Doing) → ds ≡ before ++ d ∷ after → MayCome shape before d
+    (before after : List Doing) (d : Doing) → ds ≡ before ++ d ∷ after → MayHappen shape before d
 
 -- each is the program
 pub record ArePrograms (S : Script) (books : ℕ → WordBook) (ds : List Doing) : Type 0 where
@@ -189,7 +189,7 @@ seats_from shape ps = state_after (seats_next shape) (empty_seats shape) ps
 
 -- Each member and each server of a meeting stands as the program does, and what programs put, a part of which may
 -- still be to come, stands in front of what the meeting has of them.
-pub record Shows (S : Script) (books : ℕ → WordBook) (ds : List Doing) (m : Meeting) : Type 0 where
+pub record StandAsPrograms (S : Script) (books : ℕ → WordBook) (ds : List Doing) (m : Meeting) : Type 0 where
   pub members : (c : ℕ) → c < S.shape.clients →
       m.members c ≡ member_after S books c (taken_in (of_client c ds))
   pub seats : (j : ℕ) → 1 ≤ j → j ≤ S.shape.servers →
@@ -204,7 +204,7 @@ pub record Shows (S : Script) (books : ℕ → WordBook) (ds : List Doing) (m : 
 
 pub record IsSomeMeeting (S : Script) (books : ℕ → WordBook) (ds : List Doing) : Type 0 where
   pub events : List Event
-  pub shows : Shows S books ds (met S books events)
+  pub shows : StandAsPrograms S books ds (met S books events)
 
 -- Programs whose streams agree are some meeting.
 abbrev pub ProgramsMeet : Type 0

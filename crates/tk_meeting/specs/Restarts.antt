@@ -10,7 +10,7 @@ use Rattle.tk_serve.specs.Steps.{IsOfClient}
 use Rattle.tk_serve.specs.Laws.{Comes}
 use Rattle.tk_member.specs.declared.word.HostWord.TheVariants.{Has}
 use Rattle.tk_member.specs.Words.{word_in}
-use Rattle.tk_member.specs.Acting.{Turned}
+use Rattle.tk_member.specs.Acting.{ActedMember}
 use Rattle.tk_member.specs.Courses.{after_packets}
 use Rattle.tk_meeting.specs.Meeting.{frames_for}
 use Rattle.tk_meeting.specs.Programs.{first_member, seats_from, IsFront}
@@ -18,15 +18,15 @@ use Rattle.tk_meeting.specs.Programs.{first_member, seats_from, IsFront}
 -- ---- members
 
 -- a member that took the packets of a journal put these, and now it has put those
-pub record PutsAgain (S : Script) (b : WordBook) (c : ℕ) (journal : List PacketView) (again : Turned) : Type 0 where
-  pub was : Turned
+pub record PutsAgain (S : Script) (b : WordBook) (c : ℕ) (journal : List PacketView) (again : ActedMember) : Type 0 where
+  pub was : ActedMember
   pub stood : after_packets b (first_member S c) journal ≡ Some was
   pub front : IsFront was.packets again.packets
 
 -- A member that is given its journal puts again what it put, packet by packet, and then more.
 abbrev pub MembersPutAgain : Type 0
 MembersPutAgain =
-    (S : Script) (b : WordBook) (c : ℕ) (journal later : List PacketView) (again : Turned) →
+    (S : Script) (b : WordBook) (c : ℕ) (journal later : List PacketView) (again : ActedMember) →
     after_packets b (first_member S c) (journal ++ later) ≡ Some again → PutsAgain S b c journal again
 
 -- a host's word of how many packets of its member a server has
@@ -40,9 +40,9 @@ pub record IsGreeting (p : PacketView) : Type 0 where
 
 -- A member took packets, and of what it put server j has these frames. It is begun again: it is given a front of what it
 -- took, which is its journal; then it is greeted, with as many frames as server j has among them; then it takes others.
-pub record BeginsAgain (S : Script) (b : WordBook) (c j : ℕ) (had : List (List ℕ)) (again : Turned) : Type 0 where
+pub record BeginsAgain (S : Script) (b : WordBook) (c j : ℕ) (had : List (List ℕ)) (again : ActedMember) : Type 0 where
   pub before : List PacketView
-  pub was : Turned
+  pub was : ActedMember
   pub stood : after_packets b (first_member S c) before ≡ Some was
   pub has : IsFront had (frames_for j was.packets)
   pub journal : List PacketView
@@ -58,7 +58,7 @@ pub record BeginsAgain (S : Script) (b : WordBook) (c j : ℕ) (had : List (List
 -- its journal is, and whatever comes later.
 abbrev pub MembersGoOn : Type 0
 MembersGoOn =
-    (S : Script) (b : WordBook) (c j : ℕ) (had : List (List ℕ)) (again : Turned) → 1 ≤ j → j ≤ S.shape.servers →
+    (S : Script) (b : WordBook) (c j : ℕ) (had : List (List ℕ)) (again : ActedMember) → 1 ≤ j → j ≤ S.shape.servers →
     BeginsAgain S b c j had again → IsFront had (frames_for j again.packets)
 
 -- ---- servers

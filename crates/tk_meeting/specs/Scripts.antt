@@ -3,7 +3,7 @@ use Rattle.std.specs.Prelude.{◌≡◌, ℕ, List}
 use Rattle.tk_script.specs.declared.script.Script.{Script}
 use Rattle.tk_words.specs.Words.{WordBook}
 use Rattle.tk_meeting.specs.Events.{Event, met}
-use Rattle.tk_meeting.specs.Laws.{Tells}
+use Rattle.tk_meeting.specs.Laws.{HasWhatWasSaid}
 use Rattle.tk_meeting.specs.Lying.{Deed, Hidden, HoldsBlocks, lied}
 
 -- a script of the same group that has what was said
@@ -12,7 +12,7 @@ pub record HasScript (S : Script) (books : ℕ → WordBook) (events : List Even
   pub same_shape : script.shape ≡ S.shape
   pub same_keys : script.keys ≡ S.keys
   pub same_roles : script.roles ≡ S.roles
-  pub tells : Tells script (met script books events)
+  pub tells : HasWhatWasSaid script (met script books events)
 
 -- Whatever happens in a group, there is such a script.
 abbrev pub MeetingsHaveScripts : Type 0
@@ -27,7 +27,7 @@ pub record HasLiedScript (S : Script) (h : Hidden) (deeds : List Deed) : Type 0 
   pub same_shape : script.shape ≡ S.shape
   pub same_keys : script.keys ≡ S.keys
   pub same_roles : script.roles ≡ S.roles
-  pub tells : (b : WordBook) → Tells script (lied script h b deeds)
+  pub tells : (b : WordBook) → HasWhatWasSaid script (lied script h b deeds)
 
 -- Whatever is done to a group whose servers lie, there is such a script.
 abbrev pub LiedHaveScripts : Type 0

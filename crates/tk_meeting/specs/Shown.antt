@@ -13,9 +13,9 @@ use Rattle.tk_member.specs.declared.fault.Fault.{Fault}
 use Rattle.tk_member.specs.declared.word.HostWord.{HostWord}
 use Rattle.tk_member.specs.declared.word.HostWord.TheVariants.{Say, Tick, Ahead, Has}
 use Rattle.tk_member.specs.Words.{word_in}
-use Rattle.tk_member.specs.Epochs.{Telling}
+use Rattle.tk_member.specs.Epochs.{ToldMarks}
 use Rattle.tk_member.specs.Members.{MemberState}
-use Rattle.tk_member.specs.Acting.{Turned}
+use Rattle.tk_member.specs.Acting.{ActedMember}
 use Rattle.tk_member.specs.Steps.{step}
 use Rattle.tk_member.specs.Courses.{after_packets}
 
@@ -49,7 +49,7 @@ pub record Stand : Type 0 where
   pub asked : ℕ
   pub ticks : ℕ
   pub ahead : ℕ
-  pub told : List Telling
+  pub told : List ToldMarks
   pub read : Option (ℕ × ℕ)
   pub replies : List (Option Face)
 
@@ -96,12 +96,12 @@ packet_shown shape p =
     cond (p.peer == 0) (OfHost (word_shown (word_in p.bytes))) (OfServer p.peer (frame_shown shape p.bytes))
 
 -- how it stands, or why it ended
-abbrev pub outcome : Result Turned Fault → Result Stand Fault
+abbrev pub outcome : Result ActedMember Fault → Result Stand Fault
 outcome (Ok t) = Ok (stand t.member)
 outcome (Err fault) = Err fault
 
 -- how it stands after packets, if it takes more
-abbrev pub stand_after : Option Turned → Option Stand
+abbrev pub stand_after : Option ActedMember → Option Stand
 stand_after None = None
 stand_after (Some t) = Some (stand t.member)
 

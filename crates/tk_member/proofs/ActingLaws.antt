@@ -10,12 +10,12 @@ use Rattle.tk_client.specs.Asked.{asked}
 use Rattle.tk_client.specs.Client.{ClientState, target_over, opened}
 use Rattle.tk_packets.specs.Packets.{PacketView}
 use Rattle.tk_member.specs.Members.{MemberState}
-use Rattle.tk_member.specs.Acting.{Turned, unmoved, behind, followed_by, write_packets, after_turn, wrote}
+use Rattle.tk_member.specs.Acting.{ActedMember, unmoved, behind, followed_by, write_packets, after_turn, wrote}
 use Rattle.tk_member.specs.Epochs.{filter_of, marks_at}
 use Rattle.tk_member.specs.Acting.{packets_from, epoch_due, goes_ahead, goes_by_ticks, may_ask, asks, asks_if_due, acts}
 
 -- packets in front of packets
-pub behind-behind : (front packets : List PacketView) (t : Turned) →
+pub behind-behind : (front packets : List PacketView) (t : ActedMember) →
     behind front (behind packets t) ≡ behind (front ++ packets) t
 behind-behind front packets t =
     ap (λ (ps : List PacketView). record { member = t.member; packets = ps })
@@ -44,16 +44,16 @@ wrote-none w front n i m past =
     ap (λ (k : ℕ). behind front (wrote w k m)) none ∙ behind-none front m
 
 -- acting further
-pub followed-behind : (front : List PacketView) (t : Turned) (act : MemberState → Turned) →
+pub followed-behind : (front : List PacketView) (t : ActedMember) (act : MemberState → ActedMember) →
     behind front (followed_by t act) ≡ behind (behind front t).packets (act t.member)
 followed-behind front t act = behind-behind front t.packets (act t.member)
 
 -- acting further from where it stands
-acts-on : (front packets : List PacketView) (m : MemberState) (t : Turned) (act : MemberState → Turned) →
+acts-on : (front packets : List PacketView) (m : MemberState) (t : ActedMember) (act : MemberState → ActedMember) →
     behind front t ≡ record { member = m; packets = packets } →
     behind front (followed_by t act) ≡ behind packets (act m)
 acts-on front packets m t act is =
-    followed-behind front t act ∙ ap (λ (u : Turned). behind u.packets (act u.member)) is
+    followed-behind front t act ∙ ap (λ (u : ActedMember). behind u.packets (act u.member)) is
 
 -- all its writes are behind it, and it may have to ask
 pub acts-writes : (b : WordBook) (front ahead ticked : List PacketView) (m one two : MemberState) →
@@ -84,7 +84,7 @@ acts-none b front m due =
 
 -- ---- a read
 
-abbrev pub turned : MemberState → List PacketView → Turned
+abbrev pub turned : MemberState → List PacketView → ActedMember
 turned m packets = record { member = m; packets = packets }
 
 pub turned-is : (m n : MemberState) (packets sent : List PacketView) → n ≡ m → sent ≡ packets →

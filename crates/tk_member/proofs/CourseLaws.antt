@@ -15,7 +15,7 @@ use Rattle.tk_member.specs.declared.fault.Fault.{Fault}
 use Rattle.tk_member.specs.declared.fault.Fault.TheVariants.{Memory, Read, Write, Cut, Long, Setup}
 use Rattle.tk_member.specs.declared.fault.Fault.TheVariants.{Peer, Differ, Refused, Older}
 use Rattle.tk_member.specs.Members.{MemberState, is_over}
-use Rattle.tk_member.specs.Acting.{Turned, unmoved, behind}
+use Rattle.tk_member.specs.Acting.{ActedMember, unmoved, behind}
 use Rattle.tk_member.specs.Steps.{step}
 use Rattle.tk_member.specs.Courses.{Told, IsShort, behind_if, after_packet, after_packets, Takes, IsCourse}
 use Rattle.tk_member.specs.Courses.{EndsBetween, EndsAt, EndsWriting, EndsFor, TookOne}
@@ -26,18 +26,18 @@ use Rattle.tk_member.proofs.Sequences.{front-behind}
 
 -- ---- packets
 
-fold-append : (b : WordBook) (o : Option Turned) (ps qs : List PacketView) →
+fold-append : (b : WordBook) (o : Option ActedMember) (ps qs : List PacketView) →
     fold_l (after_packet b) o (ps ++ qs)
     ≡ fold_l (after_packet b) (fold_l (after_packet b) o ps) qs
 fold-append b o [] qs = refl
 fold-append b o (p ∷ ps) qs = fold-append b (after_packet b o p) ps qs
 
-step-behind : (front : List PacketView) (u : Turned) (r : Result Turned Fault) →
+step-behind : (front : List PacketView) (u : ActedMember) (r : Result ActedMember Fault) →
     behind_if (behind front u) r ≡ option_map (behind front) (behind_if u r)
 step-behind front u (Ok t) = ap Some (sym (behind-behind front u.packets t))
 step-behind front u (Err e) = refl
 
-one-behind : (b : WordBook) (front : List PacketView) (o : Option Turned) (p : PacketView) →
+one-behind : (b : WordBook) (front : List PacketView) (o : Option ActedMember) (p : PacketView) →
     after_packet b (option_map (behind front) o) p ≡ option_map (behind front) (after_packet b o p)
 one-behind b front None p = refl
 one-behind b front (Some u) p =
@@ -48,7 +48,7 @@ one-behind b front (Some u) p =
       | false ↦ step-behind front u (step b u.member p)
     ]
 
-fold-behind : (b : WordBook) (front : List PacketView) (o : Option Turned) (ps : List PacketView) →
+fold-behind : (b : WordBook) (front : List PacketView) (o : Option ActedMember) (ps : List PacketView) →
     fold_l (after_packet b) (option_map (behind front) o) ps
     ≡ option_map (behind front) (fold_l (after_packet b) o ps)
 fold-behind b front o [] = refl
@@ -57,7 +57,7 @@ fold-behind b front o (p ∷ ps) =
     ∙ fold-behind b front (after_packet b o p) ps
 
 -- packets behind packets
-both-stand : (b : WordBook) (m : MemberState) (t u : Turned) (ps qs : List PacketView) →
+both-stand : (b : WordBook) (m : MemberState) (t u : ActedMember) (ps qs : List PacketView) →
     after_packets b m ps ≡ Some t → after_packets b t.member qs ≡ Some u →
     after_packets b m (ps ++ qs) ≡ Some (behind t.packets u)
 unfolding after_packets
@@ -68,7 +68,7 @@ both-stand b m t u ps qs first second =
     ∙ fold-behind b t.packets (Some (unmoved t.member)) qs
     ∙ ap (option_map (behind t.packets)) second
 
-pub takes-both : (b : WordBook) (m : MemberState) (t u : Turned) (left middle rest : Told) →
+pub takes-both : (b : WordBook) (m : MemberState) (t u : ActedMember) (left middle rest : Told) →
     Takes b m t left middle → Takes b t.member u middle rest →
     Takes b m (behind t.packets u) left rest
 takes-both b m t u left middle rest first second =
@@ -89,14 +89,14 @@ fold-none : (b : WordBook) (ps : List PacketView) → fold_l (after_packet b) No
 fold-none b [] = refl
 fold-none b (p ∷ ps) = fold-none b ps
 
-none-stands : (b : WordBook) (ps : List PacketView) (t : Turned) → fold_l (after_packet b) None ps ≡ Some t → ⊥
+none-stands : (b : WordBook) (ps : List PacketView) (t : ActedMember) → fold_l (after_packet b) None ps ≡ Some t → ⊥
 none-stands b ps t is = let none : None ≡ Some t = sym (fold-none b ps) ∙ is in absurd (cc (none))
 
-stood-after : (b : WordBook) (u t : Turned) (ps : List PacketView) → fold_l (after_packet b) (Some u) ps ≡ Some t →
+stood-after : (b : WordBook) (u t : ActedMember) (ps : List PacketView) → fold_l (after_packet b) (Some u) ps ≡ Some t →
     state_after (member_next b) u.member ps ≡ t.member
-stood-after b u t [] is = let same : u ≡ t = cc (is) in ap (λ (x : Turned). x.member) same
+stood-after b u t [] is = let same : u ≡ t = cc (is) in ap (λ (x : ActedMember). x.member) same
 stood-after b u t (p ∷ ps) is =
-    let by : (r : Result Turned Fault) → fold_l (after_packet b) (behind_if u r) ps ≡ Some t →
+    let by : (r : Result ActedMember Fault) → fold_l (after_packet b) (behind_if u r) ps ≡ Some t →
     state_after (member_next b) (stood_by u.member r) ps ≡ t.member =
     λ r. elim r as (λ x. fold_l (after_packet b) (behind_if u x) ps ≡ Some t →
     state_after (member_next b) (stood_by u.member x) ps ≡ t.member) [
@@ -114,7 +114,7 @@ stood-after b u t (p ∷ ps) is =
     in
     go (is_over u.member) is
 
-exchanged-both : (b : WordBook) (m : MemberState) (t : Turned) (ps qs : List PacketView) →
+exchanged-both : (b : WordBook) (m : MemberState) (t : ActedMember) (ps qs : List PacketView) →
     after_packets b m ps ≡ Some t → exchanged b m (ps ++ qs) ≡ exchanged b m ps ++ exchanged b t.member qs
 unfolding after_packets exchanged
 exchanged-both b m t ps qs stands =
@@ -122,7 +122,7 @@ exchanged-both b m t ps qs stands =
     ∙ ap (λ n. exchanges (member_next b) (sends_next b) m ps ++ exchanges (member_next b) (sends_next b) n qs)
     (stood-after b (unmoved m) t ps stands)
 
-pub course-both : (b : WordBook) (m : MemberState) (t u : Turned) (left middle rest : Told) (gone h new : Gone) →
+pub course-both : (b : WordBook) (m : MemberState) (t u : ActedMember) (left middle rest : Told) (gone h new : Gone) →
     IsCourse b m t left middle gone h → IsCourse b t.member u middle rest h new →
     IsCourse b m (behind t.packets u) left rest gone new
 unfolding takes-both
@@ -195,7 +195,7 @@ course-one b m n left rest gone new goes one =
 
 -- ---- ends
 
-between-behind : (Fails : Told → Told → Type 0) (b : WordBook) (m : MemberState) (t : Turned)
+between-behind : (Fails : Told → Told → Type 0) (b : WordBook) (m : MemberState) (t : ActedMember)
     (left middle rest : Told) (gone h new : Gone) → IsCourse b m t left middle gone h →
     EndsBetween Fails b t.member middle rest h new → EndsBetween Fails b m left rest gone new
 between-behind Fails b m t left middle rest gone h new course ends =
@@ -208,7 +208,7 @@ between-behind Fails b m t left middle rest gone h new course ends =
       fails = ends.fails;
     }
 
-at-behind : (fault : Fault) (b : WordBook) (m : MemberState) (t : Turned)
+at-behind : (fault : Fault) (b : WordBook) (m : MemberState) (t : ActedMember)
     (left middle rest : Told) (gone h new : Gone) → IsCourse b m t left middle gone h →
     EndsAt fault b t.member middle rest h new → EndsAt fault b m left rest gone new
 at-behind fault b m t left middle rest gone h new course ends =
@@ -226,7 +226,7 @@ at-behind fault b m t left middle rest gone h new course ends =
       ends = ends.ends;
     }
 
-writing-behind : (b : WordBook) (m : MemberState) (t : Turned)
+writing-behind : (b : WordBook) (m : MemberState) (t : ActedMember)
     (left middle rest : Told) (gone h new : Gone) → IsCourse b m t left middle gone h →
     EndsWriting b t.member middle rest h new → EndsWriting b m left rest gone new
 unfolding takes-both
@@ -264,7 +264,7 @@ writing-behind b m t left middle rest gone h new course ends =
     }
 
 -- a member that ends later ends
-pub ends-behind : (fault : Fault) (b : WordBook) (m : MemberState) (t : Turned)
+pub ends-behind : (fault : Fault) (b : WordBook) (m : MemberState) (t : ActedMember)
     (left middle rest : Told) (gone h new : Gone) → IsCourse b m t left middle gone h →
     EndsFor fault b t.member middle rest h new → EndsFor fault b m left rest gone new
 ends-behind Memory b m t left middle rest gone h new course ends =
@@ -307,7 +307,7 @@ taken-next count b m k n left middle rest gone h new taken goes one =
     subst (λ (x : MemberState). TookOne b x n middle rest h new) taken.is one
     in
     let on : is_over t.member ≡ false = ap is_over (sym taken.is) ∙ goes in
-    let u : Turned = record { member = n; packets = next.sent } in
+    let u : ActedMember = record { member = n; packets = next.sent } in
     record {
       last = behind t.packets u;
       course =

@@ -17,12 +17,12 @@ use Rattle.tk_packets.specs.Frames.{marks_len}
 use Rattle.tk_member.specs.Epochs.{Marks, is_epoch_frame}
 use Rattle.tk_packets.proofs.Offers.{marks-whole}
 use Rattle.std.proofs.lemmas.List.{take_rest}
-use Rattle.tk_member.specs.Keeping.{AreTold, kept_with}
+use Rattle.tk_member.specs.Keeping.{AreToldByServers, kept_with}
 
 -- the marks are there already
 told-again : (shape : Shape) (last : List ℕ) (none : Marks) (marks : List Marks) (i n : ℕ) →
-    AreTold shape last none marks → i < length last → n ≡ get_or last i 0 → n < length marks →
-    AreTold shape (set last i (n + 1)) none marks
+    AreToldByServers shape last none marks → i < length last → n ≡ get_or last i 0 → n < length marks →
+    AreToldByServers shape (set last i (n + 1)) none marks
 told-again shape last none marks i n are low here near =
     let longest = are.longest in
     record {
@@ -49,8 +49,8 @@ told-again shape last none marks i n are low here near =
 
 -- they come behind all others
 told-next : (shape : Shape) (last : List ℕ) (none : Marks) (marks : List Marks) (i n : ℕ) (m : Marks) →
-    AreTold shape last none marks → i < length last → n ≡ length marks → n < shape.phases →
-    8 * length m ≡ shape.filter_bits → AreTold shape (set last i (n + 1)) none (marks ++ m ∷ [])
+    AreToldByServers shape last none marks → i < length last → n ≡ length marks → n < shape.phases →
+    8 * length m ≡ shape.filter_bits → AreToldByServers shape (set last i (n + 1)) none (marks ++ m ∷ [])
 told-next shape last none marks i n m are low all few long =
     let longer : length (marks ++ m ∷ []) ≡ length marks + 1 =
     omega (arith, length-append marks (m ∷ []))
@@ -84,9 +84,9 @@ same-kept marks kept false is = ap (kept_or marks) is
 
 -- what is kept is told
 pub still-told : (shape : Shape) (last : List ℕ) (none : Marks) (marks : List Marks) (i n : ℕ)
-    (m : Marks) (kept : List Marks) → AreTold shape last none marks → i < length last →
+    (m : Marks) (kept : List Marks) → AreToldByServers shape last none marks → i < length last →
     n ≡ get_or last i 0 → n < shape.phases → 8 * length m ≡ shape.filter_bits →
-    kept_with marks n m ≡ Ok kept → AreTold shape (set last i (n + 1)) none kept
+    kept_with marks n m ≡ Ok kept → AreToldByServers shape (set last i (n + 1)) none kept
 still-told shape last none marks i n m kept are low here few long is =
     let next = Ok (marks ++ m ∷ []) in
     let same = bytes_eq (get_or marks n []) m in
@@ -97,7 +97,7 @@ still-told shape last none marks i n m kept are low here few long is =
           let old_is : old ≡ Ok kept =
           ap (λ b. cond b old next) (sym (lt-ltb n (length marks) near)) ∙ is
           in
-          subst (λ (k : List Marks). AreTold shape (set last i (n + 1)) none k)
+          subst (λ (k : List Marks). AreToldByServers shape (set last i (n + 1)) none k)
           (same-kept marks kept same old_is)
           (told-again shape last none marks i n are low here near)
       | inr far ↦
@@ -105,7 +105,7 @@ still-told shape last none marks i n m kept are low here few long is =
           let new_is : next ≡ Ok kept =
           ap (λ b. cond b old next) (sym (le-ltb n (length marks) far)) ∙ is
           in
-          subst (λ (k : List Marks). AreTold shape (set last i (n + 1)) none k)
+          subst (λ (k : List Marks). AreToldByServers shape (set last i (n + 1)) none k)
           (ap (kept_or marks) new_is)
           (told-next shape last none marks i n m are low all few long)
     ]

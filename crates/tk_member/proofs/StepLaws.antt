@@ -19,9 +19,9 @@ use Rattle.tk_member.specs.declared.fault.Fault.TheVariants.{Peer, Differ, Refus
 use Rattle.tk_member.specs.declared.word.HostWord.{HostWord}
 use Rattle.tk_member.specs.declared.word.HostWord.TheVariants.{Say, Tick, Ahead, Has}
 use Rattle.tk_member.specs.Words.{word_in}
-use Rattle.tk_member.specs.Epochs.{Telling, told_by, told_behind, agrees, is_epoch_frame, with_epoch}
+use Rattle.tk_member.specs.Epochs.{ToldMarks, told_by, told_behind, agrees, is_epoch_frame, with_epoch}
 use Rattle.tk_member.specs.Members.{MemberState}
-use Rattle.tk_member.specs.Acting.{Turned}
+use Rattle.tk_member.specs.Acting.{ActedMember}
 use Rattle.tk_member.specs.Steps.{tells_and_acts, said, heard, all_of, settled, settled_by, with_reply, replied}
 use Rattle.tk_member.specs.Steps.{told_epoch, served, step}
 
@@ -46,7 +46,7 @@ either : {X : Type 0} (b : Bool) (x y : Result X Fault) → EndsByPacket x → E
 either true x y one other = one
 either false x y one other = other
 
-epoch-ends : (shape : Shape) (told : List Telling) (j : ℕ) (frame : List ℕ) →
+epoch-ends : (shape : Shape) (told : List ToldMarks) (j : ℕ) (frame : List ℕ) →
     EndsByPacket (with_epoch shape told j frame)
 epoch-ends shape told j frame =
     let before = told_by told j in
@@ -54,11 +54,11 @@ epoch-ends shape told j frame =
     let marks = drop 6 frame in
     let next = slice_set told (j - 1) (before ++ marks ∷ []) in
     let same = agrees (first_some (told_behind n) told) marks in
-    either {X = List Telling} (nat_lt n shape.phases && is_epoch_frame shape (n + 1) frame)
+    either {X = List ToldMarks} (nat_lt n shape.phases && is_epoch_frame shape (n + 1) frame)
     (cond same (Ok next) (Err Differ)) (Err Peer)
-    (either {X = List Telling} same (Ok next) (Err Differ) (tt {0}) (tt {0})) (tt {0})
+    (either {X = List ToldMarks} same (Ok next) (Err Differ) (tt {0}) (tt {0})) (tt {0})
 
-told-ends : (b : WordBook) (m : MemberState) (r : Result (List Telling) Fault) → EndsByPacket r →
+told-ends : (b : WordBook) (m : MemberState) (r : Result (List ToldMarks) Fault) → EndsByPacket r →
     EndsByPacket (told_epoch b m r)
 told-ends b m (Ok told) ends = tt
 told-ends b m (Err e) ends = ends
@@ -76,7 +76,7 @@ heard-ends b m (Some (Say log text)) =
 heard-ends b m (Some Tick) = tt
 heard-ends b m (Some (Ahead turns)) = tt
 heard-ends b m (Some (Has packets)) =
-    either {X = Turned} (nat_lt (m.written + m.asked) packets) (Err Older) (tells_and_acts b [] m)
+    either {X = ActedMember} (nat_lt (m.written + m.asked) packets) (Err Older) (tells_and_acts b [] m)
     (tt {0}) (tt {0})
 
 settled-ends : (b : WordBook) (m : MemberState) (replies : List (List ℕ)) (e : Option TakeError) →
@@ -93,7 +93,7 @@ replied-ends : (b : WordBook) (m : MemberState) (j : ℕ) (reply : List ℕ) →
     EndsByPacket (replied b m j reply)
 replied-ends b m j reply =
     let now = with_reply m j reply in
-    either {X = Turned} (is_none m.client.read || is_some (slice_index_or m.replies (j - 1) None))
+    either {X = ActedMember} (is_none m.client.read || is_some (slice_index_or m.replies (j - 1) None))
     (Err Peer) (settled_by b now (all_of now.replies)) (tt {0})
     (settled_by-ends b now (all_of now.replies))
 
@@ -103,20 +103,20 @@ served-ends b m j frame =
     let kind = slice_index frame 0 in
     let epoch = told_epoch b m (with_epoch m.client.shape m.told j frame) in
     let others = cond (kind == 0x0c) (Err Refused) (Err Peer) in
-    either {X = Turned} (kind == 3) (replied b m j frame) (cond (kind == 0x0b) epoch others)
+    either {X = ActedMember} (kind == 3) (replied b m j frame) (cond (kind == 0x0b) epoch others)
     (replied-ends b m j frame)
-    (either {X = Turned} (kind == 0x0b) epoch others
+    (either {X = ActedMember} (kind == 0x0b) epoch others
     (told-ends b m (with_epoch m.client.shape m.told j frame)
     (epoch-ends m.client.shape m.told j frame))
-    (either {X = Turned} (kind == 0x0c) (Err Refused) (Err Peer) (tt {0}) (tt {0})))
+    (either {X = ActedMember} (kind == 0x0c) (Err Refused) (Err Peer) (tt {0}) (tt {0})))
 
 pub step-ends : (b : WordBook) (m : MemberState) (p : PacketView) → EndsByPacket (step b m p)
 unfolding step
 step-ends b m p =
     let near = nat_le p.peer m.client.shape.servers in
-    either {X = Turned} (p.peer == 0) (heard b m (word_in p.bytes))
+    either {X = ActedMember} (p.peer == 0) (heard b m (word_in p.bytes))
     (cond near (served b m p.peer p.bytes) (Err Peer)) (heard-ends b m (word_in p.bytes))
-    (either {X = Turned} near (served b m p.peer p.bytes) (Err Peer)
+    (either {X = ActedMember} near (served b m p.peer p.bytes) (Err Peer)
     (served-ends b m p.peer p.bytes) (tt {0}))
 
 -- ---- whom a packet is of

@@ -16,9 +16,9 @@ use Rattle.tk_shape.specs.declared.shape.Shape.{Shape}
 use Rattle.tk_frames.specs.Lists.{first_some}
 use Rattle.tk_member.specs.declared.fault.Fault.{Fault}
 use Rattle.tk_member.specs.declared.fault.Fault.TheVariants.{Peer, Differ}
-use Rattle.tk_member.specs.Epochs.{Marks, Telling, least_of, epochs_in, known, marks_at}
+use Rattle.tk_member.specs.Epochs.{Marks, ToldMarks, least_of, epochs_in, known, marks_at}
 use Rattle.tk_member.specs.Epochs.{is_epoch_frame, told_behind, agrees, with_epoch}
-use Rattle.tk_member.specs.Keeping.{told_so_far, AreTold, IsTold, kept_with}
+use Rattle.tk_member.specs.Keeping.{told_so_far, AreToldByServers, IsToldByOne, kept_with}
 
 -- ---- how far each server told
 
@@ -78,24 +78,24 @@ get-past marks n i low = slice_get_past (take n marks) i (omega (arith, length-t
 
 -- past all that were told
 first-none : (marks : List Marks) (last : List ℕ) (i : ℕ) → length marks ≤ i →
-    first_some (λ (t : Telling). slice_get t i) (told_so_far marks last) ≡ None
+    first_some (λ (t : ToldMarks). slice_get t i) (told_so_far marks last) ≡ None
 first-none marks [] i past = refl
 first-none marks (n ∷ last) i past =
-    ap (λ o. option_or o (first_some (λ (t : Telling). slice_get t i) (told_so_far marks last)))
+    ap (λ o. option_or o (first_some (λ (t : ToldMarks). slice_get t i) (told_so_far marks last)))
     (slice_get_past (take n marks) i (omega (arith, length-take n marks, past)))
     ∙ first-none marks last i past
 
 first-here : (marks : List Marks) (n : ℕ) (last : List ℕ) (i : ℕ) (m : Marks) →
     slice_get marks i ≡ Some m → i < n →
-    first_some (λ (t : Telling). slice_get t i) (told_so_far marks (n ∷ last)) ≡ Some m
+    first_some (λ (t : ToldMarks). slice_get t i) (told_so_far marks (n ∷ last)) ≡ Some m
 first-here marks n last i m there low =
-    ap (λ o. option_or o (first_some (λ (t : Telling). slice_get t i) (told_so_far marks last)))
+    ap (λ o. option_or o (first_some (λ (t : ToldMarks). slice_get t i) (told_so_far marks last)))
     (get-take marks n i low ∙ there)
 
 -- one at least told it
 first-told : (marks : List Marks) (last : List ℕ) (i k : ℕ) (m : Marks) → slice_get marks i ≡ Some m →
     k < length last → i < get_or last k 0 →
-    first_some (λ (t : Telling). slice_get t i) (told_so_far marks last) ≡ Some m
+    first_some (λ (t : ToldMarks). slice_get t i) (told_so_far marks last) ≡ Some m
 first-told marks [] i k m there low at = absurd (omega (arith, low))
 first-told marks (n ∷ last) i zero m there low at = first-here marks n last i m there at
 first-told marks (n ∷ last) i (suc k) m there low at =
@@ -103,7 +103,7 @@ first-told marks (n ∷ last) i (suc k) m there low at =
     elim (cases_lt i n) [
       | inl near ↦ first-here marks n last i m there near
       | inr far ↦
-          ap (λ o. option_or o (first_some (λ (t : Telling). slice_get t i) (told_so_far marks last)))
+          ap (λ o. option_or o (first_some (λ (t : ToldMarks). slice_get t i) (told_so_far marks last)))
           (get-past marks n i far)
           ∙ later
     ]
@@ -141,7 +141,7 @@ advances-told marks last j m low same =
     record {
       told =
           ap (λ (x : Marks). slice_set (told_so_far marks last) j (take n marks ++ x ∷ [])) (sym same)
-          ∙ ap (λ (t : Telling). slice_set (told_so_far marks last) j t) (sym (take_more marks n [] low))
+          ∙ ap (λ (t : ToldMarks). slice_set (told_so_far marks last) j t) (sym (take_more marks n [] low))
           ∙ sym (map-set (λ (k : ℕ). take k marks) last j (n + 1));
     }
 
@@ -159,8 +159,8 @@ advances-new marks last j m within all =
     record {
       told =
           ap (λ (t : List Marks). slice_set (told_so_far marks last) j (t ++ m ∷ [])) front
-          ∙ ap (λ (t : Telling). slice_set (told_so_far marks last) j t) (sym whole)
-          ∙ ap (λ (ts : List Telling). slice_set ts j (take (n + 1) (marks ++ m ∷ []))) (sym longer)
+          ∙ ap (λ (t : ToldMarks). slice_set (told_so_far marks last) j t) (sym whole)
+          ∙ ap (λ (ts : List ToldMarks). slice_set ts j (take (n + 1) (marks ++ m ∷ []))) (sym longer)
           ∙ sym (map-set (λ (k : ℕ). take k (marks ++ m ∷ [])) last j (n + 1));
     }
 
@@ -168,7 +168,7 @@ advances-new marks last j m within all =
 
 -- what becomes of the marks
 inner-is : (marks : List Marks) (last : List ℕ) (j : ℕ) (m : Marks) →
-    All (λ n. n ≤ length marks) last → IsTold last (length marks) → j < length last →
+    All (λ n. n ≤ length marks) last → IsToldByOne last (length marks) → j < length last →
     let n = get_or last j 0 in
     let told = told_so_far marks last in
     cond (agrees (first_some (told_behind n) told) m)
@@ -209,7 +209,7 @@ inner-is marks last j m within longest low =
 
 -- a server tells one epoch more, or ends it, as it is kept
 pub epoch-is : (shape : Shape) (marks : List Marks) (last : List ℕ) (j : ℕ) (frame : List ℕ) →
-    All (λ n. n ≤ length marks) last → IsTold last (length marks) → 1 ≤ j → j ≤ length last →
+    All (λ n. n ≤ length marks) last → IsToldByOne last (length marks) → 1 ≤ j → j ≤ length last →
     let n = get_or last (j - 1) 0 in
     with_epoch shape (told_so_far marks last) j frame
     ≡ cond (nat_lt n shape.phases && is_epoch_frame shape (n + 1) frame)
@@ -222,16 +222,16 @@ epoch-is shape marks last j frame within longest some most =
     let told = told_so_far marks last in
     let m = drop 6 frame in
     let fits : n ≤ length marks = within i 0 low in
-    let body = λ (before : Telling) (k : ℕ).
+    let body = λ (before : ToldMarks) (k : ℕ).
     cond (nat_lt k shape.phases && is_epoch_frame shape (k + 1) frame)
     (cond (agrees (first_some (told_behind k) told) m)
     (Ok (slice_set told i (before ++ m ∷ []))) (Err Differ))
     (Err Peer)
     in
     let long : length (take n marks) ≡ n = omega (arith, length-take n marks, fits) in
-    ap (λ (t : Telling). body t (length t)) (told-before marks last i low)
+    ap (λ (t : ToldMarks). body t (length t)) (told-before marks last i low)
     ∙ ap (body (take n marks)) long
-    ∙ ap (λ (r : Result (List Telling) Fault).
+    ∙ ap (λ (r : Result (List ToldMarks) Fault).
     cond (nat_lt n shape.phases && is_epoch_frame shape (n + 1) frame) r (Err Peer))
     (inner-is marks last i m within longest low)
 
@@ -241,14 +241,14 @@ pub none-told : (n : ℕ) → told_so_far [] (replicate n 0) ≡ replicate n []
 none-told zero = refl
 none-told (suc n) = ap (λ ts. [] ∷ ts) (none-told n)
 
-abbrev body_of : Shape → List Marks → List ℕ → ℕ → List ℕ → ℕ → Result (List Telling) Fault
+abbrev body_of : Shape → List Marks → List ℕ → ℕ → List ℕ → ℕ → Result (List ToldMarks) Fault
 body_of shape marks last i frame n =
     cond (nat_lt n shape.phases && is_epoch_frame shape (n + 1) frame)
     (map_ok (λ kept. told_so_far kept (set last i (n + 1))) (kept_with marks n (drop 6 frame)))
     (Err Peer)
 
 pub epoch-body : (shape : Shape) (last : List ℕ) (none : Marks) (marks : List Marks) (j : ℕ)
-    (frame : List ℕ) (n : ℕ) → AreTold shape last none marks → 1 ≤ j → j ≤ shape.servers →
+    (frame : List ℕ) (n : ℕ) → AreToldByServers shape last none marks → 1 ≤ j → j ≤ shape.servers →
     n ≡ get_or last (j - 1) n →
     with_epoch shape (told_so_far marks last) j frame ≡ body_of shape marks last (j - 1) frame n
 epoch-body shape last none marks j frame n are some most here =

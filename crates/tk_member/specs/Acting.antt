@@ -16,20 +16,20 @@ use Rattle.tk_member.specs.Epochs.{filter_of, marks_at}
 use Rattle.tk_member.specs.Members.{MemberState, known_to}
 
 -- the member after it acted, and the packets that it sent
-pub record Turned : Type 0 where
+pub record ActedMember : Type 0 where
   pub member : MemberState
   pub packets : List PacketView
 
 -- nothing was sent
-abbrev pub unmoved : MemberState → Turned
+abbrev pub unmoved : MemberState → ActedMember
 unmoved m = record { member = m; packets = [] }
 
 -- the packets come behind these
-abbrev pub behind : List PacketView → Turned → Turned
+abbrev pub behind : List PacketView → ActedMember → ActedMember
 behind packets t = record { member = t.member; packets = packets ++ t.packets }
 
 -- and then it acts so
-abbrev pub followed_by : Turned → (MemberState → Turned) → Turned
+abbrev pub followed_by : ActedMember → (MemberState → ActedMember) → ActedMember
 followed_by t act = behind t.packets (act t.member)
 
 -- a frame for each server, where the servers are counted from this one on
@@ -57,7 +57,7 @@ after_turn m =
     }
 
 -- it writes in so many turns
-unfoldable pub wrote : BookWords → ℕ → MemberState → Turned
+unfoldable pub wrote : BookWords → ℕ → MemberState → ActedMember
 wrote w zero m = unmoved m
 wrote w (suc n) m = behind (write_packets w m) (wrote w n (after_turn m))
 
@@ -65,7 +65,7 @@ wrote w (suc n) m = behind (write_packets w m) (wrote w n (after_turn m))
 abbrev pub ahead_due : MemberState → ℕ
 ahead_due m = min m.ahead (turn_count m.client.shape - m.written)
 
-abbrev pub goes_ahead : BookWords → MemberState → Turned
+abbrev pub goes_ahead : BookWords → MemberState → ActedMember
 goes_ahead w m = wrote w (ahead_due m) (record m { ahead = m.ahead - ahead_due m })
 
 -- how many turns have an epoch to read that is known
@@ -78,7 +78,7 @@ turns_known m =
 abbrev pub ticks_due : MemberState → ℕ
 ticks_due m = min m.ticks (turns_known m - m.written)
 
-abbrev pub goes_by_ticks : BookWords → MemberState → Turned
+abbrev pub goes_by_ticks : BookWords → MemberState → ActedMember
 goes_by_ticks w m = wrote w (ticks_due m) (record m { ticks = m.ticks - ticks_due m })
 
 -- ---- reads
@@ -90,7 +90,7 @@ may_ask m =
     && nat_le (epoch_due m.client.shape m.asked) (known_to m)
 
 -- its read of the next turn, to each server its own frame
-abbrev pub asks : WordBook → MemberState → Turned
+abbrev pub asks : WordBook → MemberState → ActedMember
 asks b m =
     let shape = m.client.shape in
     let epoch = epoch_due shape m.asked in
@@ -102,13 +102,13 @@ asks b m =
       packets = packets_from 1 (map read_frame frames);
     }
 
-abbrev pub asks_if_due : WordBook → MemberState → Turned
+abbrev pub asks_if_due : WordBook → MemberState → ActedMember
 asks_if_due b m = cond (may_ask m) (asks b m) (unmoved m)
 
 -- ---- both
 
 -- first all writes that are due, and then a read if one is due
-unfoldable pub acts : WordBook → MemberState → Turned
+unfoldable pub acts : WordBook → MemberState → ActedMember
 acts b m =
     let words = words_of m.client.shape b in
     followed_by (followed_by (goes_ahead words m) (goes_by_ticks words)) (asks_if_due b)

@@ -13,7 +13,7 @@ use Rattle.tk_member.specs.declared.fault.Fault.{Fault}
 use Rattle.tk_member.specs.declared.fault.Fault.TheVariants.{Memory, Read, Write, Cut, Long, Setup}
 use Rattle.tk_member.specs.declared.fault.Fault.TheVariants.{Peer, Differ, Refused, Older}
 use Rattle.tk_member.specs.Members.{MemberState, is_over}
-use Rattle.tk_member.specs.Acting.{Turned, unmoved, behind}
+use Rattle.tk_member.specs.Acting.{ActedMember, unmoved, behind}
 use Rattle.tk_member.specs.Steps.{step}
 use Rattle.tk_member.specs.SetUp.{IsSetUp}
 
@@ -30,25 +30,25 @@ IsShort p = length p.bytes ≤ most_later
 
 -- ---- packets one after the other
 
-abbrev pub behind_if : Turned → Result Turned Fault → Option Turned
+abbrev pub behind_if : ActedMember → Result ActedMember Fault → Option ActedMember
 behind_if t (Ok u) = Some (behind t.packets u)
 behind_if t (Err fault) = None
 
 -- after one packet more; none where the run is over, or where the packet ends it
-abbrev pub after_packet : WordBook → Option Turned → PacketView → Option Turned
+abbrev pub after_packet : WordBook → Option ActedMember → PacketView → Option ActedMember
 after_packet b None p = None
 after_packet b (Some t) p = cond (is_over t.member) None (behind_if t (step b t.member p))
 
 -- how a member stands after packets, and all that it sends for them; none where it takes no more
-unfoldable pub after_packets : WordBook → MemberState → List PacketView → Option Turned
+unfoldable pub after_packets : WordBook → MemberState → List PacketView → Option ActedMember
 after_packets b m packets = fold_l (after_packet b) (Some (unmoved m)) packets
 
 -- How it stands after a packet, and what it sends for it; one that ends it changes nothing.
-abbrev pub stood_by : MemberState → Result Turned Fault → MemberState
+abbrev pub stood_by : MemberState → Result ActedMember Fault → MemberState
 stood_by m (Ok t) = t.member
 stood_by m (Err fault) = m
 
-abbrev pub sent_by : Result Turned Fault → List PacketView
+abbrev pub sent_by : Result ActedMember Fault → List PacketView
 sent_by (Ok t) = t.packets
 sent_by (Err fault) = []
 
@@ -63,14 +63,14 @@ unfoldable pub exchanged : WordBook → MemberState → List PacketView → List
 exchanged b m packets = exchanges (member_next b) (sends_next b) m packets
 
 -- packets were taken, after which the member stands so
-pub record Takes (b : WordBook) (m : MemberState) (t : Turned) (left middle : Told) : Type 0 where
+pub record Takes (b : WordBook) (m : MemberState) (t : ActedMember) (left middle : Told) : Type 0 where
   pub packets : List PacketView
   pub short : AllByRecursion IsShort packets
   pub stands : after_packets b m packets ≡ Some t
   pub taken : left ≡ before_taking (packets_bytes packets) middle
 
 -- and all that it sends for each was put before the next was taken
-pub record IsCourse (b : WordBook) (m : MemberState) (t : Turned) (left middle : Told) (gone new : Gone)
+pub record IsCourse (b : WordBook) (m : MemberState) (t : ActedMember) (left middle : Told) (gone new : Gone)
     : Type 0 where
   pub takes : Takes b m t left middle
   pub puts : new.bytes ≡ gained gone.bytes (packets_bytes t.packets)
@@ -84,14 +84,14 @@ IsDone m packets rest =
     (is_over m ≡ true) ⊎ (rest ≡ emptied rest) ⊎ (2 ^ 64 ≤ length packets + 1)
 
 pub record EndsDone (b : WordBook) (m : MemberState) (left rest : Told) (gone new : Gone) : Type 0 where
-  pub last : Turned
+  pub last : ActedMember
   pub course : IsCourse b m last left rest gone new
   pub done : IsDone last.member course.takes.packets rest
 
 -- no packet could be taken, of which this holds, while the run wasn't over
 pub record EndsBetween (Fails : Told → Told → Type 0) (b : WordBook) (m : MemberState)
     (left rest : Told) (gone new : Gone) : Type 0 where
-  pub last : Turned
+  pub last : ActedMember
   pub middle : Told
   pub course : IsCourse b m last left middle gone new
   pub goes_on : is_over last.member ≡ false
@@ -100,7 +100,7 @@ pub record EndsBetween (Fails : Told → Told → Type 0) (b : WordBook) (m : Me
 -- a packet came that ends it for this fault
 pub record EndsAt (fault : Fault) (b : WordBook) (m : MemberState) (left rest : Told) (gone new : Gone)
     : Type 0 where
-  pub last : Turned
+  pub last : ActedMember
   pub middle : Told
   pub before : Gone
   pub course : IsCourse b m last left middle gone before
@@ -113,7 +113,7 @@ pub record EndsAt (fault : Fault) (b : WordBook) (m : MemberState) (left rest : 
 
 -- a front of what it sends was put, and no more than a packet was taken besides; nothing, where the run is over
 pub record EndsWriting (b : WordBook) (m : MemberState) (left rest : Told) (gone new : Gone) : Type 0 where
-  pub last : Turned
+  pub last : ActedMember
   pub middle : Told
   pub takes : Takes b m last left middle
   pub count : ℕ
@@ -147,7 +147,7 @@ Ends (Err fault) b m left rest gone new = EndsFor fault b m left rest gone new
 -- so many packets were taken, after which the member is this one
 pub record HasTaken (count : ℕ) (b : WordBook) (m n : MemberState) (left rest : Told) (gone new : Gone) : Type 0
   where
-    pub last : Turned
+    pub last : ActedMember
     pub course : IsCourse b m last left rest gone new
     pub counted : length course.takes.packets ≡ count
     pub is : n ≡ last.member

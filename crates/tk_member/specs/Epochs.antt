@@ -19,8 +19,8 @@ use Rattle.tk_member.specs.declared.fault.Fault.TheVariants.{Peer, Differ}
 abbrev pub Marks : Type 0
 Marks = List ℕ
 
-abbrev pub Telling : Type 0
-Telling = List Marks
+abbrev pub ToldMarks : Type 0
+ToldMarks = List Marks
 
 -- the least of these, and at most the first
 abbrev pub least_of : ℕ → List ℕ → ℕ
@@ -28,15 +28,15 @@ least_of top [] = top
 least_of top (n ∷ ns) = min n (least_of top ns)
 
 -- how many epochs a server told
-abbrev pub epochs_in : Telling → ℕ
+abbrev pub epochs_in : ToldMarks → ℕ
 epochs_in telling = length telling
 
 -- the last epoch that all servers told
-abbrev pub known : Shape → List Telling → ℕ
+abbrev pub known : Shape → List ToldMarks → ℕ
 known shape told = least_of shape.phases (map epochs_in told)
 
 -- what a server told, by its number
-abbrev pub told_by : List Telling → ℕ → Telling
+abbrev pub told_by : List ToldMarks → ℕ → ToldMarks
 told_by told j = slice_index_or told (j - 1) []
 
 -- in epoch 0 nothing is marked
@@ -44,7 +44,7 @@ abbrev pub no_marks : Shape → Marks
 no_marks shape = replicate (marks_len shape) 0
 
 -- the marks of an epoch that is known, as server 1 told them
-abbrev pub marks_at : Shape → List Telling → ℕ → Marks
+abbrev pub marks_at : Shape → List ToldMarks → ℕ → Marks
 marks_at shape told e = slice_index_or (no_marks shape ∷ told_by told 1) e []
 
 -- for each filter position whether it is marked
@@ -59,7 +59,7 @@ is_epoch_frame shape e frame =
     length frame == 6 + marks_len shape && slice_index frame 1 == 1 && number_at 2 frame == e
 
 -- what a server told of the epoch behind so many others, if it told that
-abbrev pub told_behind : ℕ → Telling → Option Marks
+abbrev pub told_behind : ℕ → ToldMarks → Option Marks
 told_behind n telling = slice_get telling n
 
 -- the marks are those that a server told, if one did
@@ -69,7 +69,7 @@ agrees (Some others) marks = bytes_eq others marks
 
 -- Server j tells one epoch more, the next one. It has to be the frame of that epoch, with the same
 -- marks as any other server told of it.
-abbrev pub with_epoch : Shape → List Telling → ℕ → List ℕ → Result (List Telling) Fault
+abbrev pub with_epoch : Shape → List ToldMarks → ℕ → List ℕ → Result (List ToldMarks) Fault
 with_epoch shape told j frame =
     let before = told_by told j in
     let n = length before in

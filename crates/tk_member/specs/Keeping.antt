@@ -6,32 +6,32 @@ use Rattle.std.specs.Str.{bytes_eq}
 use Rattle.tk_shape.specs.declared.shape.Shape.{Shape}
 use Rattle.tk_member.specs.declared.fault.Fault.{Fault}
 use Rattle.tk_member.specs.declared.fault.Fault.TheVariants.{Differ}
-use Rattle.tk_member.specs.Epochs.{Marks, Telling, no_marks}
+use Rattle.tk_member.specs.Epochs.{Marks, ToldMarks, no_marks}
 
 pub record EpochsState : Type 0 where
   pub shape : Shape
-  pub told : List Telling
+  pub told : List ToldMarks
 
 abbrev pub new_epochs : Shape → EpochsState
 new_epochs shape = record { shape = shape; told = replicate shape.servers [] }
 
 -- what servers told that told these marks up to the epochs of these numbers
-abbrev pub told_so_far : List Marks → List ℕ → List Telling
+abbrev pub told_so_far : List Marks → List ℕ → List ToldMarks
 told_so_far marks last = map (λ n. take n marks) last
 
 -- some server told all of them
-pub record IsTold (last : List ℕ) (count : ℕ) : Type 0 where
+pub record IsToldByOne (last : List ℕ) (count : ℕ) : Type 0 where
   pub place : ℕ
   pub low : place < length last
   pub whole : slice_index last place ≡ count
 
 -- The marks are of the shape, of some of its epochs, of which some server told all and none told
 -- more.
-pub record AreTold (shape : Shape) (last : List ℕ) (none : Marks) (marks : List Marks) : Type 0
+pub record AreToldByServers (shape : Shape) (last : List ℕ) (none : Marks) (marks : List Marks) : Type 0
   where
     pub counted : length last ≡ shape.servers
     pub within : All (λ n. n ≤ length marks) last
-    pub longest : IsTold last (length marks)
+    pub longest : IsToldByOne last (length marks)
     pub few : length marks ≤ shape.phases
     pub none_is : none ≡ no_marks shape
     pub sized : All (λ (m : Marks). 8 * length m ≡ shape.filter_bits) marks

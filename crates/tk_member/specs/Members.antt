@@ -5,7 +5,7 @@ use Rattle.std.specs.Option.{is_none}
 use Rattle.tk_shape.specs.declared.shape.Shape.{Shape}
 use Rattle.tk_shape.specs.Lengths.{turn_count}
 use Rattle.tk_client.specs.Client.{ClientState}
-use Rattle.tk_member.specs.Epochs.{Telling, known}
+use Rattle.tk_member.specs.Epochs.{ToldMarks, known}
 
 -- The client; in how many turns it wrote, and in how many it asked; how many ticks wait, and how
 -- many writes may go ahead of their turns; what servers told of epochs; and, by server, the reply to
@@ -16,7 +16,7 @@ pub record MemberState : Type 0 where
   pub asked : ℕ
   pub ticks : ℕ
   pub ahead : ℕ
-  pub told : List Telling
+  pub told : List ToldMarks
   pub replies : List (Option (List ℕ))
 
 -- no reply of any server

@@ -17,18 +17,18 @@ use Rattle.tk_member.specs.declared.fault.Fault.TheVariants.{Peer, Refused, Olde
 use Rattle.tk_member.specs.declared.word.HostWord.{HostWord}
 use Rattle.tk_member.specs.declared.word.HostWord.TheVariants.{Say, Tick, Ahead, Has}
 use Rattle.tk_member.specs.Words.{word_in}
-use Rattle.tk_member.specs.Epochs.{Telling, with_epoch}
+use Rattle.tk_member.specs.Epochs.{ToldMarks, with_epoch}
 use Rattle.tk_member.specs.Members.{MemberState, no_replies}
-use Rattle.tk_member.specs.Acting.{Turned, behind, acts}
+use Rattle.tk_member.specs.Acting.{ActedMember, behind, acts}
 use Rattle.tk_member.specs.News.{news, refused_packet}
 
 -- the host is told this, and then it acts
-abbrev pub tells_and_acts : WordBook → List PacketView → MemberState → Result Turned Fault
+abbrev pub tells_and_acts : WordBook → List PacketView → MemberState → Result ActedMember Fault
 tells_and_acts b told m = Ok (behind told (acts b m))
 
 -- ---- what its host tells it
 
-abbrev pub said : WordBook → MemberState → ℕ → List ℕ → Option SayError → Result Turned Fault
+abbrev pub said : WordBook → MemberState → ℕ → List ℕ → Option SayError → Result ActedMember Fault
 said b m log text (Some error) = tells_and_acts b (refused_packet log error ∷ []) m
 said b m log text None =
     let writing = with_text log text m.client.writing in
@@ -40,7 +40,7 @@ counted_up m n = min n (turn_count m.client.shape)
 
 -- A server that has more packets of this client than it sent has them of a member that was further:
 -- it may not go on, since it would use words twice.
-abbrev pub heard : WordBook → MemberState → Option HostWord → Result Turned Fault
+abbrev pub heard : WordBook → MemberState → Option HostWord → Result ActedMember Fault
 heard b m None = Err Peer
 heard b m (Some (Say log text)) =
     said b m log text (fault_of m.client.shape m.client.writing.logs log text)
@@ -72,13 +72,13 @@ told_after w replies m =
 
 -- the read is settled by all replies, where they aren't refused
 abbrev pub settled : WordBook → MemberState → List (List ℕ) → Option TakeError →
-    Result Turned Fault
+    Result ActedMember Fault
 settled b m replies (Some error) = Err Refused
 settled b m replies None =
     let words = words_of m.client.shape b in
     tells_and_acts b (told_after words replies m) (after_settling words replies m)
 
-abbrev pub settled_by : WordBook → MemberState → Option (List (List ℕ)) → Result Turned Fault
+abbrev pub settled_by : WordBook → MemberState → Option (List (List ℕ)) → Result ActedMember Fault
 settled_by b m None = tells_and_acts b [] m
 settled_by b m (Some replies) = settled b m replies (refusal_in replies m.client)
 
@@ -86,18 +86,18 @@ abbrev pub with_reply : MemberState → ℕ → List ℕ → MemberState
 with_reply m j reply = record m { replies = slice_set m.replies (j - 1) (Some reply) }
 
 -- server j's reply to the read that is open, which it has not yet
-abbrev pub replied : WordBook → MemberState → ℕ → List ℕ → Result Turned Fault
+abbrev pub replied : WordBook → MemberState → ℕ → List ℕ → Result ActedMember Fault
 replied b m j reply =
     let now = with_reply m j reply in
     cond (is_none m.client.read || is_some (slice_index_or m.replies (j - 1) None)) (Err Peer)
     (settled_by b now (all_of now.replies))
 
-abbrev pub told_epoch : WordBook → MemberState → Result (List Telling) Fault → Result Turned Fault
+abbrev pub told_epoch : WordBook → MemberState → Result (List ToldMarks) Fault → Result ActedMember Fault
 told_epoch b m (Err fault) = Err fault
 told_epoch b m (Ok told) = tells_and_acts b [] (record m { told = told })
 
 -- a reply, an epoch, or that a frame was refused
-abbrev pub served : WordBook → MemberState → ℕ → List ℕ → Result Turned Fault
+abbrev pub served : WordBook → MemberState → ℕ → List ℕ → Result ActedMember Fault
 served b m j frame =
     let kind = slice_index frame 0 in
     cond (kind == 3) (replied b m j frame)
@@ -108,7 +108,7 @@ served b m j frame =
 
 -- How a member stands after a packet and what it sends, or why it ends. Peer 0 is its host, and
 -- peer j server j.
-unfoldable pub step : WordBook → MemberState → PacketView → Result Turned Fault
+unfoldable pub step : WordBook → MemberState → PacketView → Result ActedMember Fault
 step b m p =
     cond (p.peer == 0) (heard b m (word_in p.bytes))
     (cond (nat_le p.peer m.client.shape.servers) (served b m p.peer p.bytes)
@@ -117,13 +117,13 @@ step b m p =
 -- ---- what a call answers
 
 -- the member stands as it is defined, and sends these packets
-abbrev pub IsTurned : Result Turned Fault → MemberState → List PacketView → Type 0
+abbrev pub IsTurned : Result ActedMember Fault → MemberState → List PacketView → Type 0
 IsTurned defined m packets = defined ≡ Ok (record { member = m; packets = packets })
 
 -- it ends as it is defined, or because memory ran out
-abbrev pub IsEnded : Result Turned Fault → Fault → Type 0
+abbrev pub IsEnded : Result ActedMember Fault → Fault → Type 0
 IsEnded defined fault = (fault ≡ Memory) ⊎ (defined ≡ Err fault)
 
 -- replies that are refused end it so, and only they, unless memory runs out
-abbrev pub IsRefused : Option TakeError → Fault → Type 0
-IsRefused refusal fault = (fault ≡ Memory) ⊎ ((fault ≡ Refused) × IsSome refusal)
+abbrev pub EndsRefused : Option TakeError → Fault → Type 0
+EndsRefused refusal fault = (fault ≡ Memory) ⊎ ((fault ≡ Refused) × IsSome refusal)

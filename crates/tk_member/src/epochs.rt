@@ -23,7 +23,7 @@ pub(crate) struct Epochs {
 }
 
 impl Model for Epochs {
-    ghost use Rattle.tk_member.specs.Keeping.{EpochsState, told_so_far, AreTold};
+    ghost use Rattle.tk_member.specs.Keeping.{EpochsState, told_so_far, AreToldByServers};
 
     ghost Value = { EpochsState };
 
@@ -32,7 +32,7 @@ impl Model for Epochs {
       told = told_so_far e.marks.items e.last.items;
     } };
 
-    ghost invariant = { λ e. AreTold e.shape e.last.items e.none e.marks.items };
+    ghost invariant = { λ e. AreToldByServers e.shape e.last.items e.none e.marks.items };
 }
 
 impl Epochs {

@@ -21,14 +21,14 @@ use Rattle.tk_report.proofs.Offers.{flat_map-next}
 use Rattle.tk_privacy.specs.Privacy.{Pairs, pairs_read, read_for, view_for}
 use Rattle.tk_privacy.specs.Hiding.{read_in}
 use Rattle.tk_privacy.specs.Reads.{all_reads}
-use Rattle.tk_privacy.specs.Views.{HasCounted, HasEntered, frame_in}
+use Rattle.tk_privacy.specs.Views.{HasSeenEntries, HasEntered, frame_in}
 use Rattle.tk_privacy.specs.declared.server_sights.Seen.{Seen}
 use Rattle.tk_privacy.proofs.ReadsLaws.{read-in}
 use Rattle.tk_privacy.proofs.Seen.{same-flat}
 
 -- ---- the entries of a turn
 
-pub entered-none : (shape : Shape) (E : List Placed) (seen : Seen) → HasCounted shape E seen →
+pub entered-none : (shape : Shape) (E : List Placed) (seen : Seen) → HasSeenEntries shape E seen →
     HasEntered seen shape E [] seen
 entered-none shape E seen has =
     let same = sym (append-nil E) in
@@ -59,7 +59,7 @@ entered-more was shape E F p is new has next counted pushed =
 -- ---- turn after turn
 
 pub entered-first : (S : Script) (w : BookWords) (H : History) (seen : Seen) → seen.entries ≡ 0 →
-    HasCounted S.shape (placed_before S w H 0) seen
+    HasSeenEntries S.shape (placed_before S w H 0) seen
 unfolding entries_before
 entered-first S w H seen none = record { order = order-none S.shape; count = none }
 

@@ -28,7 +28,7 @@ abbrev pub all_reads : Shape → WordBook → History → Pairs → ℕ → List
 all_reads shape b H pairs j = reads_before shape b H pairs j (turn_count shape)
 
 -- before turn g all is as the definitions say of it, and the reads so far are those of server j
-pub record IsFoldBefore (S : Script) (b : WordBook) (H : History) (j g : ℕ) (f : Followed)
+pub record IsFollowedBefore (S : Script) (b : WordBook) (H : History) (j g : ℕ) (f : Followed)
     : Type 0 where
   pub group : IsGroup S (known_first S) g f.group
   pub followers : AreFollowers S.shape.clients (follower_before S (words_of S.shape b) H g)

@@ -22,7 +22,7 @@ abbrev pub frame_in : Shape → List ReadFrame → ℕ → ℕ → List (List �
 frame_in shape reads g c = read_frame (read_in shape reads g c) ∷ []
 
 -- after these entries, which are in order, as many were counted
-pub record HasCounted (shape : Shape) (E : List Placed) (seen : Seen) : Type 0 where
+pub record HasSeenEntries (shape : Shape) (E : List Placed) (seen : Seen) : Type 0 where
   pub order : IsOrder shape E
   pub count : seen.entries ≡ length E
 
@@ -37,6 +37,6 @@ pub record HasEntered (was : Seen) (shape : Shape) (E F : List Placed) (is : See
 pub record IsViewBefore (S : Script) (b : WordBook) (H : History) (reads : List ReadFrame) (g : ℕ)
     (v : Viewed) : Type 0 where
   pub group : IsGroup S (known_first S) g v.group
-  pub entered : HasCounted S.shape (placed_before S (words_of S.shape b) H g) v.seen
+  pub entered : HasSeenEntries S.shape (placed_before S (words_of S.shape b) H g) v.seen
   pub frames : v.seen.frames.items
       ≡ frames_before S.shape H (write_at S (words_of S.shape b)) (frame_in S.shape reads) g

@@ -12,7 +12,7 @@ use Rattle.tk_relay.specs.declared.part.Part.{Part}
 use Rattle.tk_relay.specs.declared.relayed_read.RelayedRead.{RelayedRead}
 use Rattle.tk_relay.specs.Pads.{PadLists, Padding}
 use Rattle.tk_relay.specs.Parts.{blank_part}
-use Rattle.tk_relay.specs.Reads.{IsWhole, IsServed, AreServed, HaveReplies, part_of}
+use Rattle.tk_relay.specs.Reads.{HasAllParts, AreRepliedTo, AreServed, HaveReplies, part_of}
 use Rattle.tk_relay.specs.Serving.{IsAsking, served_part, served_parts, reply_to_asked}
 use Rattle.tk_relay.proofs.ServedParts.{map-at}
 
@@ -42,14 +42,14 @@ next-left xs i x rest left = ap (λ n. drop n xs) (add-one i) ∙ next-behind xs
 
 -- each read has one
 pub parts-there : (shape : Shape) (server : ℕ) (reads : List RelayedRead) → server ≤ shape.servers →
-    All (IsWhole shape) reads → All (λ r. server ≤ length r.parts.items) reads
+    All (HasAllParts shape) reads → All (λ r. server ≤ length r.parts.items) reads
 parts-there shape server reads high whole k d low =
     let is = whole k d low in
     omega (arith, high, is.counted)
 
 -- and it is one of the shape
 asking-each : (shape : Shape) (server : ℕ) (reads : List RelayedRead) → 1 ≤ server →
-    server ≤ shape.servers → AllByRecursion (IsWhole shape) reads →
+    server ≤ shape.servers → AllByRecursion (HasAllParts shape) reads →
     AllByRecursion (IsAsking shape) (map (λ r. part_of r server) reads)
 asking-each shape server [] low high whole = tt
 asking-each shape server (r ∷ reads) low high whole =
@@ -60,11 +60,11 @@ asking-each shape server (r ∷ reads) low high whole =
     )
 
 pub parts-asking : (shape : Shape) (server : ℕ) (reads : List RelayedRead) → 1 ≤ server →
-    server ≤ shape.servers → All (IsWhole shape) reads →
+    server ≤ shape.servers → All (HasAllParts shape) reads →
     All (IsAsking shape) (map (λ r. part_of r server) reads)
 parts-asking shape server reads low high whole =
     All-from_recursion (IsAsking shape) (map (λ r. part_of r server) reads)
-    (asking-each shape server reads low high (recursion_from_All (IsWhole shape) reads whole))
+    (asking-each shape server reads low high (recursion_from_All (HasAllParts shape) reads whole))
 
 -- ---- one server's replies
 
@@ -109,7 +109,7 @@ module _ (shape : Shape) (blocks : List (List ℕ)) (server : ℕ) (pads : List 
 
 -- reads that get replies are still whole
 pub replied-whole : {shape : Shape} {replies : List Part} {old new : List RelayedRead} →
-    HaveReplies replies old new → All (IsWhole shape) old → All (IsWhole shape) new
+    HaveReplies replies old new → All (HasAllParts shape) old → All (HasAllParts shape) new
 replied-whole {shape} {replies} {old} have whole k d low =
     let within : k < length old = omega (arith, low, have.counted) in
     let is = have.each k blank_part d within in
@@ -136,8 +136,8 @@ module _ (shape : Shape) (blocks : List (List ℕ)) where
       }
 
   served-next : (pads : PadLists) (n : ℕ) (old mid new : RelayedRead) →
-      IsServed shape blocks pads 1 n old mid → IsServed shape blocks pads (n + 1) 1 mid new →
-      IsServed shape blocks pads 1 (n + 1) old new
+      AreRepliedTo shape blocks pads 1 n old mid → AreRepliedTo shape blocks pads (n + 1) 1 mid new →
+      AreRepliedTo shape blocks pads 1 (n + 1) old new
   served-next pads n old mid new first second =
       let reply = λ (j : ℕ). served_part shape blocks pads j (part_of old j) in
       let so_far = map reply (range_with_len 1 n) in

@@ -10,10 +10,10 @@ use Rattle.tk_relay.specs.declared.part.Part.{Part}
 use Rattle.tk_relay.specs.Halves.{HasHalves}
 use Rattle.tk_relay.specs.Pads.{Padding}
 use Rattle.tk_relay.specs.Parts.{halves_of}
-use Rattle.tk_relay.specs.Serving.{AreAsked, IsAsking}
+use Rattle.tk_relay.specs.Serving.{AreAskedParts, IsAsking}
 
 module _ {shape : Shape} {server : ℕ} {pads : List Padding} {parts : List Part}
-    (are : AreAsked shape server pads parts) where
+    (are : AreAskedParts shape server pads parts) where
   -- there are as many
   pub asked-counted : length (zip pads parts) ≡ length parts
   asked-counted =

@@ -25,7 +25,7 @@ use Rattle.tk_relay.specs.Pads.{PadLists, ArePads, masked}
 use Rattle.tk_relay.specs.Parts.{part_with}
 use Rattle.tk_relay.specs.Bundles.{vectors_of, frame_of, part_for}
 use Rattle.tk_relay.specs.Serving.{sums_for, served_part}
-use Rattle.tk_relay.specs.Sights.{Reading, frames_for, AreBuckets, AreBlocks, units_of, blocks_at}
+use Rattle.tk_relay.specs.Sights.{DrawnRead, frames_for, AreBuckets, AreBlocks, units_of, blocks_at}
 use Rattle.tk_relay.proofs.Masks.{masked-twice}
 
 -- the vectors of server j in a read of two buckets
@@ -61,7 +61,7 @@ served-for shape blocks pads frames j are high sized =
 
 -- ---- a read of two buckets
 
-module _ (shape : Shape) (r : Reading) (whole : AreWhole shape r.drawn) where
+module _ (shape : Shape) (r : DrawnRead) (whole : AreWhole shape r.drawn) where
   -- the frame of a server
   frame-at : (pair : ℕ × ℕ) (j : ℕ) → 1 ≤ j → j ≤ shape.servers →
       let size = vector_len shape in
@@ -180,7 +180,7 @@ last-sum width size i blocks drawn sized counted vectors within =
     (unit-chosen width size i blocks sized counted within)))
 
 -- the last server's sums are the blocks of the buckets mixed with what the drawn vectors choose
-pub last-replied : (shape : Shape) (r : Reading) (whole : AreWhole shape r.drawn)
+pub last-replied : (shape : Shape) (r : DrawnRead) (whole : AreWhole shape r.drawn)
     (blocks : List (List ℕ)) (pair : ℕ × ℕ) → AreBlocks shape blocks → AreBuckets shape pair →
     sums_for shape blocks (vectors_for shape pair r.drawn shape.servers)
     ≡ mixed (blocks_at blocks pair) (sums_for shape blocks (all_drawn shape r whole))

@@ -4,7 +4,7 @@ use Rattle.std.specs.List.{AllByRecursion}
 use Rattle.tk_relay.specs.declared.part.Part.{Part}
 use Rattle.tk_relay.specs.Halves.{HasHalves, joined}
 use Rattle.tk_relay.specs.Parts.{halves_of}
-use Rattle.tk_relay.specs.Serving.{IsAlike, AreAlike, gathered_part}
+use Rattle.tk_relay.specs.Serving.{IsAlike, AreOfOneRead, gathered_part}
 use Rattle.tk_relay.proofs.Mixing.{joined-sized}
 
 -- each has halves of so many bytes
@@ -22,7 +22,7 @@ alike-to n first (p ∷ ps) like sized = (
   alike-to n first ps like sized.1,
 )
 
-pub sized-alike : (n : ℕ) (parts : List Part) → AreSized n parts → AreAlike parts
+pub sized-alike : (n : ℕ) (parts : List Part) → AreSized n parts → AreOfOneRead parts
 sized-alike n [] sized = tt
 sized-alike n (p ∷ ps) sized = alike-to n p (p ∷ ps) sized.0 sized
 

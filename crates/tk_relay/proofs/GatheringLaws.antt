@@ -8,7 +8,7 @@ use Rattle.tk_kernel.proofs.Offers.{length-xor_bytes, xor_bytes-zeros}
 use Rattle.tk_relay.specs.declared.part.Part.{Part}
 use Rattle.tk_relay.specs.Halves.{Halves, mixed, joined}
 use Rattle.tk_relay.specs.Parts.{halves_of, first_part, blank_part}
-use Rattle.tk_relay.specs.Serving.{IsAlike, AreAlike}
+use Rattle.tk_relay.specs.Serving.{IsAlike, AreOfOneRead}
 use Rattle.tk_relay.proofs.Mixing.{mixed-assoc}
 
 -- the halves of parts joined, each as long as those of one
@@ -33,7 +33,7 @@ pub record Joining (parts : List Part) (i : ℕ) (sum : Halves) : Type 0 where
   pub all : mixed sum (joined_as (first_part parts) (drop i parts)) ≡ joined_as (first_part parts) parts
 
 pub joining-next : (parts : List Part) (i : ℕ) (sum new : Halves) → i < length parts →
-    AreAlike parts → Joining parts i sum →
+    AreOfOneRead parts → Joining parts i sum →
     new ≡ mixed sum (halves_of (get_or parts i blank_part)) → Joining parts (i + 1) new
 joining-next parts i sum new within alike so_far is =
     let like = first_part parts in

@@ -19,9 +19,9 @@ use Rattle.tk_frames.proofs.Offers.{marks-write, marks-mark, order-none, order-p
 use Rattle.tk_order.specs.Legality.{number_of, seat_of, of}
 use Rattle.tk_order.proofs.Offers.{of_added, of_else}
 use Rattle.tk_cluster.specs.declared.set.EpochSet.{EpochSet}
-use Rattle.tk_cluster.specs.Passes.{Reading, Passing, own, fresh, Pins, Learns, Reads, MeetsAt}
+use Rattle.tk_cluster.specs.Passes.{Reading, Passing, own, fresh, Pins, Learns, ReadsOnly, MeetsAt}
 use Rattle.tk_cluster.specs.Tellings.{Telling, told_of, Published}
-use Rattle.tk_cluster.specs.Clusters.{Opened, Each, Met}
+use Rattle.tk_cluster.specs.Clusters.{Opened, Each, HaveMet}
 use Rattle.tk_cluster.specs.Closings.{Ended, Apart, AllOnce, Closes}
 use Rattle.tk_relay.specs.Ordered.{IsPassOf, HaveOrdered, MayOrder, EachChanged}
 use Rattle.tk_relay.proofs.OneOrder.{one-order}
@@ -155,7 +155,7 @@ may-write shape e w xs p may at =
 -- which all learn of
 learner : (E : List Placed) (p q : Telling) (n : ℕ) (e : Placed) (c : ℕ) (a b : Passing) →
     e.entry ≡ Mark n → q.board ≡ p.board → length q.shown ≡ mark_count E + 2 →
-    Reads (λ x y. Learns x (told_of q) y) a b → IsPassOf E p c a → IsPassOf (E ++ e ∷ []) q c b
+    ReadsOnly (λ x y. Learns x (told_of q) y) a b → IsPassOf E p c a → IsPassOf (E ++ e ∷ []) q c b
 learner E p q n e c a b at board long learns is =
     let r = learns.reads in
     let count = marks-mark E e n at in
@@ -175,7 +175,7 @@ learner E p q n e c a b at board long learns is =
 
 pub ordered-mark : (shape : Shape) (E : List Placed) (n : ℕ) (e : Placed) (xs ys : List Passing)
     (p q : Telling) → HaveOrdered shape E xs p → IsNext shape E e → e.entry ≡ Mark n →
-    Published shape p q → EachChanged (Reads (λ x y. Learns x (told_of q) y)) xs ys →
+    Published shape p q → EachChanged (ReadsOnly (λ x y. Learns x (told_of q) y)) xs ys →
     HaveOrdered shape (E ++ e ∷ []) ys q
 ordered-mark shape E n e xs ys p q have next at published learned =
     let count : mark_count (E ++ e ∷ []) ≡ mark_count E + 1 = marks-mark E e n at in
@@ -198,7 +198,7 @@ ordered-mark shape E n e xs ys p q have next at published learned =
 pub mark-ordered : {T X : Type 0} (r : Result T X) (shape : Shape) (E : List Placed) (n : ℕ)
     (e : Placed) (xs ys : List Passing) (p q : Telling) → HaveOrdered shape E xs p →
     IsNext shape E e → e.entry ≡ Mark n → Published shape p q →
-    OnOk r (EachChanged (Reads (λ x y. Learns x (told_of q) y)) xs ys) →
+    OnOk r (EachChanged (ReadsOnly (λ x y. Learns x (told_of q) y)) xs ys) →
     OnOk r (HaveOrdered shape (E ++ e ∷ []) ys q)
 mark-ordered (Err x) shape E n e xs ys p q have next at published learned = tt
 mark-ordered (Ok x) shape E n e xs ys p q have next at published learned =
@@ -208,7 +208,7 @@ mark-ordered (Ok x) shape E n e xs ys p q have next at published learned =
 
 -- the pass pinned a set of at most this number
 abbrev pub PinsAt : ℕ → Passing → Passing → Type 0
-PinsAt most a b = (set : EpochSet) × Reads (λ x y. Pins x most set y) a b
+PinsAt most a b = (set : EpochSet) × ReadsOnly (λ x y. Pins x most set y) a b
 
 pinned : (E : List Placed) (p : Telling) (most c : ℕ) (a b : Passing) → most ≡ mark_count E →
     PinsAt most a b → IsPassOf E p c a → IsPassOf E p c b
@@ -240,7 +240,7 @@ ordered-pinned shape E most xs ys p last have pins =
 -- the pinned set is the last one that is shown
 pub pinned-set : (E : List Placed) (p : Telling) (most c : ℕ) (a b : Passing) (set : EpochSet) →
     most ≡ mark_count E → length p.shown ≡ mark_count E + 1 → IsPassOf E p c a →
-    Reads (λ x y. Pins x most set y) a b → slice_get p.shown most ≡ Some set
+    ReadsOnly (λ x y. Pins x most set y) a b → slice_get p.shown most ≡ Some set
 pinned-set E p most c a b set last long is pins =
     let r = pins.reads in
     let here : b.reads.known ≡ most = omega (arith, r.least, r.greatest, is.known, last) in
@@ -265,7 +265,7 @@ each-at R (x ∷ xs) (y ∷ ys) zero d h low = h.0
 each-at R (x ∷ xs) (y ∷ ys) (suc k) d h low = each-at R xs ys k d h.1 (omega (arith, low))
 
 module _ {shape : Shape} {E : List Placed} {xs ys : List Passing} {p q : Telling}
-    (have : HaveOrdered shape E xs p) (met : Met shape xs p ys q) where
+    (have : HaveOrdered shape E xs p) (met : HaveMet shape xs p ys q) where
   long : length ys ≡ length xs
   long = each-long (MeetsAt q.seen) xs ys met.passes
 

@@ -23,7 +23,7 @@ use Rattle.tk_relay.specs.declared.relayed_read.RelayedRead.{RelayedRead}
 use Rattle.tk_relay.specs.Bundles.{IsAlong, frame_of, vectors_of, part_for}
 use Rattle.tk_relay.specs.Pads.{PadLists, Padding, padding_of, paddings_of}
 use Rattle.tk_relay.specs.Parts.{blank_part}
-use Rattle.tk_relay.specs.Reads.{IsSent, IsWhole, IsServed, AreServed, IsReplied, part_of}
+use Rattle.tk_relay.specs.Reads.{IsSplitRead, HasAllParts, AreRepliedTo, AreServed, IsReplied, part_of}
 use Rattle.tk_relay.specs.Relayed.{blocks_read, frames_read, pads_read, part_read, reply_read}
 use Rattle.tk_relay.specs.Running.{IsRelayed, AreRelayed}
 use Rattle.tk_relay.specs.Serving.{IsAsking, served_part}
@@ -67,7 +67,7 @@ blocks-of_turn S b H g c legal serial turn_in client_in =
 -- ---- a read that is sent
 
 pub sent-relayed : (S : Script) (b : WordBook) (seeds : List (List ℕ)) (H : History) (g c : ℕ)
-    (r : RelayedRead) → IsSent S.shape (frames_read S b H g c) (pads_read S seeds g c) r →
+    (r : RelayedRead) → IsSplitRead S.shape (frames_read S b H g c) (pads_read S seeds g c) r →
     IsRelayed S b seeds H g 0 c r
 unfolding part_read
 sent-relayed S b seeds H g c r sent =
@@ -94,7 +94,7 @@ module _ {S : Script} {b : WordBook} {seeds : List (List ℕ)} {H : History} {g 
       (omega (arith, low, high)) (omega (arith, low))
 
   -- it has a part of a shape's vectors for each server
-  pub relayed-whole : AllByRecursion (IsRead S.shape) (frames_read S b H g c) → IsWhole S.shape r
+  pub relayed-whole : AllByRecursion (IsRead S.shape) (frames_read S b H g c) → HasAllParts S.shape r
   unfolding part_read
   relayed-whole reads =
       let frames = frames_read S b H g c in
@@ -118,7 +118,7 @@ module _ {S : Script} {b : WordBook} {seeds : List (List ℕ)} {H : History} {g 
 pub served-relayed : {S : Script} {b : WordBook} {seeds : List (List ℕ)} {H : History} {g c : ℕ}
     {old new : RelayedRead} (blocks : List (List ℕ)) (pads : PadLists) →
     blocks ≡ blocks_read S b H g c → pads ≡ pads_read S seeds g c →
-    IsRelayed S b seeds H g 0 c old → IsServed S.shape blocks pads 1 S.shape.servers old new →
+    IsRelayed S b seeds H g 0 c old → AreRepliedTo S.shape blocks pads 1 S.shape.servers old new →
     IsRelayed S b seeds H g S.shape.servers c new
 unfolding reply_read
 served-relayed {S} {b} {seeds} {H} {g} {c} {old} {new} blocks pads over own is served =
@@ -143,7 +143,7 @@ served-relayed {S} {b} {seeds} {H} {g} {c} {old} {new} blocks pads over own is s
 
 pub all-whole : {S : Script} {b : WordBook} {seeds : List (List ℕ)} {H : History} {g count : ℕ}
     {reads : List RelayedRead} → IsBook S.shape b → IsLegal S.shape H → g < turn_count S.shape →
-    AreRelayed S b seeds H g count reads → All (IsWhole S.shape) reads
+    AreRelayed S b seeds H g count reads → All (HasAllParts S.shape) reads
 all-whole {S} {b} {seeds} {H} {g} {count} {reads} serves legal turn_in are c d low =
     relayed-whole (are.each c d low)
     (reads-in_range S b H g c serves legal turn_in (omega (arith, low, are.counted)))

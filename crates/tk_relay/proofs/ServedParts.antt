@@ -14,7 +14,7 @@ use Rattle.tk_bits.proofs.Offers.{length-chosen_sum}
 use Rattle.tk_relay.specs.declared.part.Part.{Part}
 use Rattle.tk_relay.specs.Pads.{Padding, masked}
 use Rattle.tk_relay.specs.Parts.{part_with}
-use Rattle.tk_relay.specs.Serving.{AreAsked, AreSums, first_asked, second_asked, reply_to_asked}
+use Rattle.tk_relay.specs.Serving.{AreAskedParts, AreChosenSums, first_asked, second_asked, reply_to_asked}
 use Rattle.tk_relay.proofs.Aside.{asked-counted, asked-at}
 
 -- what a function gives at a place
@@ -42,7 +42,7 @@ two-each f h asked vectors are =
 -- ---- one more part
 
 module _ {shape : Shape} {server : ℕ} {pads : List Padding} {parts : List Part}
-    (are : AreAsked shape server pads parts) where
+    (are : AreAskedParts shape server pads parts) where
   -- what is made of the parts so far, with what is made of the next
   pub made-more : {Y : Type 0} (f : Padding × Part → Y) (i : ℕ) (p : Padding) (q : Part)
       (old new : List Y) (y : Y) → i < length parts → p ≡ slice_index_or pads i p →
@@ -67,7 +67,7 @@ pub sums-cut : {shape : Shape} {blocks : List (List ℕ)} {server : ℕ} {asked 
     vectors ≡ map (first_asked server) asked ++ map (second_asked server) asked →
     sums ≡ map (chosen_sum (width shape) blocks) vectors → length asked ≡ n →
     first ≡ take n sums → second ≡ drop n sums →
-    AreSums shape blocks server asked first second
+    AreChosenSums shape blocks server asked first second
 sums-cut {shape} {blocks} {server} {asked} {vectors} {sums} {n = n} sized vectors_are sums_are counted first_is second_is =
     let f = chosen_sum (width shape) blocks in
     let a = map f (map (first_asked server) asked) in
@@ -89,8 +89,8 @@ pub sum-long : (shape : Shape) (blocks : List (List ℕ)) (vector : List ℕ) �
 sum-long shape blocks vector sized = length-chosen_sum (width shape) blocks vector sized
 
 module _ {shape : Shape} {blocks : List (List ℕ)} {server : ℕ} {pads : List Padding}
-    {parts : List Part} {first second : List (List ℕ)} (are : AreAsked shape server pads parts)
-    (sums : AreSums shape blocks server (zip pads parts) first second) where
+    {parts : List Part} {first second : List (List ℕ)} (are : AreAskedParts shape server pads parts)
+    (sums : AreChosenSums shape blocks server (zip pads parts) first second) where
   pub first-counted : length first ≡ length parts
   first-counted =
       ap length sums.first_are

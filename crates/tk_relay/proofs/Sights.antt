@@ -9,7 +9,7 @@ use Rattle.tk_relay.specs.Pads.{PadLists, ArePads, masked}
 use Rattle.tk_relay.specs.Parts.{part_with, masked_reply_frame}
 use Rattle.tk_relay.specs.Bundles.{part_for, bundle_frame}
 use Rattle.tk_relay.specs.Serving.{sums_for, served_part}
-use Rattle.tk_relay.specs.Sights.{Reading, frames_for, AreBuckets, AreBlocks, units_of, blocks_at}
+use Rattle.tk_relay.specs.Sights.{DrawnRead, frames_for, AreBuckets, AreBlocks, units_of, blocks_at}
 use Rattle.tk_relay.specs.Sights.{sight, moved_last, moved_pads}
 use Rattle.tk_relay.specs.Laws.{SameSight, MovedBack, MovedStay}
 use Rattle.tk_report.proofs.Offers.{map-range}
@@ -36,7 +36,7 @@ moved_stay shape blocks pads old new whole are from to =
           (blocks-sized shape blocks old whole from) (blocks-sized shape blocks new whole to);
     }
 
-module _ (shape : Shape) (blocks : List (List ℕ)) (pads : PadLists) (r : Reading) (old new : ℕ × ℕ)
+module _ (shape : Shape) (blocks : List (List ℕ)) (pads : PadLists) (r : DrawnRead) (old new : ℕ × ℕ)
     (whole : AreBlocks shape blocks) (are : ArePads shape pads) (vectors : AreWhole shape r.drawn)
     (from : AreBuckets shape old) (to : AreBuckets shape new) where
   requests' : List Halves

@@ -8,12 +8,12 @@ use Rattle.tk_frames.specs.InOrder.{IsNext}
 use Rattle.tk_frames.specs.Spelling.{placed_frame}
 use Rattle.tk_cluster.specs.Passes.{Passing}
 use Rattle.tk_cluster.specs.Tellings.{Telling}
-use Rattle.tk_relay.specs.Ordered.{HaveOrdered, HaveTaken}
+use Rattle.tk_relay.specs.Ordered.{HaveOrdered, OrderedAfter}
 
 -- before any entry of the turn
 pub taken-none : (own shape : Shape) (E : List Placed) (xs : List Passing) (p : Telling)
     (count : ℕ) (bytes : List ℕ) → shape ≡ own → HaveOrdered own E xs p → count ≡ length E →
-    bytes ≡ [] → HaveTaken own shape E [] xs p count bytes
+    bytes ≡ [] → OrderedAfter own shape E [] xs p count bytes
 taken-none own shape E xs p count bytes same have counted none =
     record {
       same = same;
@@ -26,9 +26,9 @@ taken-none own shape E xs p count bytes same have counted none =
 
 -- one entry more
 pub taken-more : (own shape : Shape) (E F : List Placed) (e : Placed) (xs ys : List Passing)
-    (p q : Telling) (count : ℕ) (old new : List ℕ) → HaveTaken own shape E F xs p count old →
+    (p q : Telling) (count : ℕ) (old new : List ℕ) → OrderedAfter own shape E F xs p count old →
     IsNext shape (E ++ F) e → HaveOrdered own ((E ++ F) ++ e ∷ []) ys q →
-    new ≡ old ++ placed_frame e → HaveTaken own shape E (F ++ e ∷ []) ys q e.position new
+    new ≡ old ++ placed_frame e → OrderedAfter own shape E (F ++ e ∷ []) ys q e.position new
 taken-more own shape E F e xs ys p q count old new have next ordered seen =
     let same = append_assoc E F (e ∷ []) in
     record {

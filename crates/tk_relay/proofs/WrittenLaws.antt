@@ -17,10 +17,10 @@ use Rattle.tk_report.proofs.Offers.{said-none, clients-first, clients-know, mark
 use Rattle.tk_cluster.specs.declared.set.EpochSet.{EpochSet}
 use Rattle.tk_cluster.specs.Passes.{Passing}
 use Rattle.tk_cluster.specs.Tellings.{Telling}
-use Rattle.tk_cluster.specs.Clusters.{Opened, Met}
-use Rattle.tk_cluster.specs.Sets.{Stands, Shows}
+use Rattle.tk_cluster.specs.Clusters.{Opened, HaveMet}
+use Rattle.tk_cluster.specs.Sets.{StandsAtMark, AreShown}
 use Rattle.tk_cluster.proofs.Offers.{stands-more}
-use Rattle.tk_relay.specs.Ordered.{HaveOrdered, HaveTaken}
+use Rattle.tk_relay.specs.Ordered.{HaveOrdered, OrderedAfter}
 use Rattle.tk_relay.specs.Running.{IsRunBefore, HaveWritten}
 use Rattle.tk_relay.proofs.OrderedLaws.{ordered-first, ordered-met, met-seen}
 use Rattle.tk_relay.proofs.RelayedReads.{serial-epoch}
@@ -76,22 +76,22 @@ module _ {shape : Shape} {S : Script} {b : WordBook} {H : History} {g : ℕ} {gr
   done = turn-done S (words_of S.shape b) H g
 
   -- the last shown set stands for the entries before its mark at the turn's end too
-  set-stands : (set : EpochSet) → Shows shape p.shown p.seen → epoch_at H g 0 ≡ mark_count before →
+  set-stands : (set : EpochSet) → AreShown shape p.shown p.seen → epoch_at H g 0 ≡ mark_count before →
       slice_get p.shown (epoch_at H g 0) ≡ Some set → IsOrder S.shape after →
-      Stands S.shape after (epoch_at H g 0) set
+      StandsAtMark S.shape after (epoch_at H g 0) set
   set-stands set shows last here order =
       let e = epoch_at H g 0 in
-      let at : Stands S.shape before e set =
-      subst (λ (sh : Shape). Stands sh before e set) (sym run.same)
-      (subst (λ (E : List Placed). Stands shape E e set) run.met (shows e set here))
+      let at : StandsAtMark S.shape before e set =
+      subst (λ (sh : Shape). StandsAtMark sh before e set) (sym run.same)
+      (subst (λ (E : List Placed). StandsAtMark shape E e set) run.met (shows e set here))
       in
       stands-more S.shape before after e set (now, done) order at
 
   pub turn-written : (zs ys : List Passing) (q r : Telling) (m : ℕ) (bytes : List ℕ)
-      (set : EpochSet) (wrote : Group) → Shows shape p.shown p.seen →
+      (set : EpochSet) (wrote : Group) → AreShown shape p.shown p.seen →
       epoch_at H g 0 ≡ mark_count before → slice_get p.shown (epoch_at H g 0) ≡ Some set →
       IsGroup S (known_before S (words_of S.shape b) H g) (g + 1) wrote →
-      HaveTaken shape S.shape before now zs q m bytes → Met shape zs q ys r →
+      OrderedAfter shape S.shape before now zs q m bytes → HaveMet shape zs q ys r →
       HaveWritten shape S b H g wrote ys r m set bytes
   turn-written zs ys q r m bytes set wrote shows last here group_is taken met =
       let have : HaveOrdered S.shape after zs q =
@@ -107,7 +107,7 @@ module _ {shape : Shape} {S : Script} {b : WordBook} {H : History} {g : ℕ} {gr
         ordered = ordered-met own met;
         met = met-seen own met;
         counted = taken.counted ∙ ap length done;
-        stands = subst (λ e. Stands S.shape after e set) (sym stands.number) stands;
+        stands = subst (λ e. StandsAtMark S.shape after e set) (sym stands.number) stands;
         epoch = stands.number;
         seen = taken.seen;
       }

@@ -5,7 +5,7 @@ use Rattle.tk_counts.specs.Counts.{IsListBelow, count_lists}
 use Rattle.tk_client.specs.Asked.{AreWhole}
 use Rattle.tk_relay.specs.Halves.{halves_bytes}
 use Rattle.tk_relay.specs.Pads.{PadLists, ArePads, pads_in, pads_len}
-use Rattle.tk_relay.specs.Sights.{Reading, frames_for, AreBuckets, AreBlocks, Sight, sight}
+use Rattle.tk_relay.specs.Sights.{DrawnRead, frames_for, AreBuckets, AreBlocks, RelayedSight, sight}
 
 -- ---- all pads of a shape
 
@@ -46,7 +46,7 @@ pub record AreByteBlocks (shape : Shape) (blocks : List (List ℕ)) : Type 0 whe
 -- buckets are read
 abbrev pub AsManyPads : Type 0
 AsManyPads =
-    (shape : Shape) (blocks : List (List ℕ)) (r : Reading) (one other : ℕ × ℕ) (test : Sight → Bool) →
+    (shape : Shape) (blocks : List (List ℕ)) (r : DrawnRead) (one other : ℕ × ℕ) (test : RelayedSight → Bool) →
     AreByteBlocks shape blocks → AreWhole shape r.drawn → AreBuckets shape one →
     AreBuckets shape other →
     count_pads shape (λ pads. test (sight shape blocks pads (frames_for shape r one)))

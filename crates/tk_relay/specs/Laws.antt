@@ -16,12 +16,12 @@ use Rattle.tk_relay.specs.Pads.{PadLists, ArePads}
 use Rattle.tk_relay.specs.Bundles.{AreOneRead, part_for}
 use Rattle.tk_relay.specs.Serving.{served_part, gathered_part}
 use Rattle.tk_relay.specs.Replies.{reply_over, replies_from}
-use Rattle.tk_relay.specs.Sights.{Reading, frames_for, AreBuckets, AreBlocks, sight, moved_pads}
+use Rattle.tk_relay.specs.Sights.{DrawnRead, frames_for, AreBuckets, AreBlocks, sight, moved_pads}
 
 -- it sees of a read with these pads what it sees of a read of any other buckets with the moved ones
 abbrev pub SameSight : Type 0
 SameSight =
-    (shape : Shape) (blocks : List (List ℕ)) (pads : PadLists) (r : Reading) (old new : ℕ × ℕ) →
+    (shape : Shape) (blocks : List (List ℕ)) (pads : PadLists) (r : DrawnRead) (old new : ℕ × ℕ) →
     AreBlocks shape blocks → ArePads shape pads → AreWhole shape r.drawn →
     AreBuckets shape old → AreBuckets shape new →
     sight shape blocks pads (frames_for shape r old)

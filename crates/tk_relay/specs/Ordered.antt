@@ -45,7 +45,7 @@ pub record EachChanged (Changes : Passing → Passing → Type 0) (old new : Lis
 
 -- The passes of a cluster of this shape have ordered the second entries after the first. Of the second
 -- alone the frames are seen, and all are counted.
-pub record HaveTaken (own shape : Shape) (E F : List Placed) (passes : List Passing) (p : Telling)
+pub record OrderedAfter (own shape : Shape) (E F : List Placed) (passes : List Passing) (p : Telling)
     (count : ℕ) (bytes : List ℕ) : Type 0 where
   pub same : shape ≡ own
   pub ordered : HaveOrdered shape (E ++ F) passes p

@@ -19,12 +19,12 @@ abbrev pub reply_of : RelayedRead → ℕ → Part
 reply_of r server = slice_index_or r.replies.items (server - 1) blank_part
 
 -- a read of a shape has a part for each server
-pub record IsWhole (shape : Shape) (r : RelayedRead) : Type 0 where
+pub record HasAllParts (shape : Shape) (r : RelayedRead) : Type 0 where
   pub counted : length r.parts.items ≡ shape.servers
   pub sized : AllByRecursion (IsAsking shape) r.parts.items
 
 -- what a client with these pads sends of a read with these frames, split into its parts
-pub record IsSent (shape : Shape) (frames : List ReadFrame) (pads : PadLists) (r : RelayedRead)
+pub record IsSplitRead (shape : Shape) (frames : List ReadFrame) (pads : PadLists) (r : RelayedRead)
     : Type 0 where
   pub bundle : r.bundle ≡ bundle_frame (parts_for shape pads frames)
   pub parts : r.parts.items ≡ parts_for shape pads frames
@@ -32,7 +32,7 @@ pub record IsSent (shape : Shape) (frames : List ReadFrame) (pads : PadLists) (r
 
 -- Some servers with these blocks, from one on, replied to a read of a client with these pads, each
 -- with its mask, and nothing else of it changed.
-pub record IsServed (shape : Shape) (blocks : List (List ℕ)) (pads : PadLists) (from count : ℕ)
+pub record AreRepliedTo (shape : Shape) (blocks : List (List ℕ)) (pads : PadLists) (from count : ℕ)
     (old new : RelayedRead) : Type 0 where
   pub bundle : new.bundle ≡ old.bundle
   pub parts : new.parts ≡ old.parts
@@ -45,7 +45,7 @@ pub record AreServed (shape : Shape) (blocks : List (List ℕ)) (pads : List Pad
     (from count : ℕ) (old new : List RelayedRead) : Type 0 where
   pub counted : length new ≡ length old
   pub each : (k : ℕ) (p : Padding) (d : RelayedRead) → k < length old →
-      IsServed shape blocks (slice_index_or pads k p).pads from count (slice_index_or old k d)
+      AreRepliedTo shape blocks (slice_index_or pads k p).pads from count (slice_index_or old k d)
       (slice_index_or new k d)
 
 -- one reply more to a read, and nothing else of it changed

@@ -15,7 +15,7 @@ use Rattle.tk_relay.specs.Pads.{PadLists, keyed_pads}
 use Rattle.tk_relay.specs.Parts.{part_frame, masked_reply_frame}
 use Rattle.tk_relay.specs.Bundles.{part_for}
 use Rattle.tk_relay.specs.Serving.{served_part}
-use Rattle.tk_relay.specs.Sights.{Sight, sight}
+use Rattle.tk_relay.specs.Sights.{RelayedSight, sight}
 
 -- the seeds of a book, one for each client; a tape has none
 abbrev pub seeds_of : WordBook → List (List ℕ)
@@ -46,11 +46,11 @@ reply_read S b seeds H g c j =
     (part_read S b seeds H g c j)
 
 -- what server 1 sees of it: the bundle, and then the masked replies of all others
-abbrev pub sight_read : Script → WordBook → List (List ℕ) → History → ℕ → ℕ → Sight
+abbrev pub sight_read : Script → WordBook → List (List ℕ) → History → ℕ → ℕ → RelayedSight
 sight_read S b seeds H g c =
     sight S.shape (blocks_read S b H g c) (pads_read S seeds g c) (frames_read S b H g c)
 
-abbrev pub sight_frames : Sight → List (List ℕ)
+abbrev pub sight_frames : RelayedSight → List (List ℕ)
 sight_frames s = s.bundle ∷ s.replies
 
 -- what another server sees of it: its part, and then its masked reply

@@ -8,10 +8,10 @@ use Rattle.tk_script.specs.declared.script.Script.{Script}
 use Rattle.tk_words.specs.Words.{WordBook, IsBook, words_of, fresh_seeds, fresh_vectors, shows_vectors}
 use Rattle.tk_report.specs.Exchange.{read_pair}
 use Rattle.tk_relay.specs.Relayed.{blocks_read, pads_read, relayed_read, sight_frames}
-use Rattle.tk_relay.specs.Sights.{Reading, frames_for, AreBuckets, sight, moved_pads}
+use Rattle.tk_relay.specs.Sights.{DrawnRead, frames_for, AreBuckets, sight, moved_pads}
 
 -- client c's read in turn g, and what is drawn for it
-abbrev pub reading_at : Script → WordBook → History → ℕ → ℕ → Reading
+abbrev pub reading_at : Script → WordBook → History → ℕ → ℕ → DrawnRead
 reading_at S b H g c =
     record {
       client = c;

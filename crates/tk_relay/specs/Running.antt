@@ -17,7 +17,7 @@ use Rattle.tk_frames.specs.Spelling.{placed_frame}
 use Rattle.tk_cluster.specs.declared.set.EpochSet.{EpochSet}
 use Rattle.tk_cluster.specs.Passes.{Passing}
 use Rattle.tk_cluster.specs.Tellings.{Telling}
-use Rattle.tk_cluster.specs.Sets.{Stands}
+use Rattle.tk_cluster.specs.Sets.{StandsAtMark}
 use Rattle.tk_relay.specs.declared.relayed_read.RelayedRead.{RelayedRead}
 use Rattle.tk_relay.specs.Bundles.{parts_for, bundle_frame}
 use Rattle.tk_relay.specs.Relayed.{frames_read, pads_read, part_read, reply_read}
@@ -76,6 +76,6 @@ pub record HaveWritten (shape : Shape) (S : Script) (b : WordBook) (H : History)
   pub ordered : HaveOrdered shape (placed_before S (words_of S.shape b) H (g + 1)) passes p
   pub met : p.seen ≡ placed_before S (words_of S.shape b) H (g + 1)
   pub counted : taken ≡ length (placed_before S (words_of S.shape b) H (g + 1))
-  pub stands : Stands S.shape (placed_before S (words_of S.shape b) H (g + 1)) set.number set
+  pub stands : StandsAtMark S.shape (placed_before S (words_of S.shape b) H (g + 1)) set.number set
   pub epoch : set.number ≡ epoch_at H g 0
   pub seen : bytes ≡ flat_map placed_frame (entries_at (write_at S (words_of S.shape b)) H g)

@@ -36,7 +36,7 @@ abbrev pub IsAsking : Shape → Part → Type 0
 IsAsking shape p = HasHalves (vector_len shape) (halves_of p)
 
 -- parts that a server of a shape is asked with
-pub record AreAsked (shape : Shape) (server : ℕ) (pads : List Padding) (parts : List Part) : Type 0 where
+pub record AreAskedParts (shape : Shape) (server : ℕ) (pads : List Padding) (parts : List Part) : Type 0 where
   pub low : 1 ≤ server
   pub high : server ≤ shape.servers
   pub counted : length pads ≡ length parts
@@ -68,7 +68,7 @@ served_parts shape blocks server pads parts =
     map (reply_to_asked shape blocks server) (zip pads parts)
 
 -- the sums of these blocks that the vectors choose, for the first bucket of each part and for the second
-pub record AreSums (shape : Shape) (blocks : List (List ℕ)) (server : ℕ)
+pub record AreChosenSums (shape : Shape) (blocks : List (List ℕ)) (server : ℕ)
     (asked : List (Padding × Part)) (first second : List (List ℕ)) : Type 0 where
   pub sized : AllSized (width shape) blocks
   pub first_are : first ≡ map (chosen_sum (width shape) blocks) (map (first_asked server) asked)
@@ -81,8 +81,8 @@ pub record IsAlike (first p : Part) : Type 0 where
   pub first_half : length p.first ≡ length first.first
   pub second_half : length p.second ≡ length first.second
 
-abbrev pub AreAlike : List Part → Type 0
-AreAlike parts = AllByRecursion (IsAlike (first_part parts)) parts
+abbrev pub AreOfOneRead : List Part → Type 0
+AreOfOneRead parts = AllByRecursion (IsAlike (first_part parts)) parts
 
 -- the read of the first, with the halves of all joined
 unfoldable pub gathered_part : List Part → Part

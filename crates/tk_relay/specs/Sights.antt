@@ -15,12 +15,12 @@ use Rattle.tk_relay.specs.Bundles.{part_for, parts_for, bundle_frame}
 use Rattle.tk_relay.specs.Serving.{served_part}
 
 -- the bundle, and the masked replies of servers 2 and up in their order
-pub record Sight : Type 0 where
+pub record RelayedSight : Type 0 where
   pub bundle : List ℕ
   pub replies : List (List ℕ)
 
 -- of a read with these frames, where all servers have these blocks
-unfoldable pub sight : Shape → List (List ℕ) → PadLists → List ReadFrame → Sight
+unfoldable pub sight : Shape → List (List ℕ) → PadLists → List ReadFrame → RelayedSight
 sight shape blocks pads frames =
     record {
       bundle = bundle_frame (parts_for shape pads frames);
@@ -33,7 +33,7 @@ sight shape blocks pads frames =
 -- ---- a read of two buckets
 
 -- whose read it is, and what is drawn for it
-pub record Reading : Type 0 where
+pub record DrawnRead : Type 0 where
   pub client : ℕ
   pub turn : ℕ
   pub epoch : ℕ
@@ -42,7 +42,7 @@ pub record Reading : Type 0 where
   pub drawn : BothBuckets
 
 -- the frames for all servers in their order
-abbrev pub frames_for : Shape → Reading → ℕ × ℕ → List ReadFrame
+abbrev pub frames_for : Shape → DrawnRead → ℕ × ℕ → List ReadFrame
 frames_for shape r pair =
     let size = vector_len shape in
     map (frame_with shape r.shows r.turn r.client r.epoch

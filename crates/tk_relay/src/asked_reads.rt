@@ -7,11 +7,11 @@ ghost use Rattle.tk_words.specs.Words.{words_of};
 ghost use Rattle.tk_frames.specs.declared.read_frame.ReadFrame.{ReadFrame as Frame};
 ghost use Rattle.tk_frames.specs.Ranges.{IsRead};
 ghost use Rattle.tk_frames.specs.Spelling.{read_frame};
-ghost use Rattle.tk_cluster.specs.Sets.{Stands};
+ghost use Rattle.tk_cluster.specs.Sets.{StandsAtMark};
 ghost use Rattle.tk_report.specs.Clients.{AreClients};
 ghost use Rattle.tk_report.specs.Turns.{placed_before};
 ghost use Rattle.tk_relay.specs.Bundles.{AreOneRead};
-ghost use Rattle.tk_relay.specs.Reads.{IsSent};
+ghost use Rattle.tk_relay.specs.Reads.{IsSplitRead};
 ghost use Rattle.tk_relay.specs.Pads.{ArePads, paddings_of};
 ghost use Rattle.tk_relay.specs.Relayed.{frames_read};
 ghost use Rattle.tk_relay.specs.Running.{client_wrote, client_asked, AreRelayed};
@@ -62,7 +62,7 @@ pub(crate) fn ask_all<D: Draws>(
         AreClients S.shape.clients (client_wrote S words plan.now.history.now turn) clients.old }
     requires set { let S = plan.now.script.now in
         let words = words_of S.shape (D.book plan.now.draws.now) in
-        Stands S.shape (placed_before S words plan.now.history.now (turn + 1)) set.now.number
+        StandsAtMark S.shape (placed_before S words plan.now.history.now (turn + 1)) set.now.number
         set.now }
     requires epoch { set.now.number ≡ epoch_at plan.now.history.now turn 0 }
     ensures clients { let S = plan.now.script.now in
@@ -99,7 +99,7 @@ fn ask<D: Draws>(
         client.old ≡ client_wrote S words plan.now.history.now turn number }
     requires set { let S = plan.now.script.now in
         let words = words_of S.shape (D.book plan.now.draws.now) in
-        Stands S.shape (placed_before S words plan.now.history.now (turn + 1)) set.now.number
+        StandsAtMark S.shape (placed_before S words plan.now.history.now (turn + 1)) set.now.number
         set.now }
     requires epoch { set.now.number ≡ epoch_at plan.now.history.now turn number }
     ensures client { let S = plan.now.script.now in
@@ -142,7 +142,7 @@ fn send(
     requires masks { ArePads shape.now pads.now.pads }
     requires one_read { AreOneRead shape.now frames.now }
     requires in_range { AllByRecursion (IsRead shape.now) frames.now }
-    ensures { IfOk result (IsSent shape.now frames.now pads.now.pads) }
+    ensures { IfOk result (IsSplitRead shape.now frames.now pads.now.pads) }
 {
     let mut bytes = Vec::new(alloc);
     bundle(shape, frames, pads, &mut bytes)?;

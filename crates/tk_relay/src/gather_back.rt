@@ -2,7 +2,7 @@ ghost use Rattle.std.specs.Prelude.{◌≡◌, ◌≤◌, length, None, IfOk, If
 ghost use Rattle.std.specs.Result.{result_err};
 ghost use Rattle.tk_relay.specs.declared.gather_error.GatherError.TheVariants as fault;
 ghost use Rattle.tk_relay.specs.Refusals.{IsRefused, first_other, other_name, other_number};
-ghost use Rattle.tk_relay.specs.Serving.{AreAlike, gathered_part};
+ghost use Rattle.tk_relay.specs.Serving.{AreOfOneRead, gathered_part};
 
 use crate::halves::Halves;
 use crate::{GatherError, Part};
@@ -13,7 +13,7 @@ use std::alloc::Global;
 pub fn gather(alloc: Global, parts: &[Part]) -> Result<Part, GatherError>
     requires some { 1 ≤ length parts.now }
     requires few { length parts.now ≤ 8 }
-    requires alike { AreAlike parts.now }
+    requires alike { AreOfOneRead parts.now }
     ensures gathered { IfOk result (λ part. part ≡ gathered_part parts.now) }
     ensures kept { OnOk result (first_other parts.now ≡ None) }
     ensures refused { IfErr result (IsRefused fault.Memory (first_other parts.now)) }

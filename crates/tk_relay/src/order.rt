@@ -4,7 +4,7 @@ ghost use Rattle.tk_frames.specs.Ranges.{IsWrite};
 ghost use Rattle.tk_frames.specs.InOrder.{IsNext};
 ghost use Rattle.tk_frames.specs.declared.entry.Placed.{Placed as Entered};
 ghost use Rattle.tk_frames.specs.declared.entry.Entry.TheVariants as entry;
-ghost use Rattle.tk_cluster.specs.Passes.{own, Learns, Reads};
+ghost use Rattle.tk_cluster.specs.Passes.{own, Learns, ReadsOnly};
 ghost use Rattle.tk_relay.specs.Ordered.{EachChanged, HaveOrdered, MayOrder};
 
 use std::alloc::AllocGlobal;
@@ -79,7 +79,7 @@ fn learn_all<B: Naming>(
 ) -> Result<(), Memory>
     requires { All (λ a. a.reads.board ≡ told.old.board) passes.old }
     ensures { OnOk result
-        (EachChanged (Reads (λ a b. Learns a told.old b)) passes.old passes.new) }
+        (EachChanged (ReadsOnly (λ a b. Learns a told.old b)) passes.old passes.new) }
 {
     for pass in passes.iter_mut() {
         cluster.learn(pass, told)?;

@@ -4,8 +4,8 @@ ghost use Rattle.tk_shape.specs.declared.shape.Shape.{Shape};
 ghost use Rattle.tk_frames.specs.declared.entry.Placed.{Placed};
 ghost use Rattle.tk_frames.specs.Order.{before};
 ghost use Rattle.tk_table.specs.Table.{layout, blocks_of};
-ghost use Rattle.tk_cluster.specs.Sets.{Stands};
-ghost use Rattle.tk_relay.specs.Reads.{IsWhole, AreServed, HaveReplies, part_of};
+ghost use Rattle.tk_cluster.specs.Sets.{StandsAtMark};
+ghost use Rattle.tk_relay.specs.Reads.{HasAllParts, AreServed, HaveReplies, part_of};
 
 use crate::relayed_read::RelayedRead;
 use crate::{Pads, Part, serve_parts};
@@ -22,8 +22,8 @@ pub(crate) fn serve_all(
 ) -> Result<(), Memory>
     requires counted { length pads.now ≡ length reads.old }
     requires one_shape { All (λ p. p.shape ≡ set.now.shape) pads.now }
-    requires whole { All (IsWhole set.now.shape) reads.old }
-    ensures { (shape : Shape) (E : List Placed) → Stands shape E set.now.number set.now
+    requires whole { All (HasAllParts set.now.shape) reads.old }
+    ensures { (shape : Shape) (E : List Placed) → StandsAtMark shape E set.now.number set.now
         → let blocks = blocks_of (layout shape (before E set.now.number)) in
         OnOk result (AreServed shape blocks pads.now 1 shape.servers reads.old reads.new) }
 {
@@ -45,9 +45,9 @@ fn serve(
     requires high { server ≤ set.now.shape.servers }
     requires counted { length pads.now ≡ length reads.old }
     requires one_shape { All (λ p. p.shape ≡ set.now.shape) pads.now }
-    requires whole { All (IsWhole set.now.shape) reads.old }
-    ensures whole { OnOk result (All (IsWhole set.now.shape) reads.new) }
-    ensures served { (shape : Shape) (E : List Placed) → Stands shape E set.now.number set.now
+    requires whole { All (HasAllParts set.now.shape) reads.old }
+    ensures whole { OnOk result (All (HasAllParts set.now.shape) reads.new) }
+    ensures served { (shape : Shape) (E : List Placed) → StandsAtMark shape E set.now.number set.now
         → let blocks = blocks_of (layout shape (before E set.now.number)) in
         OnOk result (AreServed shape blocks pads.now server 1 reads.old reads.new) }
 {

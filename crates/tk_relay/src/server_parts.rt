@@ -8,14 +8,14 @@ ghost use Rattle.tk_frames.specs.Order.{before};
 ghost use Rattle.tk_kernel.specs.Chosen.{chosen_sum};
 ghost use Rattle.tk_kernel.specs.Pieces.{AllSized};
 ghost use Rattle.tk_table.specs.Table.{layout, blocks_of};
-ghost use Rattle.tk_cluster.specs.Sets.{Stands};
+ghost use Rattle.tk_cluster.specs.Sets.{StandsAtMark};
 ghost use Rattle.tk_relay.specs.declared.part_error.PartError.TheVariants as fault;
 ghost use Rattle.tk_relay.specs.Halves.{HasHalves};
 ghost use Rattle.tk_relay.specs.Pads.{masked};
 ghost use Rattle.tk_relay.specs.Parts.{halves_of, part_with};
 ghost use Rattle.tk_relay.specs.Refusals.{IsRefused, other_epoch, first_other_epoch};
 ghost use Rattle.tk_relay.specs.Serving.{served_part, served_parts, first_asked, second_asked};
-ghost use Rattle.tk_relay.specs.Serving.{AreAsked, AreHad, AreSums};
+ghost use Rattle.tk_relay.specs.Serving.{AreAskedParts, AreHad, AreChosenSums};
 
 use crate::halves::Halves;
 use crate::{Pads, Part, PartError};
@@ -42,7 +42,7 @@ pub fn serve_part(
     ensures kept { OnOk result (other_epoch set.now.number part.now ≡ None) }
     ensures refused { IfErr result (IsRefused fault.Memory (other_epoch set.now.number part.now)) }
     ensures sized { IfOk result (λ p. HasHalves (width set.now.shape) (halves_of p)) }
-    ensures served { (shape : Shape) (E : List Placed) → Stands shape E set.now.number set.now
+    ensures served { (shape : Shape) (E : List Placed) → StandsAtMark shape E set.now.number set.now
         → let blocks = blocks_of (layout shape (before E set.now.number)) in
         IfOk result (λ p. p ≡ served_part shape blocks pads.now.pads server part.now) }
 {
@@ -73,7 +73,7 @@ pub fn serve_parts(
         (IsRefused fault.Memory (first_other_epoch set.now.number parts.now)) }
     ensures sized { IfOk result
         (λ rs. All (λ p. HasHalves (width set.now.shape) (halves_of p)) rs.items) }
-    ensures served { (shape : Shape) (E : List Placed) → Stands shape E set.now.number set.now
+    ensures served { (shape : Shape) (E : List Placed) → StandsAtMark shape E set.now.number set.now
         → let blocks = blocks_of (layout shape (before E set.now.number)) in
         IfOk result (λ rs. rs.items ≡ served_parts shape blocks server pads.now parts.now) }
 {
@@ -114,13 +114,13 @@ fn replies_over(
     pads: &[Pads],
 ) -> Result<Vec<Part>, Memory>
     requires { (shape : Shape) × AreHad shape blocks.now
-        × AreAsked shape server pads.now parts.now }
+        × AreAskedParts shape server pads.now parts.now }
     ensures sized { (shape : Shape) → AreHad shape blocks.now
-        → AreAsked shape server pads.now parts.now
+        → AreAskedParts shape server pads.now parts.now
         → IfOk result
         (λ rs. AllByRecursion (λ p. HasHalves (width shape) (halves_of p)) rs.items) }
     ensures served { (shape : Shape) → AreHad shape blocks.now
-        → AreAsked shape server pads.now parts.now
+        → AreAskedParts shape server pads.now parts.now
         → IfOk result
         (λ rs. rs.items ≡ served_parts shape blocks.now.blocks server pads.now parts.now) }
 {
@@ -154,8 +154,8 @@ fn vectors_for(
     parts: &[Part],
     pads: &[Pads],
 ) -> Result<Vec<Bytes>, Memory>
-    requires { (shape : Shape) × AreAsked shape server pads.now parts.now }
-    ensures sized { (shape : Shape) → AreAsked shape server pads.now parts.now
+    requires { (shape : Shape) × AreAskedParts shape server pads.now parts.now }
+    ensures sized { (shape : Shape) → AreAskedParts shape server pads.now parts.now
         → IfOk result (λ vectors. AllSized (vector_len shape) vectors.items) }
     ensures vectors { let asked = zip pads.now parts.now in
         IfOk result (λ vectors. vectors.items
@@ -182,14 +182,14 @@ fn replies_with(
     second: &[Bytes],
 ) -> Result<Vec<Part>, Memory>
     requires { (shape : Shape) × (blocks : List (List ℕ))
-        × AreAsked shape server pads.now parts.now
-        × AreSums shape blocks server (zip pads.now parts.now) first.now second.now }
-    ensures sized { (shape : Shape) → AreAsked shape server pads.now parts.now
+        × AreAskedParts shape server pads.now parts.now
+        × AreChosenSums shape blocks server (zip pads.now parts.now) first.now second.now }
+    ensures sized { (shape : Shape) → AreAskedParts shape server pads.now parts.now
         → IfOk result
         (λ rs. AllByRecursion (λ p. HasHalves (width shape) (halves_of p)) rs.items) }
     ensures served { (shape : Shape) (blocks : List (List ℕ))
-        → AreAsked shape server pads.now parts.now
-        → AreSums shape blocks server (zip pads.now parts.now) first.now second.now
+        → AreAskedParts shape server pads.now parts.now
+        → AreChosenSums shape blocks server (zip pads.now parts.now) first.now second.now
         → IfOk result (λ rs. rs.items ≡ served_parts shape blocks server pads.now parts.now) }
 {
     let mut replies = Vec::new(alloc);

@@ -3,9 +3,9 @@ ghost use Rattle.std.specs.Prelude.{◌≡◌, List, Some, slice_get, IfOk, OnOk
 ghost use Rattle.std.specs.Arc.{arc_value};
 ghost use Rattle.tk_frames.specs.declared.entry.Placed.{Placed as Entered};
 ghost use Rattle.tk_frames.specs.InOrder.{mark_count};
-ghost use Rattle.tk_cluster.specs.Clusters.{Met};
+ghost use Rattle.tk_cluster.specs.Clusters.{HaveMet};
 ghost use Rattle.tk_cluster.specs.Tellings.{Telling};
-ghost use Rattle.tk_relay.specs.Ordered.{HaveOrdered, HaveTaken};
+ghost use Rattle.tk_relay.specs.Ordered.{HaveOrdered, OrderedAfter};
 
 use crate::order::order;
 use std::alloc::{AllocGlobal, Global};
@@ -30,7 +30,7 @@ pub(crate) struct Servers<'a, B: Naming, R: Wait + AllocGlobal> {
 impl<'a, B: Naming, R: Wait + AllocGlobal> Servers<'a, B, R> {
     /// All passes and the publisher meet.
     pub(crate) fn meet(&mut self) -> Result<(), Memory>
-        ensures met { Met B.shape self.old.passes.items self.old.publisher self.new.passes.items
+        ensures met { HaveMet B.shape self.old.passes.items self.old.publisher self.new.passes.items
             self.new.publisher }
         ensures taken { self.new.taken ≡ self.old.taken }
         ensures seen { self.new.seen ≡ self.old.seen }
@@ -43,7 +43,7 @@ impl<'a, B: Naming, R: Wait + AllocGlobal> Servers<'a, B, R> {
 
 impl<'a, B: Naming, R: Wait + AllocGlobal> Takes for Servers<'a, B, R> {
     ghost took = { λ was shape E F is.
-        HaveTaken B.shape shape E F is.passes.items is.publisher is.taken is.seen.items };
+        OrderedAfter B.shape shape E F is.passes.items is.publisher is.taken is.seen.items };
 
     fn taken(&self) -> u64 {
         self.taken

@@ -10,7 +10,7 @@ ghost use Rattle.tk_words.specs.Words.{words_of};
 ghost use Rattle.tk_report.specs.Clients.{AreClients, client_before};
 ghost use Rattle.tk_report.specs.Exchange.{bytes_of};
 ghost use Rattle.tk_report.specs.Turns.{placed_before};
-ghost use Rattle.tk_cluster.specs.Sets.{Stands};
+ghost use Rattle.tk_cluster.specs.Sets.{StandsAtMark};
 ghost use Rattle.tk_relay.specs.Relayed.{relayed_turn, relayed_exchange};
 ghost use Rattle.tk_relay.specs.Running.{IsRunBefore, HaveWritten, AreRelayed, client_wrote};
 
@@ -197,7 +197,7 @@ fn read_turn<D: Draws>(
         AreClients S.shape.clients (client_wrote S words plan.now.history.now turn) clients.old }
     requires set { let S = plan.now.script.now in
         let words = words_of S.shape (D.book plan.now.draws.now) in
-        Stands S.shape (placed_before S words plan.now.history.now (turn + 1)) set.now.number
+        StandsAtMark S.shape (placed_before S words plan.now.history.now (turn + 1)) set.now.number
         set.now }
     requires epoch { set.now.number ≡ epoch_at plan.now.history.now turn 0 }
     ensures clients { let S = plan.now.script.now in

@@ -2,7 +2,7 @@
 ghost use Rattle.std.specs.Prelude.{◌≡◌, length, IfOk, IsTrue};
 ghost use Rattle.tk_shape.specs.Lengths.{vector_len};
 ghost use Rattle.tk_relay.specs.Bundles.{AreOneRead};
-ghost use Rattle.tk_relay.specs.Serving.{AreAlike};
+ghost use Rattle.tk_relay.specs.Serving.{AreOfOneRead};
 
 use std::alloc::Global;
 use tk_frames::{ReadFrame, Seeds};
@@ -95,7 +95,7 @@ pub(crate) fn bundled(
 
 /// Whether all parts have as many bytes for either bucket as the first.
 fn are_alike(parts: &[Part]) -> bool
-    ensures { IsTrue result → AreAlike parts.now }
+    ensures { IsTrue result → AreOfOneRead parts.now }
 {
     for part in parts {
         let (first, second) = (&parts[0].first, &parts[0].second);

@@ -1,4 +1,4 @@
--- A turn of those who acted in it, told of the slips that lie on their desks.
+-- A turn of those who acted in it, told of the deeds that lie on their desks.
 use Rattle.std.proofs.Common.{◌≡◌, ℕ, suc, ◌+◌, ◌<◌, List, [], ◌∷◌, length, map, Option, Some, refl, ap, sym, ◌∙◌}
 use Rattle.std.proofs.Common.{subst, arith, append-nil}
 use Rattle.std.specs.Prelude.{slice_index_or}
@@ -12,13 +12,13 @@ use Rattle.tk_schedule.specs.declared.history.TurnOrder.{TurnOrder}
 use Rattle.tk_schedule.specs.Schedule.{phases_over}
 use Rattle.tk_script.proofs.Offers.{same_first, same_rest}
 use Rattle.tk_cluster.specs.Refusals.{SpellsWrite}
-use Rattle.tk_cluster.specs.Passes.{Passing, Wrote, Pins, Reads}
+use Rattle.tk_cluster.specs.Passes.{Passing, Wrote, Pins, ReadsOnly}
 use Rattle.tk_cluster.specs.Tellings.{Telling}
 use Rattle.tk_run.specs.declared.pinned_write.PinnedWrite.{PinnedWrite}
 use Rattle.tk_run.specs.declared.actors.Desk.{Desk}
 use Rattle.tk_run.specs.Ticks.{Done}
-use Rattle.tk_run.specs.Ran.{ActsOn, EachBy, Turned, PassesAt, Ran, set_on}
-use Rattle.tk_run.specs.Acting.{WroteAndPinned, Acted, AreFrames, frames_on, slips_on}
+use Rattle.tk_run.specs.Ran.{ActsOn, EachBy, HasTurned, PassesAt, Ran, set_on}
+use Rattle.tk_run.specs.Acting.{WroteAndPinned, Acted, AreFrames, frames_on, deeds_on}
 
 -- ---- lists and options that are the same
 
@@ -44,9 +44,9 @@ module _ (shape : Shape) (write : ℕ → WriteFrame)
 
   acts_one : (a : Passing) (d e : Desk) (b : Passing) (s : PinnedWrite) →
       WroteAndPinned shape most a d e b → SpellsWrite shape d.frame.items (write a.client) →
-      e.slip ≡ Some s → ActsOn write most a s b
+      e.deed ≡ Some s → ActsOn write most a s b
   acts_one a d e b s h spells lies =
-      let same : h.slip ≡ s = same_some e.slip h.slip s h.lies lies in
+      let same : h.deed ≡ s = same_some e.deed h.deed s h.lies lies in
       let frame : h.wrote.write ≡ write a.client =
       same_write d.frame.items h.wrote.write (write a.client) h.wrote.spells spells
       in
@@ -54,7 +54,7 @@ module _ (shape : Shape) (write : ℕ → WriteFrame)
         mid = h.mid;
         wrote = subst (λ w. Wrote a w h.mid) frame h.wrote.wrote;
         position = ap (λ (x : PinnedWrite). x.position) (sym same) ∙ h.position;
-        pins = subst (λ (x : PinnedWrite). Reads (λ r t. Pins r most (set_on x) t) h.mid b) same h.pins;
+        pins = subst (λ (x : PinnedWrite). ReadsOnly (λ r t. Pins r most (set_on x) t) h.mid b) same h.pins;
       }
 
   -- the frames of the clients from client off on
@@ -77,21 +77,21 @@ module _ (shape : Shape) (write : ℕ → WriteFrame)
       (h (suc k) x (omega (arith, low)))
 
   all_acts : (K : List TurnOrder) (p : Telling) (off : ℕ) (xs : List Passing) (ds es : List Desk)
-      (ys : List Passing) (slips : List PinnedWrite) → Done (WroteAndPinned shape most) xs ds es ys →
-      PassesAt shape K p off xs → Spelled off ds → slips_on es ≡ map Some slips →
-      EachBy (ActsOn write most) xs slips ys
+      (ys : List Passing) (deeds : List PinnedWrite) → Done (WroteAndPinned shape most) xs ds es ys →
+      PassesAt shape K p off xs → Spelled off ds → deeds_on es ≡ map Some deeds →
+      EachBy (ActsOn write most) xs deeds ys
   all_acts K p off [] [] [] [] [] h at spells lie = tt
-  all_acts K p off [] [] [] [] (s ∷ slips) h at spells lie =
-      absurd (not_shorter (Some s) (map Some slips) lie)
+  all_acts K p off [] [] [] [] (s ∷ deeds) h at spells lie =
+      absurd (not_shorter (Some s) (map Some deeds) lie)
   all_acts K p off (a ∷ xs) (d ∷ ds) (e ∷ es) (b ∷ ys) [] h at spells lie =
-      absurd (not_longer e.slip (slips_on es) lie)
-  all_acts K p off (a ∷ xs) (d ∷ ds) (e ∷ es) (b ∷ ys) (s ∷ slips) h at spells lie =
-      let here = same_first e.slip (Some s) (slips_on es) (map Some slips) lie in
-      let rest = same_rest e.slip (Some s) (slips_on es) (map Some slips) lie in (
+      absurd (not_longer e.deed (deeds_on es) lie)
+  all_acts K p off (a ∷ xs) (d ∷ ds) (e ∷ es) (b ∷ ys) (s ∷ deeds) h at spells lie =
+      let here = same_first e.deed (Some s) (deeds_on es) (map Some deeds) lie in
+      let rest = same_rest e.deed (Some s) (deeds_on es) (map Some deeds) lie in (
         acts_one a d e b s h.0 (spelled_first off d ds a.client (at.0).client spells) here,
-        all_acts K p (off + 1) xs ds es ys slips h.1 at.1 (spelled_rest off d ds spells) rest,
+        all_acts K p (off + 1) xs ds es ys deeds h.1 at.1 (spelled_rest off d ds spells) rest,
       )
-  all_acts K p off _ _ _ _ slips h at spells lie = absurd h
+  all_acts K p off _ _ _ _ deeds h at spells lie = absurd h
 
 -- the frames stay on the desks
 all_frames : (shape : Shape) (most : ℕ) (xs : List Passing) (ds es : List Desk) (ys : List Passing) →
@@ -109,11 +109,11 @@ frames_stay {shape} {g} {xs} {p} {ds} {es} h =
 -- where the desks had the frames of what the clients write, it is a turn of these writes
 pub acted_turned : {shape : Shape} {write : ℕ → WriteFrame} {writes : ℕ → ℕ → WriteFrame}
     {K : List TurnOrder} {g : ℕ} {xs : List Passing} {p : Telling} {ds es : List Desk}
-    {zs : List Passing} {q : Telling} (slips : List PinnedWrite) →
+    {zs : List Passing} {q : Telling} (deeds : List PinnedWrite) →
     IsOneSpelling (IsWrite shape) write_frame → Ran shape writes K xs p →
     Acted shape g xs p ds es zs q → AreFrames shape write (frames_on ds) →
-    slips_on es ≡ map Some slips → Turned shape write g xs p slips zs q
-acted_turned {shape} {write} {writes} {K} {g} {xs} {p} {ds} {es} slips one ran h frames lie =
+    deeds_on es ≡ map Some deeds → HasTurned shape write g xs p deeds zs q
+acted_turned {shape} {write} {writes} {K} {g} {xs} {p} {ds} {es} deeds one ran h frames lie =
     let spells : (k : ℕ) (d : List ℕ) → k < length ds →
     SpellsWrite shape (slice_index_or (frames_on ds) k d) (write (0 + k)) =
     λ k d low.
@@ -125,7 +125,7 @@ acted_turned {shape} {write} {writes} {K} {g} {xs} {p} {ds} {es} slips one ran h
       acted = h.acted;
       told = h.told;
       learned = h.learned;
-      acts = all_acts shape write one (phases_over shape (g + 1)) K p 0 xs ds es h.acted slips h.acts
+      acts = all_acts shape write one (phases_over shape (g + 1)) K p 0 xs ds es h.acted deeds h.acts
           ran.passes spells lie;
       tells = h.tells;
       learns = h.learns;

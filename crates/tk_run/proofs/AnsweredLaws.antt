@@ -11,13 +11,13 @@ use Rattle.tk_cluster.specs.Refusals.{IsAsked}
 use Rattle.tk_run.specs.declared.talk.Reading.{Reading}
 use Rattle.tk_run.specs.Rows.{Frame}
 use Rattle.tk_run.specs.Reading.{EachAt}
-use Rattle.tk_run.specs.Answering.{MayAnswer, IsAnswered, AllStand, MayReply, AreGiven, Replies, AllReply, Due, set_of}
+use Rattle.tk_run.specs.Answering.{AreAllAsked, IsAnswered, AllStand, MayReply, AreGiven, Replies, AllReply, ReplyDue, set_of}
 use Rattle.tk_run.specs.Answering.{frame_of}
 use Rattle.tk_run.proofs.Cuts.{map-next}
 use Rattle.tk_run.proofs.TalkAll.{map-at}
 
 -- the first servers replied, over the entries that the sets stand for
-pub record IsReplied (due : Due) (stand : Shape → List Placed → Type 0) (n : ℕ) (old new : Reading)
+pub record IsReplied (due : ReplyDue) (stand : Shape → List Placed → Type 0) (n : ℕ) (old new : Reading)
     : Type 0 where
   pub client : new.client ≡ old.client
   pub turn : new.talk.turn ≡ old.talk.turn
@@ -26,8 +26,8 @@ pub record IsReplied (due : Due) (stand : Shape → List Placed → Type 0) (n :
   pub replies : (shape : Shape) (E : List Placed) → stand shape E →
       new.talk.replies.items ≡ map (due shape E) (take n old.talk.asked.items)
 
-pub replied-none : (due : Due) (shape : Shape) (stand : Shape → List Placed → Type 0) (rs : List Reading) →
-    All (MayAnswer shape) rs → EachAt (IsReplied due stand 0) rs rs
+pub replied-none : (due : ReplyDue) (shape : Shape) (stand : Shape → List Placed → Type 0) (rs : List Reading) →
+    All (AreAllAsked shape) rs → EachAt (IsReplied due stand 0) rs rs
 replied-none due shape stand rs may k d low =
     record {
       client = refl;
@@ -38,13 +38,13 @@ replied-none due shape stand rs may k d low =
     }
 
 -- the frames of a server
-pub asked-inside : (shape : Shape) (i : ℕ) (rs : List Reading) → All (MayAnswer shape) rs →
+pub asked-inside : (shape : Shape) (i : ℕ) (rs : List Reading) → All (AreAllAsked shape) rs →
     i < shape.servers → All (λ r. i < length r.talk.asked.items) rs
 asked-inside shape i rs may inside k d low = omega (arith, inside, (may k d low).counted)
 
 -- they are reads of the sets
 pub replies-due : (shape : Shape) (i : ℕ) (rs : List Reading) (frames : List Frame) →
-    All (MayAnswer shape) rs → i < shape.servers → frames ≡ map (frame_of i) rs →
+    All (AreAllAsked shape) rs → i < shape.servers → frames ≡ map (frame_of i) rs →
     MayReply shape (i + 1) rs frames
 replies-due shape i rs frames may inside frames_are =
     let long : length frames ≡ length rs =
@@ -70,7 +70,7 @@ replies-due shape i rs frames may inside frames_are =
     }
 
 -- as many replies as there are reads
-pub replies-counted : (due : Due) (shape : Shape) (E : List Placed) (i : ℕ) (rs : List Reading)
+pub replies-counted : (due : ReplyDue) (shape : Shape) (E : List Placed) (i : ℕ) (rs : List Reading)
     (replies : List Frame) → replies ≡ map (due shape E) (map (frame_of i) rs) →
     length replies ≡ length rs
 replies-counted due shape E i rs replies are =
@@ -84,7 +84,7 @@ module _ (shape : Shape) (rs : List Reading) (answers given rest : List Replies)
   server-inside counted =
       omega (arith, counted, ap length whole, length-append given (x ∷ rest))
 
-  pub server-replied : (due : Due) (replies : Vec Frame Global) → x ≡ Ok replies →
+  pub server-replied : (due : ReplyDue) (replies : Vec Frame Global) → x ≡ Ok replies →
       AllReply due rs answers → (other : Shape) (E : List Placed) → AllStand rs other E →
       replies.items ≡ map (due other E) (map (frame_of (length given)) rs)
   server-replied due replies is all other E stands =
@@ -102,9 +102,9 @@ module _ (shape : Shape) (rs : List Reading) (answers given rest : List Replies)
       (all i x low other E stands)
 
 -- one server more has replied
-pub replied-next : (due : Due) (shape : Shape) (i : ℕ) (old now new : List Reading)
+pub replied-next : (due : ReplyDue) (shape : Shape) (i : ℕ) (old now new : List Reading)
     (replies : List Frame) →
-    length now ≡ length old → All (MayAnswer shape) old → i < shape.servers →
+    length now ≡ length old → All (AreAllAsked shape) old → i < shape.servers →
     EachAt (IsReplied due (AllStand old) i) old now →
     ((other : Shape) (E : List Placed) → AllStand old other E →
     replies ≡ map (due other E) (map (frame_of i) old)) →
@@ -139,8 +139,8 @@ replied-next due shape i old now new replies counted may inside so_far replies_a
     }
 
 -- and at the end all have
-pub replied-all : (due : Due) (shape : Shape) (n : ℕ) (old new : List Reading) →
-    All (MayAnswer shape) old → n ≡ shape.servers →
+pub replied-all : (due : ReplyDue) (shape : Shape) (n : ℕ) (old new : List Reading) →
+    All (AreAllAsked shape) old → n ≡ shape.servers →
     EachAt (IsReplied due (AllStand old) n) old new → EachAt (IsAnswered due (AllStand old)) old new
 replied-all due shape n old new may all so_far k d low =
     let is = so_far k d low in

@@ -28,7 +28,7 @@ each_one write E off (d ∷ ds) at zero low c is =
 each_one write E off (d ∷ ds) at (suc k) low c is =
     each_one write E (off + 1) ds at.1 k (omega (arith, low)) c (omega (arith, is))
 
--- what a turn with these slips put after a list, in a legal order
+-- what a turn with these deeds put after a list, in a legal order
 pub record Brings (shape : Shape) (write : ℕ → WriteFrame) (g : ℕ) (E T : List Placed)
     (ds : List PinnedWrite) : Type 0 where
   pub order : IsOrderFrom shape (length E + 1) (mark_count E + 1) T
@@ -36,7 +36,7 @@ pub record Brings (shape : Shape) (write : ℕ → WriteFrame) (g : ℕ) (E T : 
   pub places : AtPlaces write T 0 ds
   pub marked : length (of 0 T) ≡ marks_due shape g
 
--- the write of a slip stands among the next so many entries
+-- the write of a deed stands among the next so many entries
 abbrev pub StandsIn : ℕ → ℕ → PinnedWrite → Type 0
 StandsIn start count d = (start < d.position) × (d.position ≤ start + count)
 

@@ -18,7 +18,7 @@ use Rattle.tk_run.specs.Keeping.{begun_anew, held_now}
 use Rattle.tk_run.specs.Servers.{AreServers, alike, nothing_seen, with_more}
 use Rattle.tk_run.specs.declared.run.Run.{Run}
 use Rattle.tk_run.specs.declared.servers.Servers.{Servers}
-use Rattle.tk_run.specs.Under.{Serves, IsRunUnder, client_under}
+use Rattle.tk_run.specs.Under.{ServesAs, IsRunUnder, client_under}
 
 -- what is behind the front of a list that begins with it
 drop-front : (E F all : List Placed) → all ≡ E ++ F → drop (length E) all ≡ F
@@ -111,9 +111,9 @@ module _ (S : Script) (b : WordBook) (H : History) (due : ℕ) (given : ℕ → 
       ∙ ap (λ (p : Bool). either p j (all (g + 1))) (lt-leb due g (omega (arith, is)))
 
   -- in each turn they tell and reply so
-  pub serves-anew : (g : ℕ) → Serves S b H (begun_anew S b H due given) g (with_more (holds g) (more g))
+  pub serves-anew : (g : ℕ) → ServesAs S b H (begun_anew S b H due given) g (with_more (holds g) (more g))
   serves-anew g =
-      subst (Serves S b H (begun_anew S b H due given) g)
+      subst (ServesAs S b H (begun_anew S b H due given) g)
       (λ i j. sym (held-more g j) i)
       (record { shows = λ c low. refl; reply = λ c j r low. refl })
 

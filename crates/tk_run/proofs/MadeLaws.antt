@@ -23,7 +23,7 @@ use Rattle.tk_report.specs.Report.{read_over}
 use Rattle.tk_report.specs.Serving.{Serving, read_under}
 use Rattle.tk_report.specs.Turns.{placed_before}
 use Rattle.tk_report.proofs.Offers.{AreMade, all-sound, blocks-whole}
-use Rattle.tk_run.specs.Ranged.{Summing, IsSized, in_ranges}
+use Rattle.tk_run.specs.Ranged.{Summing, MakesBlocks, in_ranges}
 use Rattle.tk_run.specs.Ranging.{even_ranges, sum_for, over_ranges, reply_by, made_due, bytes_made}
 use Rattle.tk_run.specs.Under.{reply_under, replies_from}
 use Rattle.tk_run.proofs.AnswerLaws.{sum-long}
@@ -32,7 +32,7 @@ use Rattle.tk_run.proofs.UnderLaws.{each-of, reads-whole}
 
 -- ---- replies in range
 
-module _ (sum : Summing) (sized : IsSized sum) (shards : ℕ) (shape : Shape) (R : List Record)
+module _ (sum : Summing) (sized : MakesBlocks sum) (shards : ℕ) (shape : Shape) (R : List Record)
     (ordered : AreOrdered shape R) (storable : AllByRecursion (IsStorable shape) R) where
   made-long : (ranges : List (ℕ × ℕ)) (vector : List ℕ) →
       length (sum_for shards sum (in_ranges shape R ranges) vector) ≡ width shape
@@ -93,7 +93,7 @@ module _ (S : Script) (b : WordBook) (H : History) (shards : ℕ) (sum : Summing
       (replies-made js made low in_range.1)
 
   -- and all are in range
-  pub made-whole : IsSized sum → IsBook S.shape b → IsLegal S.shape H → g < turn_count S.shape →
+  pub made-whole : MakesBlocks sum → IsBook S.shape b → IsLegal S.shape H → g < turn_count S.shape →
       c < S.shape.clients → AllByRecursion (IsReply S.shape) (replies_from S b H V g S.shape.servers c)
   unfolding replies_from
   made-whole sized serves legal turn_in low =

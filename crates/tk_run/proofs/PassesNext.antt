@@ -13,7 +13,7 @@ use Rattle.tk_schedule.specs.Schedule.{phases_over}
 use Rattle.tk_order.specs.Legality.{of}
 use Rattle.tk_order.proofs.Offers.{of-append, prefix_get}
 use Rattle.tk_cluster.specs.declared.set.EpochSet.{EpochSet}
-use Rattle.tk_cluster.specs.Sets.{Stands, Shows}
+use Rattle.tk_cluster.specs.Sets.{StandsAtMark, AreShown}
 use Rattle.tk_cluster.specs.Passes.{Passing, own}
 use Rattle.tk_cluster.specs.Tellings.{Telling}
 use Rattle.tk_run.specs.declared.pinned_write.PinnedWrite.{PinnedWrite}
@@ -117,11 +117,11 @@ module _ (shape : Shape) (write : ℕ → ℕ → WriteFrame) (K : List TurnOrde
   -- ---- the sets that were pinned
 
   -- each stands for the entries before its mark
-  pub all_stand : (H : List TurnOrder) → Shows shape q.shown q.seen →
+  pub all_stand : (H : List TurnOrder) → AreShown shape q.shown q.seen →
       length q.shown ≡ phases_over shape (length K + 1) + 1 → (off : ℕ) (xs : List Passing)
       (ds : List PinnedWrite) (zs : List Passing) → EachBy Step xs ds zs → PassesAt shape H q off zs →
       (c : ℕ) (d : PinnedWrite) → c < length ds →
-      Stands shape q.seen (set_on (slice_index_or ds c d)).number (set_on (slice_index_or ds c d))
+      StandsAtMark shape q.seen (set_on (slice_index_or ds c d)).number (set_on (slice_index_or ds c d))
   all_stand H shows long off [] [] [] h at c d low = absurd (omega (arith, low))
   all_stand H shows long off (a ∷ xs) (e ∷ ds) (z ∷ zs) h at zero d low =
       let n = (set_on e).number in

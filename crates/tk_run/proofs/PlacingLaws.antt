@@ -9,7 +9,7 @@ use Rattle.tk_frames.specs.InOrder.{IsOrder}
 use Rattle.tk_frames.specs.Spelling.{placed_frame}
 use Rattle.tk_run.specs.declared.server.Server.{Server}
 use Rattle.tk_run.specs.declared.servers.Servers.{Servers}
-use Rattle.tk_run.specs.Servers.{IsServer, AreServers, AreReady, HaveTaken}
+use Rattle.tk_run.specs.Servers.{IsServerAt, AreServers, AreReady, TookOn}
 use Rattle.tk_run.specs.Servers.{nothing_seen, taken_seen, with_more}
 
 -- servers of the same entries that saw the same
@@ -23,7 +23,7 @@ servers-same shape Es Fs seen saw servers entries same are =
       each = λ i d within.
           let is = are.each i d within in
           let high : i + 1 ≤ shape.servers = omega (arith, within, are.counted) in
-          let now = subst (λ (ps : List Placed). IsServer shape ps (seen (i + 1))
+          let now = subst (λ (ps : List Placed). IsServerAt shape ps (seen (i + 1))
           (slice_index_or servers i d)) (entries (i + 1) (omega arith) high) is in
           record {
             state = now.state;
@@ -56,7 +56,7 @@ servers-order shape Es seen servers are j low high =
 
 -- before any they have taken none
 pub taken-none : (shape : Shape) (E : List Placed) (servers : Servers) →
-    servers.taken ≡ length E → AreReady shape E servers.list.items → HaveTaken servers shape E [] servers
+    servers.taken ≡ length E → AreReady shape E servers.list.items → TookOn servers shape E [] servers
 taken-none shape E servers counted ready =
     let all = sym (append-nil E) in
     record {
@@ -69,12 +69,12 @@ taken-none shape E servers counted ready =
 
 -- one entry more
 pub taken-more : (was : Servers) (shape : Shape) (E F : List Placed) (p : Placed)
-    (servers new : Servers) → HaveTaken was shape E F servers → new.taken ≡ servers.taken + 1 →
+    (servers new : Servers) → TookOn was shape E F servers → new.taken ≡ servers.taken + 1 →
     AreReady shape ((E ++ F) ++ p ∷ []) new.list.items →
     ((Es : ℕ → List Placed) → AreServers shape (with_more Es F) (taken_seen F) servers.list.items →
     AreServers shape (with_more (with_more Es F) (p ∷ []))
     (λ j. taken_seen F j ++ placed_frame p) new.list.items) →
-    HaveTaken was shape E (F ++ p ∷ []) new
+    TookOn was shape E (F ++ p ∷ []) new
 taken-more was shape E F p servers new have counted ready more =
     let all = append_assoc E F (p ∷ []) in
     record {

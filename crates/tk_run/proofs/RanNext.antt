@@ -17,10 +17,10 @@ use Rattle.tk_report.specs.Entries.{placed_from, entries_before}
 use Rattle.tk_cluster.specs.declared.set.EpochSet.{EpochSet}
 use Rattle.tk_cluster.specs.Passes.{Passing, MeetsAt}
 use Rattle.tk_cluster.specs.Tellings.{Telling, marks, Published}
-use Rattle.tk_cluster.specs.Clusters.{Each, Met}
-use Rattle.tk_cluster.specs.Sets.{Stands, Shows}
+use Rattle.tk_cluster.specs.Clusters.{Each, HaveMet}
+use Rattle.tk_cluster.specs.Sets.{StandsAtMark, AreShown}
 use Rattle.tk_run.specs.declared.pinned_write.PinnedWrite.{PinnedWrite}
-use Rattle.tk_run.specs.Ran.{ActsOn, EachBy, AllLearn, Turned, turn_of, set_on, Ran}
+use Rattle.tk_run.specs.Ran.{ActsOn, EachBy, AllLearn, HasTurned, turn_of, set_on, Ran}
 use Rattle.tk_run.proofs.TurnItems.{length_items, count_clients, count_marks}
 use Rattle.tk_run.proofs.Brought.{Brings, one_counted, brings_counted, brings_entries, brings_order}
 use Rattle.tk_run.proofs.Steps.{all_closing, all_open}
@@ -52,7 +52,7 @@ module _ {shape : Shape} {write : ℕ → ℕ → WriteFrame} {K : List TurnOrde
       (told : Telling) (learned : List Passing) →
       EachBy (ActsOn (write (length K)) (phases_over shape (length K + 1))) xs ds acted →
       MatchBool b (Published shape p told) (told ≡ p) →
-      MatchBool b (AllLearn told acted learned) (learned ≡ acted) → Met shape learned told zs q →
+      MatchBool b (AllLearn told acted learned) (learned ≡ acted) → HaveMet shape learned told zs q →
       Passed shape write K p q xs ds zs
   passed_by true is acted told learned acts tells learns met =
       let g = length K in
@@ -101,7 +101,7 @@ module _ {shape : Shape} {write : ℕ → ℕ → WriteFrame} {K : List TurnOrde
         };
       }
 
-  pub passed : Turned shape (write (length K)) (length K) xs p ds zs q →
+  pub passed : HasTurned shape (write (length K)) (length K) xs p ds zs q →
       Passed shape write K p q xs ds zs
   passed t =
       passed_by (is_closing shape (length K)) refl t.acted t.told t.learned t.acts t.tells t.learns
@@ -193,8 +193,8 @@ module _ {shape : Shape} {write : ℕ → ℕ → WriteFrame} {K : List TurnOrde
       }
 
   -- the sets that were pinned stand for the entries before their marks
-  pub sets_stand : Shows shape q.shown q.seen → (c : ℕ) (d : PinnedWrite) → c < length ds →
-      Stands shape q.seen (set_on (slice_index_or ds c d)).number (set_on (slice_index_or ds c d))
+  pub sets_stand : AreShown shape q.shown q.seen → (c : ℕ) (d : PinnedWrite) → c < length ds →
+      StandsAtMark shape q.seen (set_on (slice_index_or ds c d)).number (set_on (slice_index_or ds c d))
   sets_stand shows =
       all_stand shape write K p q t.shown (K ++ came ∷ []) shows t.comes.long 0 xs ds zs t.steps
       ran_next.passes

@@ -14,7 +14,7 @@ use Rattle.tk_table.specs.Replies.{reply_to}
 use Rattle.tk_table.specs.Table.{layout, blocks_of}
 use Rattle.tk_replica.specs.declared.asker.Asker.{Asker}
 use Rattle.tk_replica.specs.Replies.{asker_of, asker_reply, both_vectors, frames_with, reply_bytes, reply_due}
-use Rattle.tk_cluster.specs.Many.{Names, AreNamed, AreReads}
+use Rattle.tk_cluster.specs.Many.{NamesEpoch, AreNamed, AreReads}
 use Rattle.tk_kernel.specs.Chosen.{chosen_sum}
 use Rattle.tk_shards.specs.Shards.{Sharded}
 use Rattle.tk_run.specs.Ranged.{Summing, in_ranges}
@@ -38,7 +38,7 @@ set-is shape R shards wide blocks set wide_is laid count is =
 
 module _ (sum : Summing) (shards : ℕ) (shape : Shape) (E : List Placed) (e : ℕ) (set : Sharded)
     (is : set ≡ in_ranges shape (before E e) (even_ranges shape.buckets shards)) where
-  frame-made : (f : Frame) (r : ReadFrame) → Names shape e f r →
+  frame-made : (f : Frame) (r : ReadFrame) → NamesEpoch shape e f r →
       reply_frame (asker_reply (asker_of r) (sum set r.first) (sum set r.second))
       ≡ made_due sum shards shape E f
   unfolding made_due

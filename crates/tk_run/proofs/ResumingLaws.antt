@@ -18,7 +18,7 @@ use Rattle.tk_report.specs.Displaced.{displaced_in}
 use Rattle.tk_run.specs.declared.server.Server.{Server}
 use Rattle.tk_run.specs.Keeping.{AreAccepted, AreGiven, CheckpointsAccepted, HasBegunAnew, HaveBegunAnew}
 use Rattle.tk_run.specs.Keeping.{IsAccepted, OneRefuses, StandIn}
-use Rattle.tk_run.specs.Servers.{IsServer, AreServers, IsReady, AreReady, alike, nothing_seen}
+use Rattle.tk_run.specs.Servers.{IsServerAt, AreServers, MayWriteAndPin, AreReady, alike, nothing_seen}
 
 -- a state that may be written has applied nothing behind its last mark
 pub at_mark : (s : ReplicaView) → checkpoint_refusal s ≡ None → last_upto s ≡ s.applied
@@ -61,12 +61,12 @@ accepted-where is_sound reads_back shape E F order ends =
 
 -- a server has gone on from bytes
 pub record GoesOn (shape : Shape) (bytes : List ℕ) (old new : Server) : Type 0 where
-  pub accepted : (E : List Placed) (seen : List ℕ) → IsServer shape E seen old → IsAccepted shape E bytes
+  pub accepted : (E : List Placed) (seen : List ℕ) → IsServerAt shape E seen old → IsAccepted shape E bytes
   pub anew : HasBegunAnew shape bytes new
-  pub ready : (E : List Placed) → IsReady shape E old → IsReady shape E new
-  pub stands : (E F : List Placed) (seen : List ℕ) → IsServer shape E seen old → IsOrder shape F →
+  pub ready : (E : List Placed) → MayWriteAndPin shape E old → MayWriteAndPin shape E new
+  pub stands : (E F : List Placed) (seen : List ℕ) → IsServerAt shape E seen old → IsOrder shape F →
       EndsWithMark F → displaced_in shape F ≡ displaced_in shape E → bytes ≡ saved shape F →
-      IsServer shape F seen new
+      IsServerAt shape F seen new
 
 -- up to a place each has, of what it was given, and from there on none
 pub record GoneOnUpTo (shape : Shape) (gives : ℕ → List ℕ) (i : ℕ) (old new : List Server) : Type 0
@@ -115,9 +115,9 @@ gone-next shape gives i old now d new low goes h =
 module _ (shape : Shape) (gives : ℕ → List ℕ) (i : ℕ) (old now : List Server) (low : i < length now)
     (h : GoneOnUpTo shape gives i old now) (E : List Placed)
     (are : AreServers shape (alike E) nothing_seen old) where
-  pub next-server : (d : Server) → IsServer shape E [] (slice_index_or now i d)
+  pub next-server : (d : Server) → IsServerAt shape E [] (slice_index_or now i d)
   next-server d =
-      subst (IsServer shape E []) (sym (h.left i d (omega arith)))
+      subst (IsServerAt shape E []) (sym (h.left i d (omega arith)))
       (are.each i d (omega (arith, low, h.counted)))
 
   pub next-refuses : (bytes : List ℕ) → bytes ≡ gives (i + 1) → ¬ IsAccepted shape E bytes →

@@ -21,7 +21,7 @@ use Rattle.tk_report.specs.Exchange.{bytes_of, with_reply}
 use Rattle.tk_run.specs.Rows.{Frame, in_pairs}
 use Rattle.tk_report.proofs.Offers.{none-displaced}
 use Rattle.tk_run.specs.declared.server.Server.{Server}
-use Rattle.tk_run.specs.Servers.{AreReads, IsReady, IsServer, answered}
+use Rattle.tk_run.specs.Servers.{AreReadFrames, MayWriteAndPin, IsServerAt, answered}
 
 -- ---- an entry
 
@@ -36,7 +36,7 @@ floor-next E p floor last low at =
     ] (marks-push E p)
 
 -- a server before any entry
-pub ready-opened : (shape : Shape) (s : Server) → IsServer shape [] [] s → IsReady shape [] s
+pub ready-opened : (shape : Shape) (s : Server) → IsServerAt shape [] [] s → MayWriteAndPin shape [] s
 ready-opened shape s is =
     record {
       same = is.state.same;
@@ -126,7 +126,7 @@ each-reply shape E (r ∷ reads) all =
 
 -- the replies to frames are those to the reads that they spell
 pub replies-are : (shape : Shape) (E : List Placed) (reads : List ReadFrame)
-    (frames replies : List Frame) → AreReads shape reads frames →
+    (frames replies : List Frame) → AreReadFrames shape reads frames →
     replies ≡ map (reply_bytes shape E) frames →
     replies ≡ map reply_frame (map (reply_for shape E) reads)
 replies-are shape E reads frames replies are is =
@@ -150,7 +150,7 @@ each-pair shape E (r ∷ reads) =
 
 -- what is seen of reads and replies is what a server sees of reads that it answers
 pub pairs-are : (shape : Shape) (E : List Placed) (reads : List ReadFrame)
-    (frames replies : List Frame) (bytes old new : List ℕ) → AreReads shape reads frames →
+    (frames replies : List Frame) (bytes old new : List ℕ) → AreReadFrames shape reads frames →
     replies ≡ map reply_frame (map (reply_for shape E) reads) →
     old ≡ bytes → new ≡ old ++ in_pairs frames replies → new ≡ bytes ++ answered shape E reads
 unfolding answered

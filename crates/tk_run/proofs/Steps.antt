@@ -11,13 +11,13 @@ use Rattle.tk_schedule.specs.Schedule.{phases_over}
 use Rattle.tk_order.specs.Legality.{of}
 use Rattle.tk_order.proofs.Offers.{prefix_trans, prefix_get}
 use Rattle.tk_cluster.specs.declared.set.EpochSet.{EpochSet}
-use Rattle.tk_cluster.specs.Passes.{Reading, Passing, own, Learns, Reads, MeetsAt}
+use Rattle.tk_cluster.specs.Passes.{Reading, Passing, own, Learns, ReadsOnly, MeetsAt}
 use Rattle.tk_cluster.specs.Tellings.{Telling, told_of}
 use Rattle.tk_cluster.specs.Clusters.{Each}
 use Rattle.tk_run.specs.declared.pinned_write.PinnedWrite.{PinnedWrite}
 use Rattle.tk_run.specs.Ran.{ActsOn, EachBy, AllLearn, PassesAt, set_on}
 
--- the entry of a client that lies at the place that its slip says
+-- the entry of a client that lies at the place that its deed says
 abbrev pub entry_on : (ℕ → WriteFrame) → ℕ → PinnedWrite → Placed
 entry_on write c d = record { position = d.position; entry = Write (write c) }
 
@@ -62,7 +62,7 @@ module _ (write : ℕ → WriteFrame) (most : ℕ) (seen : List Placed) where
   -- where the publisher told of a set more
   pub stepped_closing : (told : Telling) (before : List EpochSet) (a : Passing) (d : PinnedWrite)
       (b c z : Passing) → length told.shown ≡ most + 1 → ActsOn write most a d b →
-      Reads (λ r s. Learns r (told_of told) s) b c → MeetsAt seen c z →
+      ReadsOnly (λ r s. Learns r (told_of told) s) b c → MeetsAt seen c z →
       Stepped write most seen before told.shown a d z
   stepped_closing told before a d b c z long h l m =
       let r = h.pins.reads in

@@ -7,7 +7,7 @@ use Rattle.std.specs.Arc.{arc_value}
 use Rattle.tk_shape.specs.Lengths.{turn_count}
 use Rattle.tk_schedule.specs.declared.history.History.{History}
 use Rattle.tk_schedule.specs.Schedule.{IsLegal, epoch_at}
-use Rattle.tk_cluster.specs.Sets.{Stands}
+use Rattle.tk_cluster.specs.Sets.{StandsAtMark}
 use Rattle.tk_script.specs.declared.script.Script.{Script}
 use Rattle.tk_words.specs.Words.{WordBook, words_of}
 use Rattle.tk_client.specs.Client.{ClientState}
@@ -18,7 +18,7 @@ use Rattle.tk_run.specs.declared.talk.Reading.{Reading}
 use Rattle.tk_report.specs.Serving.{Serving}
 use Rattle.tk_run.specs.Ran.{set_on}
 use Rattle.tk_run.specs.Turns.{placed_before}
-use Rattle.tk_run.specs.Courses.{MayAskIn, MayRead, AreBlank, IsBlank, TellsIn}
+use Rattle.tk_run.specs.Courses.{MayAskIn, MayRead, AreBlank, IsBlank, TellsInTurn}
 use Rattle.tk_run.specs.Under.{wrote_under}
 use Rattle.tk_run.specs.Reading.{MayReadOn, readers, talks_of}
 use Rattle.tk_run.proofs.Cuts.{take_one_more}
@@ -27,7 +27,7 @@ use Rattle.tk_run.proofs.AskingLaws.{wrote-shape, wrote-number, wrote-closed}
 
 -- ---- before
 
--- a blank read has the set of its slip
+-- a blank read has the set of its deed
 blank-at : (turn : ℕ) (ds : List PinnedWrite) (ts : List Talk) → AreBlank turn ds ts →
     (k : ℕ) (d : PinnedWrite) (t : Talk) → k < length ts →
     IsBlank turn (slice_index_or ds k d) (slice_index_or ts k t)
@@ -52,8 +52,8 @@ pub record Begins (S : Script) (b : WordBook) (H : History) (V : Serving) (g : �
 
 may_ask : (S : Script) (b : WordBook) (H : History) (V : Serving) (g c : ℕ) (a : ClientState)
     (s : PinnedWrite) (d : Talk) → IsLegal S.shape H → g < turn_count S.shape →
-    c < S.shape.clients → a ≡ wrote_under S b H V g c → TellsIn S b H V g c →
-    Stands S.shape (placed_before S (words_of S.shape b) H (g + 1)) (epoch_at H g c) (set_on s) →
+    c < S.shape.clients → a ≡ wrote_under S b H V g c → TellsInTurn S b H V g c →
+    StandsAtMark S.shape (placed_before S (words_of S.shape b) H (g + 1)) (epoch_at H g c) (set_on s) →
     IsBlank g s d → MayAskIn S b H V a d
 may_ask S b H V g c a s d legal inside low is told from blank =
     let w = words_of S.shape b in
@@ -65,23 +65,23 @@ may_ask S b H V g c a s d legal inside low is told from blank =
       client_in = omega (arith, mine, low);
       wrote = is ∙ (λ i. wrote_under S b H V (sym turn i) (sym mine i));
       stands =
-          subst (λ t. Stands S.shape (placed_before S w H (t + 1)) (epoch_at H t a.number)
+          subst (λ t. StandsAtMark S.shape (placed_before S w H (t + 1)) (epoch_at H t a.number)
           (arc_value d.set)) (sym turn)
-          (subst (λ n. Stands S.shape (placed_before S w H (g + 1)) (epoch_at H g n)
+          (subst (λ n. StandsAtMark S.shape (placed_before S w H (g + 1)) (epoch_at H g n)
           (arc_value d.set)) (sym mine)
-          (subst (Stands S.shape (placed_before S w H (g + 1)) (epoch_at H g c)) (sym blank.set)
+          (subst (StandsAtMark S.shape (placed_before S w H (g + 1)) (epoch_at H g c)) (sym blank.set)
           from));
-      told = subst (λ t. TellsIn S b H V t a.number) (sym turn)
-          (subst (λ n. TellsIn S b H V g n) (sym mine) told);
+      told = subst (λ t. TellsInTurn S b H V t a.number) (sym turn)
+          (subst (λ n. TellsInTurn S b H V g n) (sym mine) told);
     }
 
 begin-at : (S : Script) (b : WordBook) (H : History) (V : Serving) (g : ℕ)
-    (clients : List ClientState) (slips : List PinnedWrite) (rs : List Reading) →
-    MayRead S b H V g clients slips → ((c : ℕ) → TellsIn S b H V g c) →
-    readers rs ≡ clients → AreBlank g slips (talks_of rs) → length rs ≡ S.shape.clients →
+    (clients : List ClientState) (deeds : List PinnedWrite) (rs : List Reading) →
+    MayRead S b H V g clients deeds → ((c : ℕ) → TellsInTurn S b H V g c) →
+    readers rs ≡ clients → AreBlank g deeds (talks_of rs) → length rs ≡ S.shape.clients →
     (k : ℕ) (d : Reading) → k < length rs →
     ((slice_index_or rs k d).client.number ≡ 0 + k) × Begins S b H V g (slice_index_or rs k d)
-begin-at S b H V g clients slips rs may told same blank counted k d low =
+begin-at S b H V g clients deeds rs may told same blank counted k d low =
     let low_c : k < S.shape.clients = omega (arith, low, counted) in
     let r = slice_index_or rs k d in
     let inside : k < length clients = omega (arith, low_c, may.wrote.counted) in
@@ -90,19 +90,19 @@ begin-at S b H V g clients slips rs may told same blank counted k d low =
     ∙ ap (λ (xs : List ClientState). slice_index_or xs k d.client) same
     ∙ may.wrote.each k d.client inside
     in
-    let slip : PinnedWrite = record { position = 0; set = d.talk.set } in
+    let deed : PinnedWrite = record { position = 0; set = d.talk.set } in
     let few : k < length (talks_of rs) =
     omega (arith, low, length-map rs (λ (x : Reading). x.talk))
     in
-    let is = blank-at g slips (talks_of rs) blank k slip d.talk few in
+    let is = blank-at g deeds (talks_of rs) blank k deed d.talk few in
     let talk : slice_index_or (talks_of rs) k d.talk ≡ r.talk =
     map-at (λ (x : Reading). x.talk) rs k d low
     in
-    let is_here : IsBlank g (slice_index_or slips k slip) r.talk =
-    subst (IsBlank g (slice_index_or slips k slip)) talk is
+    let is_here : IsBlank g (slice_index_or deeds k deed) r.talk =
+    subst (IsBlank g (slice_index_or deeds k deed)) talk is
     in
-    let stands = may.sets.each k slip (omega (arith, low_c, may.sets.counted)) in
-    let set : arc_value r.talk.set ≡ set_on (slice_index_or slips k slip) = is_here.set in
+    let stands = may.sets.each k deed (omega (arith, low_c, may.sets.counted)) in
+    let set : arc_value r.talk.set ≡ set_on (slice_index_or deeds k deed) = is_here.set in
     let number : r.client.number ≡ k = wrote-number S b H V g k r.client client in (
       omega (arith, number),
       record {
@@ -126,37 +126,37 @@ begin-at S b H V g clients slips rs may told same blank counted k d low =
         };
         turn_is = is_here.turn_is;
         asks =
-            may_ask S b H V g k r.client (slice_index_or slips k slip) r.talk may.legal may.turn_in
+            may_ask S b H V g k r.client (slice_index_or deeds k deed) r.talk may.legal may.turn_in
             low_c client (told k) stands is_here;
       },
     )
 
 -- so do all, who have their numbers
 pub all-begin : (S : Script) (b : WordBook) (H : History) (V : Serving) (g : ℕ)
-    (clients : List ClientState) (slips : List PinnedWrite) (rs : List Reading) →
-    MayRead S b H V g clients slips → ((c : ℕ) → TellsIn S b H V g c) →
-    readers rs ≡ clients → AreBlank g slips (talks_of rs) →
+    (clients : List ClientState) (deeds : List PinnedWrite) (rs : List Reading) →
+    MayRead S b H V g clients deeds → ((c : ℕ) → TellsInTurn S b H V g c) →
+    readers rs ≡ clients → AreBlank g deeds (talks_of rs) →
     (length rs ≡ S.shape.clients)
     × ((k : ℕ) (d : Reading) → k < length rs →
     ((slice_index_or rs k d).client.number ≡ 0 + k) × Begins S b H V g (slice_index_or rs k d))
-all-begin S b H V g clients slips rs may told same blank =
+all-begin S b H V g clients deeds rs may told same blank =
     let long : length (readers rs) ≡ length rs = length-map rs (λ (r : Reading). r.client) in
     let counted : length rs ≡ S.shape.clients =
     sym long ∙ ap length same ∙ may.wrote.counted
     in (
       counted,
-      λ k d low. begin-at S b H V g clients slips rs may told same blank counted k d low,
+      λ k d low. begin-at S b H V g clients deeds rs may told same blank counted k d low,
     )
 
 -- two that may read are of one shape, if their clients are the same
 pub one-shape : (S T : Script) (b : WordBook) (H K : History) (V W : Serving) (g : ℕ)
-    (clients : List ClientState) (slips others : List PinnedWrite) →
-    MayRead S b H V g clients slips → MayRead T b K W g clients others → S.shape ≡ T.shape
-one-shape S T b H K V W g [] slips others may may_too =
+    (clients : List ClientState) (deeds others : List PinnedWrite) →
+    MayRead S b H V g clients deeds → MayRead T b K W g clients others → S.shape ≡ T.shape
+one-shape S T b H K V W g [] deeds others may may_too =
     let some = S.shape.in_range.clients_low in
     let none = may.wrote.counted in
     absurd (omega (arith, some, none))
-one-shape S T b H K V W g (x ∷ clients) slips others may may_too =
+one-shape S T b H K V W g (x ∷ clients) deeds others may may_too =
     sym (wrote-shape S b H V g 0 x (may.wrote.each 0 x (omega arith)))
     ∙ wrote-shape T b K W g 0 x (may_too.wrote.each 0 x (omega arith))
 
@@ -170,18 +170,18 @@ blank-next turn (e ∷ ds) d (u ∷ ts) t are is = (are.0, blank-next turn ds d 
 blank-next turn _ d _ t are is = absurd are
 
 -- what is known of the first readings
-pub record Paired (turn : ℕ) (slips : List PinnedWrite) (clients : List ClientState) (rs : List Reading)
+pub record Paired (turn : ℕ) (deeds : List PinnedWrite) (clients : List ClientState) (rs : List Reading)
     : Type 0 where
   pub counted : length rs ≡ length clients
   pub clients_are : readers rs ≡ clients
-  pub talks : AreBlank turn (take (length clients) slips) (talks_of rs)
+  pub talks : AreBlank turn (take (length clients) deeds) (talks_of rs)
 
-pub paired-next : (turn : ℕ) (slips : List PinnedWrite) (clients : List ClientState)
-    (rs more : List Reading) (slip : PinnedWrite) (client : ClientState) (r : Reading) →
-    length clients < length slips → slip ≡ slice_index_or slips (length clients) slip →
-    Paired turn slips clients rs → more ≡ rs ++ r ∷ [] → r.client ≡ client →
-    IsBlank turn slip r.talk → Paired turn slips (clients ++ client ∷ []) more
-paired-next turn slips clients rs more slip client r low at h pushed of is =
+pub paired-next : (turn : ℕ) (deeds : List PinnedWrite) (clients : List ClientState)
+    (rs more : List Reading) (deed : PinnedWrite) (client : ClientState) (r : Reading) →
+    length clients < length deeds → deed ≡ slice_index_or deeds (length clients) deed →
+    Paired turn deeds clients rs → more ≡ rs ++ r ∷ [] → r.client ≡ client →
+    IsBlank turn deed r.talk → Paired turn deeds (clients ++ client ∷ []) more
+paired-next turn deeds clients rs more deed client r low at h pushed of is =
     let long : length (clients ++ client ∷ []) ≡ length clients + 1 =
     length-append clients (client ∷ [])
     in
@@ -192,10 +192,10 @@ paired-next turn slips clients rs more slip client r low at h pushed of is =
           ap readers pushed ∙ map-append (λ (x : Reading). x.client) rs (r ∷ [])
           ∙ ap₂ (λ xs x. xs ++ x ∷ []) h.clients_are of;
       talks =
-          subst (λ n. AreBlank turn (take n slips) (talks_of more)) (sym long)
+          subst (λ n. AreBlank turn (take n deeds) (talks_of more)) (sym long)
           (subst (λ ds. AreBlank turn ds (talks_of more))
-          (sym (take_one_more slips (length clients) slip low at))
-          (subst (AreBlank turn (take (length clients) slips ++ slip ∷ []))
+          (sym (take_one_more deeds (length clients) deed low at))
+          (subst (AreBlank turn (take (length clients) deeds ++ deed ∷ []))
           (sym (ap talks_of pushed ∙ map-append (λ (x : Reading). x.talk) rs (r ∷ [])))
-          (blank-next turn (take (length clients) slips) slip (talks_of rs) r.talk h.talks is)));
+          (blank-next turn (take (length clients) deeds) deed (talks_of rs) r.talk h.talks is)));
     }

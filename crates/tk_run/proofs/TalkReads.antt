@@ -11,7 +11,7 @@ use Rattle.tk_client.specs.Client.{ClientState, after_replies}
 use Rattle.tk_report.specs.Serving.{Serving, read_under}
 use Rattle.tk_report.specs.Turns.{placed_before}
 use Rattle.tk_report.proofs.Offers.{map-map, all-made}
-use Rattle.tk_run.specs.Ranged.{Summing, IsSized}
+use Rattle.tk_run.specs.Ranged.{Summing, MakesBlocks}
 use Rattle.tk_run.specs.Ranging.{over_ranges, bytes_made}
 use Rattle.tk_run.specs.Rows.{Frame}
 use Rattle.tk_run.specs.Under.{client_under, asked_under, reply_under, replies_from, replied_under}
@@ -39,7 +39,7 @@ pub record Read (S : Script) (b : WordBook) (H : History) (V : Serving) (g c : �
 pub has_taken : (S : Script) (b : WordBook) (H : History) (shards : ℕ) (sum : Summing) (g c : ℕ)
     {asking new : ClientState} {frames replies : List Frame} →
     let V = over_ranges S b shards sum H in
-    IsSized sum → IsBook S.shape b → IsLegal S.shape H →
+    MakesBlocks sum → IsBook S.shape b → IsLegal S.shape H →
     g < turn_count S.shape → c < S.shape.clients →
     asking ≡ asked_under S b H V g c →
     frames ≡ map (λ j. read_frame (read_under S b H V g c j)) (range_with_len 1 S.shape.servers) →

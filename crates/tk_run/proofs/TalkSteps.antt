@@ -20,7 +20,7 @@ use Rattle.tk_client.specs.Client.{ClientState}
 use Rattle.tk_report.specs.Serving.{Serving, read_under}
 use Rattle.tk_cluster.specs.declared.set.EpochSet.{EpochSet}
 use Rattle.tk_cluster.specs.Refusals.{IsAsked}
-use Rattle.tk_cluster.specs.Sets.{Stands}
+use Rattle.tk_cluster.specs.Sets.{StandsAtMark}
 use Rattle.tk_run.specs.declared.talk.Reading.{Reading}
 use Rattle.tk_run.specs.declared.talk.Talk.{Talk}
 use Rattle.tk_run.specs.Rows.{Frame}
@@ -28,10 +28,10 @@ use Rattle.tk_report.specs.Clients.{AreClients, client_knowing}
 use Rattle.tk_run.specs.Turns.{placed_before}
 use Rattle.tk_run.specs.Courses.{IsTalk, AreTalks, MayRead, AreBlank}
 use Rattle.tk_run.specs.declared.pinned_write.PinnedWrite.{PinnedWrite}
-use Rattle.tk_run.specs.Reading.{MayReadOn, HasAsked, MayTake, HasTaken, EachAt, readers, talks_of}
-use Rattle.tk_run.specs.Answering.{MayAnswer, IsAnswered, AllStand, set_of}
+use Rattle.tk_run.specs.Reading.{MayReadOn, HasAsked, MayTakeReplies, TookReplies, EachAt, readers, talks_of}
+use Rattle.tk_run.specs.Answering.{AreAllAsked, IsAnswered, AllStand, set_of}
 use Rattle.tk_report.proofs.Offers.{map-map}
-use Rattle.tk_run.specs.Ranged.{Summing, IsSized}
+use Rattle.tk_run.specs.Ranged.{Summing, MakesBlocks}
 use Rattle.tk_run.specs.Ranging.{over_ranges, bytes_made}
 use Rattle.tk_run.specs.Under.{client_under, asked_under}
 use Rattle.tk_run.proofs.AnswerLaws.{asked-shape, asked-open}
@@ -101,7 +101,7 @@ module _ (S : Script) (b : WordBook) (H : History) (shards : ℕ) (sum : Summing
     pub low : c < S.shape.clients
     pub client : r.client ≡ asked_under S b H serving g c
     pub asked : r.talk.asked.items ≡ asks c
-    pub stands : Stands S.shape order (epoch_at H g c) (set_of r)
+    pub stands : StandsAtMark S.shape order (epoch_at H g c) (set_of r)
     pub unreplied : r.talk.replies.items ≡ []
 
   -- one that was replied what is made of the sums, over the entries of that epoch
@@ -141,8 +141,8 @@ module _ {S : Script} {b : WordBook} {H : History} (shards : ℕ) (sum : Summing
       let begins = begin k d inside in
       let asks_so = asked k d inside in
       let due = asks_so.due S H V begins.asks in
-      let stands : Stands S.shape (order S b H shards sum g) (epoch_at H g c) (set_of r) =
-      subst (λ m. Stands S.shape (placed_before S w H (m + 1)) (epoch_at H m c) (set_of r))
+      let stands : StandsAtMark S.shape (order S b H shards sum g) (epoch_at H g c) (set_of r) =
+      subst (λ m. StandsAtMark S.shape (placed_before S w H (m + 1)) (epoch_at H m c) (set_of r))
       begins.turn_is begins.asks.stands
       in
       record {
@@ -155,14 +155,14 @@ module _ {S : Script} {b : WordBook} {H : History} (shards : ℕ) (sum : Summing
             ∙ ap (λ m. map (λ j. read_frame (read_under S b H V m c j)) (range_with_len 1 S.shape.servers))
             begins.turn_is;
         stands =
-            subst (λ (e : EpochSet). Stands S.shape (order S b H shards sum g) (epoch_at H g c) e)
+            subst (λ (e : EpochSet). StandsAtMark S.shape (order S b H shards sum g) (epoch_at H g c) e)
             (sym (ap arc_value asks_so.set)) stands;
         unreplied = asks_so.unreplied ∙ begins.reads.talk.none_replied;
       }
 
   -- what they ask may be answered
   pub all-answerable : {n : ℕ} {rs : List Reading} → IsBook S.shape b → IsLegal S.shape H →
-      g < turn_count S.shape → Stage n (Asking S b H shards sum g) rs → All (MayAnswer S.shape) rs
+      g < turn_count S.shape → Stage n (Asking S b H shards sum g) rs → All (AreAllAsked S.shape) rs
   all-answerable {n} {rs} book legal turn_in h k d low =
       let r = slice_index_or rs k d in
       let is = h.all k d low in
@@ -184,7 +184,7 @@ module _ {S : Script} {b : WordBook} {H : History} (shards : ℕ) (sum : Summing
       AllStand rs S.shape (order S b H shards sum g)
   all-stand {n} {rs} h k d low =
       let stands = (h.all k d low).stands in
-      subst (λ e. Stands S.shape (order S b H shards sum g) e (set_of (slice_index_or rs k d))) (sym stands.number)
+      subst (λ e. StandsAtMark S.shape (order S b H shards sum g) e (set_of (slice_index_or rs k d))) (sym stands.number)
       stands
 
   -- ---- answers
@@ -209,7 +209,7 @@ module _ {S : Script} {b : WordBook} {H : History} (shards : ℕ) (sum : Summing
 
   -- what they are replied may be taken
   pub all-takeable : {n : ℕ} {rs : List Reading} → Stage n (Replied S b H shards sum g) rs →
-      All (MayTake S.shape) rs
+      All (MayTakeReplies S.shape) rs
   all-takeable {n} {rs} h k d low =
       let r = slice_index_or rs k d in
       let V = serving S b H shards sum g in
@@ -225,9 +225,9 @@ module _ {S : Script} {b : WordBook} {H : History} (shards : ℕ) (sum : Summing
 
   -- ---- taking
 
-  all-ended : IsSized sum → IsBook S.shape b → IsLegal S.shape H → g < turn_count S.shape →
+  all-ended : MakesBlocks sum → IsBook S.shape b → IsLegal S.shape H → g < turn_count S.shape →
       (old new : List Reading) → length new ≡ length old → All (Replied S b H shards sum g) old →
-      EachAt (HasTaken b) old new → All (Ended S b H shards sum g) new
+      EachAt (TookReplies b) old new → All (Ended S b H shards sum g) new
   all-ended sized book legal turn_in old new counted replied taken k d low =
       let inside : k < length old = omega (arith, low, counted) in
       let r = slice_index_or old k d in
@@ -252,12 +252,12 @@ module _ {S : Script} {b : WordBook} {H : History} (shards : ℕ) (sum : Summing
 
   -- ---- all of them
 
-  pub begun : {clients : List ClientState} {slips : List PinnedWrite} (rs : List Reading) →
-      MayRead S b H (serving S b H shards sum g) g clients slips → readers rs ≡ clients → AreBlank g slips (talks_of rs) →
+  pub begun : {clients : List ClientState} {deeds : List PinnedWrite} (rs : List Reading) →
+      MayRead S b H (serving S b H shards sum g) g clients deeds → readers rs ≡ clients → AreBlank g deeds (talks_of rs) →
       Stage S.shape.clients (Begins S b H (serving S b H shards sum g) g) rs
-  begun {clients} {slips} rs may same blank =
+  begun {clients} {deeds} rs may same blank =
       let all =
-      all-begin S b H (serving S b H shards sum g) g clients slips rs may (λ c. refl) same blank
+      all-begin S b H (serving S b H shards sum g) g clients deeds rs may (λ c. refl) same blank
       in
       record {
         all = λ k d low. (all.1 k d low).1;
@@ -278,9 +278,9 @@ module _ {S : Script} {b : WordBook} {H : History} (shards : ℕ) (sum : Summing
       stage-next counted (all-replied new counted h answered)
       (λ k d low. ap (λ (x : ClientState). x.number) (answered k d low).client) h
 
-  pub ended : {n : ℕ} {old : List Reading} (new : List Reading) → IsSized sum → IsBook S.shape b →
+  pub ended : {n : ℕ} {old : List Reading} (new : List Reading) → MakesBlocks sum → IsBook S.shape b →
       IsLegal S.shape H → g < turn_count S.shape → length new ≡ length old →
-      EachAt (HasTaken b) old new → Stage n (Replied S b H shards sum g) old → Stage n (Ended S b H shards sum g) new
+      EachAt (TookReplies b) old new → Stage n (Replied S b H shards sum g) old → Stage n (Ended S b H shards sum g) new
   ended {n} {old} new sized book legal turn_in counted taken h =
       stage-next counted (all-ended sized book legal turn_in old new counted h.all taken)
       (λ k d low. ap (λ (x : ClientState). x.number) (taken k d low).client) h

@@ -132,7 +132,7 @@ items_at [] i q d low = absurd (omega (arith, low))
 items_at (p ∷ E) zero q d low = refl
 items_at (p ∷ E) (suc i) q d low = items_at E i q d (omega (arith, low))
 
--- the one entry of each client, from client c on, stands where its slip says
+-- the one entry of each client, from client c on, stands where its deed says
 abbrev pub AtPlaces : (ℕ → WriteFrame) → List Placed → ℕ → List PinnedWrite → Type 0
 AtPlaces write E c [] = Unit {0}
 AtPlaces write E c (d ∷ ds) =

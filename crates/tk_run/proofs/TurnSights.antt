@@ -107,8 +107,8 @@ module _ {S : Script} {b : WordBook} {H : History} {V : Serving} {g : ℕ} where
 
 -- when all have read, the run stands before the next turn
 pub read_course : {S : Script} {b : WordBook} {V : History → Serving} {g : ℕ}
-    {turns : List TurnOrder} {old : Group} {passes : List Passing} {p : Telling} {slips : List PinnedWrite} {bytes : List ℕ} (new : Group) →
-    HasWritten S b V g turns old passes p slips bytes → new.said ≡ old.said →
+    {turns : List TurnOrder} {old : Group} {passes : List Passing} {p : Telling} {deeds : List PinnedWrite} {bytes : List ℕ} (new : Group) →
+    HasWritten S b V g turns old passes p deeds bytes → new.said ≡ old.said →
     ((H : History) → GoesOn S.shape turns H →
     AreClients S.shape.clients (client_under S b H (V H) (g + 1)) new.clients.items) →
     IsCourse S b V (g + 1) turns new passes p

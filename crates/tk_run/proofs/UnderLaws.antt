@@ -51,9 +51,9 @@ use Rattle.tk_run.specs.Rows.{Frame, AreRows, AreAdded}
 use Rattle.tk_report.specs.Turns.{placed_before}
 use Rattle.tk_run.specs.declared.server.Server.{Server}
 use Rattle.tk_run.specs.Keeping.{saved_before}
-use Rattle.tk_run.specs.Servers.{AreReads, AreReady, answered}
+use Rattle.tk_run.specs.Servers.{AreReadFrames, AreReady, answered}
 use Rattle.tk_run.specs.Turns.{entries_seen}
-use Rattle.tk_run.specs.Under.{Serves, IsIdle, AreIdle, IsAsking, client_under, wrote_under, asked_under}
+use Rattle.tk_run.specs.Under.{ServesAs, IsIdle, AreIdle, AskedInTurn, client_under, wrote_under, asked_under}
 use Rattle.tk_run.specs.Under.{reads_for, posed, reply_under, replies_from, replied_under, turn_under}
 use Rattle.tk_run.proofs.AnswerLaws.{reply-in_range}
 use Rattle.tk_run.proofs.RowsLaws.{rows-next, frames-told}
@@ -171,7 +171,7 @@ module _ (S : Script) (b : WordBook) (H : History) (V : Serving) where
   pub posed-are : (g i : ℕ) (frames : List Frame) →
       IsBook S.shape b → IsLegal S.shape H → g < turn_count S.shape → i < S.shape.servers →
       frames ≡ posed S b H V g S.shape.clients i →
-      AreReads S.shape (reads_for S b H V g S.shape.clients (i + 1)) frames
+      AreReadFrames S.shape (reads_for S b H V g S.shape.clients (i + 1)) frames
   unfolding reads_for
   posed-are g i frames serves legal turn_in low are =
       record {
@@ -184,7 +184,7 @@ module _ (S : Script) (b : WordBook) (H : History) (V : Serving) where
         spelled = are;
       }
 
-  module _ (g : ℕ) (Es : ℕ → List Placed) (tells : Serves S b H V g Es) where
+  module _ (g : ℕ) (Es : ℕ → List Placed) (tells : ServesAs S b H V g Es) where
     -- the reply of a server to a client
     reply-is : (c j : ℕ) → c < S.shape.clients →
         reply_for S.shape (Es j) (read_under S b H V g c j) ≡ reply_under S b H V g j c
@@ -349,7 +349,7 @@ module _ (S : Script) (H : History) (g c : ℕ) where
   -- one that is idle and one that asked
   pub idle-opened : (client new : ClientState) (e : ℕ) (t : Option Target) →
       IsIdle S (g + 1) c client → e ≡ epoch_at H g c → new ≡ opened g e t client →
-      IsAsking S H g c new
+      AskedInTurn S H g c new
   idle-opened client new e t is named opens =
       record {
         same = ap (λ (s : ClientState). s.shape) opens ∙ is.same;
@@ -362,7 +362,7 @@ module _ (S : Script) (H : History) (g c : ℕ) where
       }
 
   pub asking-taken : (client new : ClientState) (w : BookWords) (replies : List (List ℕ)) →
-      IsAsking S H g c client → new ≡ after_replies w replies client → IsIdle S (g + 1) c new
+      AskedInTurn S H g c client → new ≡ after_replies w replies client → IsIdle S (g + 1) c new
   asking-taken client new w replies is after =
       record {
         same = ap (λ (s : ClientState). s.shape) after ∙ is.same;

@@ -23,18 +23,18 @@ use Rattle.tk_order.proofs.Offers.{marks_under_zero}
 use Rattle.tk_report.specs.Entries.{write_at, placed_from, placed_after, entries_before, entries_at}
 use Rattle.tk_report.specs.Queues.{said_before}
 use Rattle.tk_report.proofs.Offers.{write_at-client, one-mark}
-use Rattle.tk_cluster.specs.Sets.{Stands}
+use Rattle.tk_cluster.specs.Sets.{StandsAtMark}
 use Rattle.tk_cluster.specs.Passes.{Passing}
 use Rattle.tk_cluster.specs.Tellings.{Telling}
 use Rattle.tk_report.specs.declared.group.Group.{Group}
 use Rattle.tk_run.specs.declared.pinned_write.PinnedWrite.{PinnedWrite}
 use Rattle.tk_run.specs.declared.actors.Desk.{Desk}
-use Rattle.tk_run.specs.Acting.{Acted, AreFrames, frames_on, slips_on}
+use Rattle.tk_run.specs.Acting.{Acted, AreFrames, frames_on, deeds_on}
 use Rattle.tk_report.specs.Clients.{AreClients}
 use Rattle.tk_report.specs.Serving.{Serving}
 use Rattle.tk_run.specs.Turns.{placed_before}
 use Rattle.tk_run.specs.Under.{wrote_under}
-use Rattle.tk_run.specs.Ran.{Turned, turn_of, set_on, Ran}
+use Rattle.tk_run.specs.Ran.{HasTurned, turn_of, set_on, Ran}
 use Rattle.tk_run.specs.Courses.{IsCourse, GoesOn, AreSets, HasWritten, IsInTurn, entries_behind}
 use Rattle.tk_run.proofs.ActedLaws.{frames_stay, acted_turned}
 use Rattle.tk_run.proofs.Brought.{brings_within}
@@ -50,10 +50,10 @@ module _ (S : Script) (b : WordBook) where
   own_writes g c = write_at-client S (words_of S.shape b) g c
 
   -- what is known of turn g before it is noted: which turn came about, and what follows of what is seen of it
-  pub record Came (g : ℕ) (K : List TurnOrder) (zs : List Passing) (q : Telling) (slips : List PinnedWrite)
+  pub record Came (g : ℕ) (K : List TurnOrder) (zs : List Passing) (q : Telling) (deeds : List PinnedWrite)
       (frames : List (List ℕ)) (now : TurnOrder) : Type 0 where
-    pub counted : length slips ≡ S.shape.clients
-    pub within : All (IsInTurn S.shape g) slips
+    pub counted : length deeds ≡ S.shape.clients
+    pub within : All (IsInTurn S.shape g) deeds
     pub order : IsTrue (list_all (is_within S.shape.clients) now.order)
     pub marks : count_by is_mark now.order ≤ 1
     pub few : length now.order ≤ S.shape.clients + 1
@@ -63,32 +63,32 @@ module _ (S : Script) (b : WordBook) where
         AreClients S.shape.clients (wrote_under S b H (V H) g) after.clients.items) →
         bytes ≡ flat_map placed_frame
         (placed_from (writes g) (entries_behind S.shape g + 1) (phase_of S.shape g) now.order) →
-        HasWritten S b V g (K ++ now ∷ []) after zs q slips bytes
+        HasWritten S b V g (K ++ now ∷ []) after zs q deeds bytes
 
-  module _ (K : List TurnOrder) (xs : List Passing) (p : Telling) (slips : List PinnedWrite)
+  module _ (K : List TurnOrder) (xs : List Passing) (p : Telling) (deeds : List PinnedWrite)
       (zs : List Passing) (q : Telling) (ran : Ran S.shape writes K xs p)
-      (t : Turned S.shape (writes (length K)) (length K) xs p slips zs q) where
-    through : Passed S.shape writes K p q xs slips zs
+      (t : HasTurned S.shape (writes (length K)) (length K) xs p deeds zs q) where
+    through : Passed S.shape writes K p q xs deeds zs
     through = passed ran t
 
     start : length p.seen ≡ entries_behind S.shape (length K)
     start = ran_counted ran
 
-    slips_counted : length slips ≡ S.shape.clients
-    slips_counted = (passed_brings ran through).counted
+    deeds_counted : length deeds ≡ S.shape.clients
+    deeds_counted = (passed_brings ran through).counted
 
     -- each write stands among the entries of the turn
-    slips_within : All (IsInTurn S.shape (length K)) slips
-    slips_within k d low =
+    deeds_within : All (IsInTurn S.shape (length K)) deeds
+    deeds_within k d low =
         let at = brings_within (own_writes (length K)) (passed_brings ran through) k d low in
         record { behind = omega (arith, at.0, start); within = omega (arith, at.1, start) }
 
     -- the turn that came about
     abbrev now : TurnOrder
-    now = turn_of S.shape (length K) (entries_behind S.shape (length K)) slips
+    now = turn_of S.shape (length K) (entries_behind S.shape (length K)) deeds
 
-    now_is : turn_of S.shape (length K) (length p.seen) slips ≡ now
-    now_is = ap (λ n. turn_of S.shape (length K) n slips) start
+    now_is : turn_of S.shape (length K) (length p.seen) deeds ≡ now
+    now_is = ap (λ n. turn_of S.shape (length K) n deeds) start
 
     now_legal : IsTurn S.shape (length K) now
     now_legal =
@@ -110,24 +110,24 @@ module _ (S : Script) (b : WordBook) where
           now_ran.order ∙ (sym (begins_entries writes (K ++ now ∷ []) H begins)
           ∙ ap (entries_before writes H) now_length)
 
-      epoch_now : (c : ℕ) (d : PinnedWrite) → c < length slips →
-          epoch_at H (length K) c ≡ (set_on (slice_index_or slips c d)).number
+      epoch_now : (c : ℕ) (d : PinnedWrite) → c < length deeds →
+          epoch_at H (length K) c ≡ (set_on (slice_index_or deeds c d)).number
       epoch_now c d low =
           ap (λ (x : TurnOrder). slice_index x.epochs c) (begins_turn K now H begins)
-          ∙ get_or-map (λ (x : PinnedWrite). (set_on x).number) slips c d 0 low
+          ∙ get_or-map (λ (x : PinnedWrite). (set_on x).number) deeds c d 0 low
 
-      sets_now : AreSets S b H (length K) slips
+      sets_now : AreSets S b H (length K) deeds
       sets_now =
           record {
-            counted = slips_counted;
+            counted = deeds_counted;
             each = λ c d low.
-                let set = set_on (slice_index_or slips c d) in
-                let stands : Stands S.shape q.seen set.number set =
+                let set = set_on (slice_index_or deeds c d) in
+                let stands : StandsAtMark S.shape q.seen set.number set =
                 sets_stand own_writes ran through t.shows c d low
                 in
-                subst (λ (E : List Placed). Stands S.shape E (epoch_at H (length K) c) set)
+                subst (λ (E : List Placed). StandsAtMark S.shape E (epoch_at H (length K) c) set)
                 entries_now
-                (subst (λ e. Stands S.shape q.seen e set) (sym (epoch_now c d low)) stands);
+                (subst (λ e. StandsAtMark S.shape q.seen e set) (sym (epoch_now c d low)) stands);
           }
 
       bytes_now : flat_map placed_frame (placed_from (writes (length K))
@@ -155,13 +155,13 @@ module _ (S : Script) (b : WordBook) where
           ap (flat_map placed_frame) (sym (one ∙ two))
 
     came_here : (frames : List (List ℕ)) → AreFrames S.shape (writes (length K)) frames →
-        length K < turn_count S.shape → Came (length K) K zs q slips frames now
+        length K < turn_count S.shape → Came (length K) K zs q deeds frames now
     came_here frames are low =
         let most = one-mark S.shape (length K) in
         let turn = now_legal in
         record {
-          counted = slips_counted;
-          within = slips_within;
+          counted = deeds_counted;
+          within = deeds_within;
           order = turn_within S.shape (length K) now turn;
           marks = omega (arith, turn.marks, most);
           few = omega (arith, turn.counted, most);
@@ -182,16 +182,16 @@ module _ (S : Script) (b : WordBook) where
 
   -- all have acted, whose desks had the frames of what the clients write
   pub came : {V : History → Serving} {g : ℕ} {K : List TurnOrder} {group : Group} {xs : List Passing} {p : Telling}
-      {ds es : List Desk} {zs : List Passing} {q : Telling} (slips : List PinnedWrite) →
+      {ds es : List Desk} {zs : List Passing} {q : Telling} (deeds : List PinnedWrite) →
       IsCourse S b V g K group xs p → g < turn_count S.shape →
       IsOneSpelling (IsWrite S.shape) write_frame → Acted S.shape g xs p ds es zs q →
-      AreFrames S.shape (writes g) (frames_on ds) → slips_on es ≡ map Some slips →
-      Came g K zs q slips (frames_on es) (turn_of S.shape g (entries_behind S.shape g) slips)
-  came {V} {g} {K} {group} {xs} {p} {ds} {es} {zs} {q} slips course low one acted frames lie =
+      AreFrames S.shape (writes g) (frames_on ds) → deeds_on es ≡ map Some deeds →
+      Came g K zs q deeds (frames_on es) (turn_of S.shape g (entries_behind S.shape g) deeds)
+  came {V} {g} {K} {group} {xs} {p} {ds} {es} {zs} {q} deeds course low one acted frames lie =
       subst (λ n. n < turn_count S.shape → Acted S.shape n xs p ds es zs q →
       AreFrames S.shape (writes n) (frames_on ds) →
-      Came n K zs q slips (frames_on es) (turn_of S.shape n (entries_behind S.shape n) slips)) course.counted
+      Came n K zs q deeds (frames_on es) (turn_of S.shape n (entries_behind S.shape n) deeds)) course.counted
       (λ inside did are.
-      came_here K xs p slips zs q course.ran (acted_turned slips one course.ran did are lie) (frames_on es)
+      came_here K xs p deeds zs q course.ran (acted_turned deeds one course.ran did are lie) (frames_on es)
       (subst (AreFrames S.shape (writes (length K))) (sym (frames_stay did)) are) inside)
       low acted frames

@@ -8,17 +8,17 @@ use Rattle.tk_schedule.specs.Schedule.{is_closing, phases_over}
 use Rattle.tk_board.specs.Boards.{Known}
 use Rattle.tk_cluster.specs.declared.set.EpochSet.{EpochSet}
 use Rattle.tk_cluster.specs.Refusals.{SpellsWrite}
-use Rattle.tk_cluster.specs.Sets.{Shows}
-use Rattle.tk_cluster.specs.Passes.{Passing, own, WroteBytes, Pins, Reads}
+use Rattle.tk_cluster.specs.Sets.{AreShown}
+use Rattle.tk_cluster.specs.Passes.{Passing, own, WroteBytes, Pins, ReadsOnly}
 use Rattle.tk_cluster.specs.Tellings.{Telling, told_of, Published}
-use Rattle.tk_cluster.specs.Clusters.{Met}
+use Rattle.tk_cluster.specs.Clusters.{HaveMet}
 use Rattle.tk_run.specs.declared.pinned_write.PinnedWrite.{PinnedWrite}
 use Rattle.tk_run.specs.declared.actors.Desk.{Desk}
 use Rattle.tk_run.specs.Ran.{AllLearn, set_on}
 use Rattle.tk_run.specs.Ticks.{Done}
 
 -- a pass may write once more, and pin a set of at most this number
-pub record IsReady (shape : Shape) (most : ℕ) (a : Passing) : Type 0 where
+pub record MayWriteAndPin (shape : Shape) (most : ℕ) (a : Passing) : Type 0 where
   pub room : length (own a) < turn_count shape
   pub known : a.reads.known ≤ most
 
@@ -27,12 +27,12 @@ pub record IsReady (shape : Shape) (most : ℕ) (a : Passing) : Type 0 where
 pub record WroteAndPinned (shape : Shape) (most : ℕ) (a : Passing) (d e : Desk) (b : Passing)
     : Type 0 where
   pub frame : e.frame.items ≡ d.frame.items
-  pub slip : PinnedWrite
-  pub lies : e.slip ≡ Some slip
+  pub deed : PinnedWrite
+  pub lies : e.deed ≡ Some deed
   pub mid : Passing
   pub wrote : WroteBytes shape d.frame.items a mid
-  pub position : slip.position ≡ length mid.seen
-  pub pins : Reads (λ r s. Pins r most (set_on slip) s) mid b
+  pub position : deed.position ≡ length mid.seen
+  pub pins : ReadsOnly (λ r s. Pins r most (set_on deed) s) mid b
 
 -- what was told in a turn, where it closes a phase or not
 abbrev pub Heralds : Shape → Bool → Telling → Option (Known EpochSet) → Telling → Type 0
@@ -49,8 +49,8 @@ pub record Acted (shape : Shape) (g : ℕ) (xs : List Passing) (p : Telling) (ds
   pub acts : Done (WroteAndPinned shape (phases_over shape (g + 1))) xs ds es acted
   pub tells : MatchBool (is_closing shape g) (Published shape p told) (told ≡ p)
   pub learns : MatchBool (is_closing shape g) (AllLearn told acted learned) (learned ≡ acted)
-  pub met : Met shape learned told zs q
-  pub shows : Shows shape q.shown q.seen
+  pub met : HaveMet shape learned told zs q
+  pub shows : AreShown shape q.shown q.seen
 
 -- ---- desks
 
@@ -65,5 +65,5 @@ pub record AreFrames (shape : Shape) (write : ℕ → WriteFrame) (frames : List
 abbrev pub frames_on : List Desk → List (List ℕ)
 frames_on desks = map (λ (d : Desk). d.frame.items) desks
 
-abbrev pub slips_on : List Desk → List (Option PinnedWrite)
-slips_on desks = map (λ (d : Desk). d.slip) desks
+abbrev pub deeds_on : List Desk → List (Option PinnedWrite)
+deeds_on desks = map (λ (d : Desk). d.deed) desks

@@ -8,7 +8,7 @@ use Rattle.tk_shape.specs.declared.memory.Memory.{Memory}
 use Rattle.tk_frames.specs.declared.entry.Placed.{Placed}
 use Rattle.tk_cluster.specs.declared.set.EpochSet.{EpochSet}
 use Rattle.tk_cluster.specs.Refusals.{IsAsked}
-use Rattle.tk_cluster.specs.Sets.{Stands}
+use Rattle.tk_cluster.specs.Sets.{StandsAtMark}
 use Rattle.tk_run.specs.declared.talk.Reading.{Reading}
 
 -- the set that answers a read, its number, and what the server at a place is asked
@@ -22,7 +22,7 @@ abbrev pub frame_of : ℕ → Reading → List ℕ
 frame_of i r = slice_index_or r.talk.asked.items i []
 
 -- each server was asked for a read of the set's epoch, and none has replied
-pub record MayAnswer (shape : Shape) (r : Reading) : Type 0 where
+pub record AreAllAsked (shape : Shape) (r : Reading) : Type 0 where
   pub same : (set_of r).shape ≡ shape
   pub counted : length r.talk.asked.items ≡ shape.servers
   pub asked : All (IsAsked (set_of r)) r.talk.asked.items
@@ -30,14 +30,14 @@ pub record MayAnswer (shape : Shape) (r : Reading) : Type 0 where
 
 -- their sets stand for these entries
 abbrev pub AllStand : List Reading → Shape → List Placed → Type 0
-AllStand rs shape E = All (λ r. Stands shape E (epoch_of r) (set_of r)) rs
+AllStand rs shape E = All (λ r. StandsAtMark shape E (epoch_of r) (set_of r)) rs
 
 -- what is due to the frame of a read, over entries
-abbrev pub Due : Type 0
-Due = Shape → List Placed → List ℕ → List ℕ
+abbrev pub ReplyDue : Type 0
+ReplyDue = Shape → List Placed → List ℕ → List ℕ
 
 -- each server replied that, over the entries that the sets stand for
-pub record IsAnswered (due : Due) (stand : Shape → List Placed → Type 0) (old new : Reading)
+pub record IsAnswered (due : ReplyDue) (stand : Shape → List Placed → Type 0) (old new : Reading)
     : Type 0 where
   pub client : new.client ≡ old.client
   pub turn : new.talk.turn ≡ old.talk.turn
@@ -61,13 +61,13 @@ abbrev pub Replies : Type 0
 Replies = Result (Vec (List ℕ) Global) Memory
 
 -- The server at a place replies to these reads, over the entries that their sets stand for.
-abbrev pub AreReplies : Due → ℕ → List Reading → Replies → Type 0
+abbrev pub AreReplies : ReplyDue → ℕ → List Reading → Replies → Type 0
 AreReplies due i rs result =
     (shape : Shape) (E : List Placed) → AllStand rs shape E →
     IfOk result (λ replies. replies.items ≡ map (due shape E) (map (frame_of i) rs))
 
 -- so each of as many servers as there are answers
-abbrev pub AllReply : Due → List Reading → List Replies → Type 0
+abbrev pub AllReply : ReplyDue → List Reading → List Replies → Type 0
 AllReply due rs answers =
     (i : ℕ) (d : Replies) → i < length answers → AreReplies due i rs (slice_index_or answers i d)
 

@@ -19,7 +19,7 @@ use Rattle.tk_client.specs.Client.{ClientState}
 use Rattle.tk_report.specs.Entries.{write_at, entries_at}
 use Rattle.tk_report.specs.Exchange.{bytes_of}
 use Rattle.tk_report.specs.Queues.{said_before}
-use Rattle.tk_cluster.specs.Sets.{Stands}
+use Rattle.tk_cluster.specs.Sets.{StandsAtMark}
 use Rattle.tk_cluster.specs.Passes.{Passing}
 use Rattle.tk_cluster.specs.Tellings.{Telling}
 use Rattle.tk_report.specs.declared.group.Group.{Group}
@@ -38,26 +38,26 @@ use Rattle.tk_run.specs.Ran.{Ran, set_on}
 abbrev pub entries_behind : Shape → ℕ → ℕ
 entries_behind shape g = g * shape.clients + phases_over shape g
 
--- the write of a slip stands among the entries of turn g
+-- the write of a deed stands among the entries of turn g
 pub record IsInTurn (shape : Shape) (g : ℕ) (d : PinnedWrite) : Type 0 where
   pub behind : entries_behind shape g < d.position
   pub within : d.position ≤ entries_behind shape g + shape.clients + marks_due shape g
 
 -- the sets stand for the entries before the marks of the epochs that the clients read in turn g
-pub record AreSets (S : Script) (b : WordBook) (H : History) (g : ℕ) (slips : List PinnedWrite)
+pub record AreSets (S : Script) (b : WordBook) (H : History) (g : ℕ) (deeds : List PinnedWrite)
     : Type 0 where
-  pub counted : length slips ≡ S.shape.clients
-  pub each : (c : ℕ) (d : PinnedWrite) → c < length slips →
-      Stands S.shape (placed_before S (words_of S.shape b) H (g + 1)) (epoch_at H g c)
-      (set_on (slice_index_or slips c d))
+  pub counted : length deeds ≡ S.shape.clients
+  pub each : (c : ℕ) (d : PinnedWrite) → c < length deeds →
+      StandsAtMark S.shape (placed_before S (words_of S.shape b) H (g + 1)) (epoch_at H g c)
+      (set_on (slice_index_or deeds c d))
 
 -- clients that have written in turn g of a legal history, and the sets that they read from
 pub record MayRead (S : Script) (b : WordBook) (H : History) (V : Serving) (g : ℕ)
-    (clients : List ClientState) (slips : List PinnedWrite) : Type 0 where
+    (clients : List ClientState) (deeds : List PinnedWrite) : Type 0 where
   pub legal : IsLegal S.shape H
   pub turn_in : g < turn_count S.shape
   pub wrote : AreClients S.shape.clients (wrote_under S b H V g) clients
-  pub sets : AreSets S b H g slips
+  pub sets : AreSets S b H g deeds
 
 -- a client that waits for no replies may ask
 pub record MayAsk (shape : Shape) (a : ClientState) : Type 0 where
@@ -80,7 +80,7 @@ pub record IsTalk (S : Script) (b : WordBook) (H : History) (V : Serving) (g c :
   pub replied : talk.replies.items
       ≡ map (λ j. reply_frame (reply_under S b H V g j c)) (range_with_len 1 S.shape.servers)
 
--- a read of a turn that is yet to be asked, from the set on a slip
+-- a read of a turn that is yet to be asked, from the set on a deed
 pub record IsBlank (turn : ℕ) (d : PinnedWrite) (talk : Talk) : Type 0 where
   pub turn_is : talk.turn ≡ turn
   pub set : arc_value talk.set ≡ set_on d
@@ -88,8 +88,8 @@ pub record IsBlank (turn : ℕ) (d : PinnedWrite) (talk : Talk) : Type 0 where
   pub none_replied : talk.replies.items ≡ []
 
 -- the serving tells client c in turn g of the writes that its read is over
-abbrev pub TellsIn : Script → WordBook → History → Serving → ℕ → ℕ → Type 0
-TellsIn S b H V g c =
+abbrev pub TellsInTurn : Script → WordBook → History → Serving → ℕ → ℕ → Type 0
+TellsInTurn S b H V g c =
     let w = words_of S.shape b in
     V.shows g c ≡ (λ log s. is_shown S.shape (read_over S w H g c) (w.hits log s))
 
@@ -101,9 +101,9 @@ pub record MayAskIn (S : Script) (b : WordBook) (H : History) (V : Serving) (a :
   pub turn_in : d.turn < turn_count S.shape
   pub client_in : a.number < S.shape.clients
   pub wrote : a ≡ wrote_under S b H V d.turn a.number
-  pub stands : Stands S.shape (placed_before S (words_of S.shape b) H (d.turn + 1))
+  pub stands : StandsAtMark S.shape (placed_before S (words_of S.shape b) H (d.turn + 1))
       (epoch_at H d.turn a.number) (arc_value d.set)
-  pub told : TellsIn S b H V d.turn a.number
+  pub told : TellsInTurn S b H V d.turn a.number
 
 -- Such a client asks as the history says.
 pub record AsksAs (S : Script) (b : WordBook) (H : History) (V : Serving) (a : ClientState)
@@ -118,7 +118,7 @@ pub record AreTalks (S : Script) (b : WordBook) (H : History) (V : Serving) (g :
   pub counted : length talks ≡ S.shape.clients
   pub each : (c : ℕ) (d : Talk) → c < length talks → IsTalk S b H V g c (slice_index_or talks c d)
 
--- reads of a turn that are yet to be asked, from the sets on these slips
+-- reads of a turn that are yet to be asked, from the sets on these deeds
 abbrev pub AreBlank : ℕ → List PinnedWrite → List Talk → Type 0
 AreBlank turn [] [] = Unit {0}
 AreBlank turn (d ∷ ds) (t ∷ ts) = IsBlank turn d t × AreBlank turn ds ts
@@ -164,12 +164,12 @@ pub record IsCourse (S : Script) (b : WordBook) (V : History → Serving) (g : �
 -- entries.
 pub record HasWritten (S : Script) (b : WordBook) (V : History → Serving) (g : ℕ)
     (turns : List TurnOrder) (group : Group) (passes : List Passing) (p : Telling)
-    (slips : List PinnedWrite) (bytes : List ℕ) : Type 0 where
+    (deeds : List PinnedWrite) (bytes : List ℕ) : Type 0 where
   pub counted : length turns ≡ g + 1
   pub said : group.said ≡ said_before S (g + 1)
   pub ran : Ran S.shape (write_at S (words_of S.shape b)) turns passes p
   pub reads : (H : History) → GoesOn S.shape turns H →
-      MayRead S b H (V H) g group.clients.items slips
+      MayRead S b H (V H) g group.clients.items deeds
   pub seen : (H : History) → GoesOn S.shape turns H →
       bytes ≡ flat_map placed_frame (entries_at (write_at S (words_of S.shape b)) H g)
 

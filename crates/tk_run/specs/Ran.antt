@@ -14,14 +14,14 @@ use Rattle.tk_schedule.specs.Schedule.{phases_over, marks_due}
 use Rattle.tk_report.specs.Entries.{entries_before}
 use Rattle.tk_run.specs.declared.pinned_write.PinnedWrite.{PinnedWrite}
 use Rattle.tk_cluster.specs.declared.set.EpochSet.{EpochSet}
-use Rattle.tk_cluster.specs.Sets.{Shows}
-use Rattle.tk_cluster.specs.Passes.{Passing, own, Wrote, Pins, Learns, Reads}
+use Rattle.tk_cluster.specs.Sets.{AreShown}
+use Rattle.tk_cluster.specs.Passes.{Passing, own, Wrote, Pins, Learns, ReadsOnly}
 use Rattle.tk_cluster.specs.Tellings.{Telling, marks, told_of, Published}
-use Rattle.tk_cluster.specs.Clusters.{Each, Met}
+use Rattle.tk_cluster.specs.Clusters.{Each, HaveMet}
 
 -- ---- one turn
 
--- the set that lies on a slip
+-- the set that lies on a deed
 abbrev pub set_on : PinnedWrite → EpochSet
 set_on d = arc_value d.set
 
@@ -31,7 +31,7 @@ pub record ActsOn (write : ℕ → WriteFrame) (most : ℕ) (a : Passing) (d : P
   pub mid : Passing
   pub wrote : Wrote a (write a.client) mid
   pub position : d.position ≡ length mid.seen
-  pub pins : Reads (λ r s. Pins r most (set_on d) s) mid b
+  pub pins : ReadsOnly (λ r s. Pins r most (set_on d) s) mid b
 
 -- the step holds between three lists, place by place
 abbrev pub EachBy : {X D : Type 0} → (X → D → X → Type 0) → List X → List D → List X → Type 0
@@ -41,11 +41,11 @@ EachBy R _ _ _ = ⊥
 
 -- each pass took in what was told
 abbrev pub AllLearn : Telling → List Passing → List Passing → Type 0
-AllLearn told xs ys = Each (Reads (λ r s. Learns r (told_of told) s)) xs ys
+AllLearn told xs ys = Each (ReadsOnly (λ r s. Learns r (told_of told) s)) xs ys
 
 -- Turn g: each client writes and pins, and the publisher publishes where the turn closes a phase.
 -- Then each pass learns of it, and then all meet.
-pub record Turned (shape : Shape) (write : ℕ → WriteFrame) (g : ℕ) (xs : List Passing)
+pub record HasTurned (shape : Shape) (write : ℕ → WriteFrame) (g : ℕ) (xs : List Passing)
     (p : Telling) (ds : List PinnedWrite) (zs : List Passing) (q : Telling) : Type 0 where
   pub acted : List Passing
   pub told : Telling
@@ -53,8 +53,8 @@ pub record Turned (shape : Shape) (write : ℕ → WriteFrame) (g : ℕ) (xs : L
   pub acts : EachBy (ActsOn write (phases_over shape (g + 1))) xs ds acted
   pub tells : MatchBool (is_closing shape g) (Published shape p told) (told ≡ p)
   pub learns : MatchBool (is_closing shape g) (AllLearn told acted learned) (learned ≡ acted)
-  pub met : Met shape learned told zs q
-  pub shows : Shows shape q.shown q.seen
+  pub met : HaveMet shape learned told zs q
+  pub shows : AreShown shape q.shown q.seen
 
 -- ---- the turn that came about
 

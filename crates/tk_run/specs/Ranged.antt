@@ -22,8 +22,8 @@ abbrev pub Summing : Type 0
 Summing = Sharded → List ℕ → List ℕ
 
 -- whatever it makes, it is as long as a block where all blocks are of one length
-abbrev pub IsSized : Summing → Type 0
-IsSized sum =
+abbrev pub MakesBlocks : Summing → Type 0
+MakesBlocks sum =
     (set : Sharded) (vector : List ℕ) → AllSized set.width set.blocks →
     length (sum set vector) ≡ set.width
 

@@ -44,13 +44,13 @@ HasAsked b old new = AsksFor b old.client old.talk new.talk new.client
 -- ---- taking
 
 -- a client that waits for the replies that lie with it, one of each server
-pub record MayTake (shape : Shape) (r : Reading) : Type 0 where
+pub record MayTakeReplies (shape : Shape) (r : Reading) : Type 0 where
   pub same : r.client.shape ≡ shape
   pub waits : IsSome r.client.read
   pub counted : length r.talk.replies.items ≡ shape.servers
 
 -- it took them
-pub record HasTaken (b : WordBook) (old new : Reading) : Type 0 where
+pub record TookReplies (b : WordBook) (old new : Reading) : Type 0 where
   pub talk : new.talk ≡ old.talk
   pub client : new.client
       ≡ after_replies (words_of old.client.shape b) old.talk.replies.items old.client

@@ -19,7 +19,7 @@ use Rattle.tk_run.specs.declared.servers.Servers.{Servers}
 
 -- Its replica has applied these entries and keeps no epoch before the last two, it saw these bytes
 -- since they were last given away, and it counted the displaced writes.
-pub record IsServer (shape : Shape) (E : List Placed) (bytes : List ℕ) (s : Server) : Type 0 where
+pub record IsServerAt (shape : Shape) (E : List Placed) (bytes : List ℕ) (s : Server) : Type 0 where
   pub state : StandsFor shape E s.state
   pub floor : mark_count E - 1 ≤ s.state.floor
   pub seen : s.seen.items ≡ bytes
@@ -31,7 +31,7 @@ pub record AreServers (shape : Shape) (Es : ℕ → List Placed) (seen : ℕ →
     (servers : List Server) : Type 0 where
   pub counted : length servers ≡ shape.servers
   pub each : (i : ℕ) (d : Server) → i < length servers →
-      IsServer shape (Es (i + 1)) (seen (i + 1)) (slice_index_or servers i d)
+      IsServerAt shape (Es (i + 1)) (seen (i + 1)) (slice_index_or servers i d)
 
 -- all hold these entries
 abbrev pub alike : List Placed → ℕ → List Placed
@@ -45,7 +45,7 @@ nothing_seen j = []
 
 -- It has seen as many marks as there are among these entries, whatever its table has, and no more writes
 -- were displaced than these are.
-pub record IsReady (shape : Shape) (E : List Placed) (s : Server) : Type 0 where
+pub record MayWriteAndPin (shape : Shape) (E : List Placed) (s : Server) : Type 0 where
   pub same : s.state.shape ≡ shape
   pub last : s.state.last ≡ mark_count E
   pub some : s.state.floor ≤ s.state.last
@@ -55,15 +55,15 @@ pub record AreReady (shape : Shape) (E : List Placed) (servers : List Server) : 
   pub counted : length servers ≡ shape.servers
   pub order : IsOrder shape E
   pub each : (i : ℕ) (d : Server) → i < length servers →
-      IsReady shape E (slice_index_or servers i d)
+      MayWriteAndPin shape E (slice_index_or servers i d)
 
 -- ---- taking entries
 
 -- a server for which this entry is the next one
-pub record MayTake (p : Placed) (s : Server) : Type 0 where
+pub record MayTakeReplies (p : Placed) (s : Server) : Type 0 where
   pub shape : Shape
   pub E : List Placed
-  pub is : IsReady shape E s
+  pub is : MayWriteAndPin shape E s
   pub next : IsNext shape E p
 
 -- servers for which it is
@@ -82,7 +82,7 @@ abbrev pub with_more : (ℕ → List Placed) → List Placed → ℕ → List Pl
 with_more Es F j = Es j ++ F
 
 -- Servers that took the second entries after the first, and each behind those that it held.
-pub record HaveTaken (was : Servers) (shape : Shape) (E F : List Placed) (servers : Servers)
+pub record TookOn (was : Servers) (shape : Shape) (E F : List Placed) (servers : Servers)
     : Type 0 where
   pub taken : servers.taken ≡ length (E ++ F)
   pub ready : AreReady shape (E ++ F) servers.list.items
@@ -96,6 +96,6 @@ unfoldable pub answered : Shape → List Placed → List ReadFrame → List ℕ
 answered shape E reads = flat_map (λ r. bytes_of (with_reply shape (before E r.epoch) r)) reads
 
 -- these are the frames of reads that are in range
-pub record AreReads (shape : Shape) (reads : List ReadFrame) (frames : List (List ℕ)) : Type 0 where
+pub record AreReadFrames (shape : Shape) (reads : List ReadFrame) (frames : List (List ℕ)) : Type 0 where
   pub in_range : AllByRecursion (IsRead shape) reads
   pub spelled : frames ≡ map read_frame reads

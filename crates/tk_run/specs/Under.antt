@@ -26,7 +26,7 @@ use Rattle.tk_run.specs.Turns.{turn_bytes, bytes_before}
 -- ---- servers
 
 -- In turn g servers that hold these entries tell and reply to the clients what the serving has.
-pub record Serves (S : Script) (b : WordBook) (H : History) (V : Serving) (g : ℕ)
+pub record ServesAs (S : Script) (b : WordBook) (H : History) (V : Serving) (g : ℕ)
     (Es : ℕ → List Placed) : Type 0 where
   pub shows : (c : ℕ) → c < S.shape.clients → V.shows g c
       ≡ (λ log s. is_shown S.shape (before (Es 1) (epoch_at H g c)) ((words_of S.shape b).hits log s))
@@ -109,7 +109,7 @@ pub record AreIdle (S : Script) (g : ℕ) (clients : List ClientState) : Type 0 
       IsIdle S g c (slice_index_or clients c d)
 
 -- and after it asked for its read of turn g
-pub record IsAsking (S : Script) (H : History) (g c : ℕ) (client : ClientState) : Type 0 where
+pub record AskedInTurn (S : Script) (H : History) (g c : ℕ) (client : ClientState) : Type 0 where
   pub same : client.shape ≡ S.shape
   pub number : client.number ≡ c
   pub writing : client.writing ≡ writing_before S c (g + 1)
@@ -119,4 +119,4 @@ pub record IsAsking (S : Script) (H : History) (g c : ℕ) (client : ClientState
 pub record AreAsking (S : Script) (H : History) (g : ℕ) (clients : List ClientState) : Type 0 where
   pub counted : length clients ≡ S.shape.clients
   pub each : (c : ℕ) (d : ClientState) → c < length clients →
-      IsAsking S H g c (slice_index_or clients c d)
+      AskedInTurn S H g c (slice_index_or clients c d)

@@ -2,8 +2,8 @@ ghost use Rattle.std.specs.Prelude.{◌≡◌, ◌+◌, ◌<◌, ◌≤◌, All,
 ghost use Rattle.tk_shape.specs.Lengths.{turn_count};
 ghost use Rattle.tk_schedule.specs.Schedule.{is_closing, phases_over};
 ghost use Rattle.tk_cluster.specs.Clusters.{Each};
-ghost use Rattle.tk_cluster.specs.Passes.{Learns, Reads};
-ghost use Rattle.tk_run.specs.Acting.{IsReady, Acted};
+ghost use Rattle.tk_cluster.specs.Passes.{Learns, ReadsOnly};
+ghost use Rattle.tk_run.specs.Acting.{MayWriteAndPin, Acted};
 ghost use Rattle.tk_run.specs.Ticks.{AllBy};
 
 use crate::pinned_write::PinnedWrite;
@@ -39,7 +39,7 @@ pub(crate) struct Cue<'a, B: Naming, G: Gate> {
 pub(crate) struct Desk {
     pub client: u32,
     pub frame: Vec<u8>,
-    pub slip: Option<PinnedWrite>,
+    pub deed: Option<PinnedWrite>,
 }
 
 /// The publisher, with what it told in this turn.
@@ -50,9 +50,9 @@ pub(crate) struct Herald<B: Naming> {
 
 /// It writes, and then pins; it comes to the gate before and after.
 impl<'a, B: Naming + Send + Sync, G: Gate> Clerk<Cue<'a, B, G>, Desk> for Pass<B> {
-    ghost use Rattle.tk_run.specs.Acting.{IsReady, WroteAndPinned};
+    ghost use Rattle.tk_run.specs.Acting.{MayWriteAndPin, WroteAndPinned};
 
-    ghost able = { λ cue a. IsReady B.shape cue.most a };
+    ghost able = { λ cue a. MayWriteAndPin B.shape cue.most a };
 
     ghost fits = { λ cue d. Unit {0} };
 
@@ -72,7 +72,7 @@ impl<'a, B: Naming + Send + Sync, G: Gate> Clerk<Cue<'a, B, G>, Desk> for Pass<B
             return false;
         };
         cue.gate.at(rt, desk.client, 2 * cue.turn + 1);
-        desk.slip = Some(PinnedWrite { position, set });
+        desk.deed = Some(PinnedWrite { position, set });
         true
     }
 }
@@ -110,7 +110,7 @@ fn learn_all<B: Naming>(
 ) -> Result<(), Memory>
     requires { AllBy (λ a. a.reads.board ≡ told.old.board) passes.old }
     ensures told { told.new ≡ told.old }
-    ensures ok { OnOk result (Each (Reads (λ r s. Learns r told.old s)) passes.old passes.new) }
+    ensures ok { OnOk result (Each (ReadsOnly (λ r s. Learns r told.old s)) passes.old passes.new) }
 {
     let Some((pass, others)) = passes.split_first_mut() else {
         return Ok(());
@@ -129,7 +129,7 @@ pub(crate) fn act<'a, B: Naming + Send + Sync, G: Gate, R: Threads + Wait + Sync
     desks: &mut [Desk],
     herald: &mut Herald<B>,
 ) -> Result<(), Memory>
-    requires ready { All (IsReady B.shape cue.now.most) passes.old }
+    requires ready { All (MayWriteAndPin B.shape cue.now.most) passes.old }
     requires desks { length desks.old ≡ length passes.old }
     requires on { All (λ a. a.reads.board ≡ herald.old.publisher.board) passes.old }
     requires room { length herald.old.publisher.shown ≤ B.shape.phases }

@@ -5,8 +5,8 @@ ghost use Rattle.tk_shape.specs.declared.shape.Shape.{Shape};
 ghost use Rattle.tk_frames.specs.declared.entry.Placed.{Placed};
 ghost use Rattle.tk_run.specs.declared.stations.Station.{Station as StationOf};
 ghost use Rattle.tk_run.specs.Reading.{EachAt};
-ghost use Rattle.tk_run.specs.Answering.{MayAnswer, IsAnswered, AllStand, AreGiven};
-ghost use Rattle.tk_run.specs.Answering.{AreReplies, AllReply, Due};
+ghost use Rattle.tk_run.specs.Answering.{AreAllAsked, IsAnswered, AllStand, AreGiven};
+ghost use Rattle.tk_run.specs.Answering.{AreReplies, AllReply, ReplyDue};
 ghost use Rattle.tk_run.specs.Ranging.{bytes_made};
 
 use crate::crew::Crew;
@@ -31,7 +31,7 @@ pub(crate) fn answer_all<A: Sums, R: Threads + Sync + AllocGlobal>(
     crew: Crew,
 ) -> Result<(), Memory>
     requires asked { (shape : Shape) × (servers ≡ shape.servers)
-        × All (MayAnswer shape) readings.old }
+        × All (AreAllAsked shape) readings.old }
     requires stand { (shape : Shape) × (E : List Placed) × AllStand readings.old shape E }
     ensures { OnOk result
         (EachAt (IsAnswered (bytes_made (A.sum sums.now) crew.shards) (AllStand readings.old))
@@ -51,7 +51,7 @@ fn answers_from<A: Sums, R: Threads + Sync + AllocGlobal>(
     crew: Crew,
 ) -> Result<Vec<Replies>, Memory>
     requires asked { (shape : Shape) × (servers ≡ shape.servers)
-        × All (MayAnswer shape) readings.now }
+        × All (AreAllAsked shape) readings.now }
     ensures counted { IfOk result (λ v. length v.items ≡ servers) }
     ensures replies { IfOk result
         (λ v. AllReply (bytes_made (A.sum sums.now) crew.shards) readings.now v.items) }
@@ -77,7 +77,7 @@ fn reply_at<A: Sums, R: Threads + Sync + AllocGlobal>(
     crew: Crew,
 )
     requires asked { (shape : Shape) × (length stations.old ≡ shape.servers)
-        × All (MayAnswer shape) readings.now }
+        × All (AreAllAsked shape) readings.now }
     requires sides { (1 ≤ sides) × (sides ≤ crew.workers) }
     ensures counted { length stations.new ≡ length stations.old }
     ensures replies { (i : ℕ) (d : StationOf) → i < length stations.new
@@ -87,7 +87,7 @@ fn reply_at<A: Sums, R: Threads + Sync + AllocGlobal>(
     let each = crew.part(sides);
     let work = |server: usize, station: &mut Station|
         requires { IsSync A.row × IsSync R.row × ((shape : Shape) × (server < shape.servers)
-            × All (MayAnswer shape) readings.now) }
+            × All (AreAllAsked shape) readings.now) }
         ensures { AreReplies (bytes_made (A.sum sums.entry.now) each.shards) server
             readings.entry.now station.exit.now.replies }
     { station.replies = replies_of(rt, sums, &mut station.kept, server, readings, each) };
@@ -97,10 +97,10 @@ fn reply_at<A: Sums, R: Threads + Sync + AllocGlobal>(
 /// Each client is given the replies of all servers, in their order.
 fn give_all(readings: &mut [Reading], answers: Vec<Replies>) -> Result<(), Memory>
     requires asked { (shape : Shape) × (length answers.items ≡ shape.servers)
-        × All (MayAnswer shape) readings.old }
+        × All (AreAllAsked shape) readings.old }
     requires stand { (shape : Shape) × (E : List Placed) × AllStand readings.old shape E }
-    requires replies { (due : Due) × AllReply due readings.old answers.items }
-    ensures { (due : Due) → AllReply due readings.old answers.items → OnOk result
+    requires replies { (due : ReplyDue) × AllReply due readings.old answers.items }
+    ensures { (due : ReplyDue) → AllReply due readings.old answers.items → OnOk result
         (EachAt (IsAnswered due (AllStand readings.old)) readings.old readings.new) }
 {
     'servers: for replies in answers {

@@ -7,7 +7,7 @@ ghost use Rattle.tk_replica.specs.Replica.{StandsFor};
 ghost use Rattle.tk_report.specs.Clients.{AreClients};
 ghost use Rattle.tk_report.specs.Serving.{Serving, read_under};
 ghost use Rattle.tk_run.specs.Rows.{AreRows};
-ghost use Rattle.tk_run.specs.Under.{AreAsking, AreIdle, IsAsking, IsIdle, Serves};
+ghost use Rattle.tk_run.specs.Under.{AreAsking, AreIdle, AskedInTurn, IsIdle, ServesAs};
 ghost use Rattle.tk_run.specs.Under.{asked_under, posed, wrote_under};
 
 use crate::frames::{Frames, deal, empty_rows};
@@ -36,14 +36,14 @@ pub(crate) fn ask_all<D: Draws>(
     ensures asked { let S = plan.now.script.now in
         let book = D.book plan.now.draws.now in
         let history = plan.now.history.now in
-        (V : Serving) (Es : ℕ → List Placed) → Serves S book history V turn Es
+        (V : Serving) (Es : ℕ → List Placed) → ServesAs S book history V turn Es
         → StandsFor S.shape (Es 1) server.now.state
         → AreClients S.shape.clients (wrote_under S book history V turn) clients.old
         → OnOk result (AreClients S.shape.clients (asked_under S book history V turn) clients.new) }
     ensures posed { let S = plan.now.script.now in
         let book = D.book plan.now.draws.now in
         let history = plan.now.history.now in
-        (V : Serving) (Es : ℕ → List Placed) → Serves S book history V turn Es
+        (V : Serving) (Es : ℕ → List Placed) → ServesAs S book history V turn Es
         → StandsFor S.shape (Es 1) server.now.state
         → AreClients S.shape.clients (wrote_under S book history V turn) clients.old
         → IfOk result (λ rows. AreRows S.shape.servers
@@ -73,18 +73,18 @@ fn ask<D: Draws>(
     requires client_in { spot.place < plan.now.script.now.shape.clients }
     requires client { IsIdle plan.now.script.now (spot.turn + 1) spot.place client.old }
     ensures client { OnOk result
-        (IsAsking plan.now.script.now plan.now.history.now spot.turn spot.place client.new) }
+        (AskedInTurn plan.now.script.now plan.now.history.now spot.turn spot.place client.new) }
     ensures asked { let S = plan.now.script.now in
         let book = D.book plan.now.draws.now in
         let history = plan.now.history.now in
-        (V : Serving) (Es : ℕ → List Placed) → Serves S book history V spot.turn Es
+        (V : Serving) (Es : ℕ → List Placed) → ServesAs S book history V spot.turn Es
         → StandsFor S.shape (Es 1) server.now.state
         → client.old ≡ wrote_under S book history V spot.turn spot.place
         → OnOk result (client.new ≡ asked_under S book history V spot.turn spot.place) }
     ensures frames { let S = plan.now.script.now in
         let book = D.book plan.now.draws.now in
         let history = plan.now.history.now in
-        (V : Serving) (Es : ℕ → List Placed) → Serves S book history V spot.turn Es
+        (V : Serving) (Es : ℕ → List Placed) → ServesAs S book history V spot.turn Es
         → StandsFor S.shape (Es 1) server.now.state
         → client.old ≡ wrote_under S book history V spot.turn spot.place
         → IfOk result (λ frames. frames.items

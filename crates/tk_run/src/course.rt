@@ -190,7 +190,7 @@ fn play_turn<
         IfOk result (λ v. (H : History) → GoesOn S.shape course.new.turns.items H
         → AreSights S book H (V H) turn v.items) }
 {
-    let (slips, entries) = write_turn(rt, stage, turn, course)?;
+    let (deeds, entries) = write_turn(rt, stage, turn, course)?;
     let servers = stage.script.shape.servers;
     let round = Round {
         turn,
@@ -200,7 +200,7 @@ fn play_turn<
         crew: stage.crew,
     };
     let clients = &mut course.group.clients;
-    let talks = talk_all(rt, &round, &mut course.kept, clients, slips)?;
+    let talks = talk_all(rt, &round, &mut course.kept, clients, deeds)?;
     sights_from(
         rt,
         servers,
@@ -249,12 +249,12 @@ fn write_turn<
     let clients = course.group.clients.as_mut_slice();
     let mut desks = desks_for(alloc, script, stage.draws, turn, clients)?;
     act_in(rt, stage, turn, course, desks.as_mut_slice())?;
-    let (frames, slips) = cleared(alloc, desks)?;
-    let now = turn_from(alloc, &script.shape, turn, slips.as_slice())?;
+    let (frames, deeds) = cleared(alloc, desks)?;
+    let now = turn_from(alloc, &script.shape, turn, deeds.as_slice())?;
     let order = now.order.as_slice();
     let entries = entries_from(alloc, &script.shape, turn, order, frames.as_slice())?;
     course.turns.push(now)?;
-    Ok((slips, entries))
+    Ok((deeds, entries))
 }
 
 /// All write and pin in a turn at once, and then know of it.

@@ -8,7 +8,7 @@ ghost use Rattle.tk_client.specs.Writes.{write_of};
 ghost use Rattle.tk_report.specs.Entries.{write_at};
 ghost use Rattle.tk_report.specs.Clients.{AreClients, client_knowing, client_told};
 ghost use Rattle.tk_cluster.specs.Refusals.{SpellsWrite};
-ghost use Rattle.tk_run.specs.Acting.{AreFrames, frames_on, slips_on};
+ghost use Rattle.tk_run.specs.Acting.{AreFrames, frames_on, deeds_on};
 
 use crate::actors::Desk;
 use crate::pinned_write::PinnedWrite;
@@ -67,7 +67,7 @@ fn desk_for<D: Draws>(
     Ok(Desk {
         client: client.number(),
         frame,
-        slip: None,
+        deed: None,
     })
 }
 
@@ -77,21 +77,21 @@ pub(crate) fn cleared(
     desks: Vec<Desk>,
 ) -> Result<(Vec<Bytes>, Vec<PinnedWrite>), Memory>
     ensures frames { IfOk result (λ r. r.0.items ≡ frames_on desks.items) }
-    ensures slips { IfOk result (λ r. slips_on desks.items ≡ map Some r.1.items) }
+    ensures deeds { IfOk result (λ r. deeds_on desks.items ≡ map Some r.1.items) }
 {
     let mut frames = Vec::new(alloc);
-    let mut slips = Vec::new(alloc);
+    let mut deeds = Vec::new(alloc);
     'clearing: for desk in desks {
         let Desk {
             client: _,
             frame,
-            slip,
+            deed,
         } = desk;
-        let Some(slip) = slip else {
+        let Some(deed) = deed else {
             return Err(Memory);
         };
         frames.push(Bytes::from_vec(frame))?;
-        slips.push(slip)?;
+        deeds.push(deed)?;
     }
-    Ok((frames, slips))
+    Ok((frames, deeds))
 }

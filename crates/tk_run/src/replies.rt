@@ -6,9 +6,9 @@ ghost use Rattle.tk_frames.specs.declared.entry.Placed.{Placed};
 ghost use Rattle.tk_replica.specs.Replies.{reply_bytes};
 ghost use Rattle.tk_cluster.specs.declared.error.AnswerError.TheVariants as errors;
 ghost use Rattle.tk_cluster.specs.Refusals.{IsAsked};
-ghost use Rattle.tk_cluster.specs.Sets.{Stands};
+ghost use Rattle.tk_cluster.specs.Sets.{StandsAtMark};
 ghost use Rattle.tk_run.specs.declared.talk.Reading.{Reading as ReadingOf};
-ghost use Rattle.tk_run.specs.Answering.{MayAnswer, MayReply, AllStand, AreReplies};
+ghost use Rattle.tk_run.specs.Answering.{AreAllAsked, MayReply, AllStand, AreReplies};
 ghost use Rattle.tk_run.specs.Answering.{frame_of, epoch_of};
 ghost use Rattle.tk_run.specs.Ranging.{bytes_made};
 
@@ -32,7 +32,7 @@ pub(crate) fn replies_of<A: Sums, R: Threads + Sync + AllocGlobal>(
     crew: Crew,
 ) -> Result<Vec<Bytes>, Memory>
     requires asked { (shape : Shape) × (server < shape.servers)
-        × All (MayAnswer shape) readings.now }
+        × All (AreAllAsked shape) readings.now }
     ensures { AreReplies (bytes_made (A.sum sums.now) crew.shards) server readings.now result }
 {
     let frames = frames_for(rt.alloc(), server, readings)?;
@@ -112,7 +112,7 @@ fn batch<A: Sums, R: Threads + Sync + AllocGlobal>(
 ) -> Result<Vec<Bytes>, Memory>
     requires server { (1 ≤ server) × (server ≤ set.now.shape.servers) }
     requires asked { All (IsAsked set.now) frames.now }
-    ensures { (shape : Shape) (E : List Placed) → Stands shape E set.now.number set.now
+    ensures { (shape : Shape) (E : List Placed) → StandsAtMark shape E set.now.number set.now
         → IfOk result (λ replies. replies.items
         ≡ map (bytes_made (A.sum sums.now) crew.shards shape E) frames.now) }
 {
@@ -132,7 +132,7 @@ fn batch_at_once<R: Threads + Sync>(
 ) -> Result<Vec<Bytes>, Memory>
     requires server { (1 ≤ server) × (server ≤ set.now.shape.servers) }
     requires asked { All (IsAsked set.now) frames.now }
-    ensures { (shape : Shape) (E : List Placed) → Stands shape E set.now.number set.now
+    ensures { (shape : Shape) (E : List Placed) → StandsAtMark shape E set.now.number set.now
         → IfOk result (λ replies. replies.items ≡ map (reply_bytes shape E) frames.now) }
 {
     match set.answer_many(rt, server, frames, crew.workers) {

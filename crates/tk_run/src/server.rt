@@ -44,13 +44,13 @@ impl Server {
     ghost use Rattle.tk_replica.specs.Restoring.{EndsWithMark};
     ghost use Rattle.tk_checkpoint.specs.Saved.{saved};
     ghost use Rattle.tk_report.specs.Displaced.{displaced_in};
-    ghost use Rattle.tk_run.specs.Servers.{IsServer, IsReady, MayTake, AreReads, answered};
+    ghost use Rattle.tk_run.specs.Servers.{IsServerAt, MayWriteAndPin, MayTakeReplies, AreReadFrames, answered};
     ghost use Rattle.tk_run.specs.Rows.{in_pairs};
     ghost use Rattle.tk_run.specs.Keeping.{HasBegunAnew, IsAccepted};
 
     /// A server before any entry.
     pub(crate) fn open(alloc: Global, shape: &Shape) -> Result<Server, Memory>
-        ensures { IfOk result (IsServer shape.now [] []) }
+        ensures { IfOk result (IsServerAt shape.now [] []) }
     {
         Ok(Server {
             state: ReplicaState::open(alloc, shape)?,
@@ -63,13 +63,13 @@ impl Server {
     /// Sees the frame of an entry and takes it. Before a mark all epochs but the last are let go, so
     /// that there are never more than two.
     pub(crate) fn take(&mut self, alloc: Global, placed: &Placed) -> Result<(), Memory>
-        requires { MayTake placed.now self.old }
+        requires { MayTakeReplies placed.now self.old }
         ensures ready { (shape : Shape) (E : List Placed)
-            → IsReady shape E self.old → IsNext shape E placed.now
-            → OnOk result (IsReady shape (E ++ placed.now ∷ []) self.new) }
+            → MayWriteAndPin shape E self.old → IsNext shape E placed.now
+            → OnOk result (MayWriteAndPin shape (E ++ placed.now ∷ []) self.new) }
         ensures server { (shape : Shape) (E : List Placed) (bytes : List ℕ)
-            → IsServer shape E bytes self.old → OnOk result
-            (IsServer shape (E ++ placed.now ∷ []) (bytes ++ placed_frame placed.now) self.new) }
+            → IsServerAt shape E bytes self.old → OnOk result
+            (IsServerAt shape (E ++ placed.now ∷ []) (bytes ++ placed_frame placed.now) self.new) }
     {
         // (its replica has applied as many as came before)
         if placed.position - 1 != self.state.applied() {
@@ -85,18 +85,18 @@ impl Server {
     /// The replies to reads, in their order, in one pass over what the server holds. It sees each
     /// read and its reply.
     pub(crate) fn answer(&mut self, alloc: Global, frames: &[Bytes]) -> Result<Vec<Bytes>, Memory>
-        ensures ready { (shape : Shape) (E : List Placed) → IsReady shape E self.old
-            → OnOk result (IsReady shape E self.new) }
+        ensures ready { (shape : Shape) (E : List Placed) → MayWriteAndPin shape E self.old
+            → OnOk result (MayWriteAndPin shape E self.new) }
         ensures replies { (shape : Shape) (E : List Placed) (bytes : List ℕ)
             (reads : List ReadFrame)
-            → IsServer shape E bytes self.old → AreReads shape reads frames.now
+            → IsServerAt shape E bytes self.old → AreReadFrames shape reads frames.now
             → IfOk result (λ replies.
             replies.items ≡ map reply_frame (map (reply_for shape E) reads)) }
         ensures server { (shape : Shape) (E : List Placed) (bytes : List ℕ)
             (reads : List ReadFrame)
-            → IsServer shape E bytes self.old → AreReads shape reads frames.now
+            → IsServerAt shape E bytes self.old → AreReadFrames shape reads frames.now
             → OnOk result
-            (IsServer shape E (bytes ++ answered shape E reads) self.new) }
+            (IsServerAt shape E (bytes ++ answered shape E reads) self.new) }
     {
         // what clients send are reads of epochs that are kept, so that only memory may be wanting
         let Ok(replies) = self.state.serve_all_with(alloc, &mut self.spare, frames) else {
@@ -113,12 +113,12 @@ impl Server {
     /// The checkpoint of its replica, which has applied nothing behind its last mark.
     pub(crate) fn saved(&self, alloc: Global) -> Result<Vec<u8>, Memory>
         ensures ends { (shape : Shape) (E : List Placed) (bytes : List ℕ)
-            → IsServer shape E bytes self.now → OnOk result (EndsWithMark E) }
+            → IsServerAt shape E bytes self.now → OnOk result (EndsWithMark E) }
         ensures saved { (shape : Shape) (E : List Placed) (bytes : List ℕ)
-            → IsServer shape E bytes self.now
+            → IsServerAt shape E bytes self.now
             → IfOk result (λ out. out.items ≡ saved shape E) }
         ensures accepted { (shape : Shape) (E : List Placed) (bytes : List ℕ)
-            → IsServer shape E bytes self.now
+            → IsServerAt shape E bytes self.now
             → OnOk result (IsAccepted shape E (saved shape E)) }
     {
         let mut out = Vec::new(alloc);
@@ -140,16 +140,16 @@ impl Server {
         shape: &Shape,
         bytes: &[u8],
     ) -> Result<(), ResumeError>
-        ensures accepted { (E : List Placed) (seen : List ℕ) → IsServer shape.now E seen self.old
+        ensures accepted { (E : List Placed) (seen : List ℕ) → IsServerAt shape.now E seen self.old
             → OnOk result (IsAccepted shape.now E bytes.now) }
-        ensures refused { (E : List Placed) (seen : List ℕ) → IsServer shape.now E seen self.old
+        ensures refused { (E : List Placed) (seen : List ℕ) → IsServerAt shape.now E seen self.old
             → IfErr result (λ e. e ≡ ResumeError.Refused → ¬ IsAccepted shape.now E bytes.now) }
         ensures anew { OnOk result (HasBegunAnew shape.now bytes.now self.new) }
-        ensures ready { (E : List Placed) → IsReady shape.now E self.old
-            → OnOk result (IsReady shape.now E self.new) }
-        ensures stands { (E F : List Placed) (seen : List ℕ) → IsServer shape.now E seen self.old
+        ensures ready { (E : List Placed) → MayWriteAndPin shape.now E self.old
+            → OnOk result (MayWriteAndPin shape.now E self.new) }
+        ensures stands { (E F : List Placed) (seen : List ℕ) → IsServerAt shape.now E seen self.old
             → IsOrder shape.now F → EndsWithMark F → displaced_in shape.now F ≡ displaced_in shape.now E
-            → bytes.now ≡ saved shape.now F → OnOk result (IsServer shape.now F seen self.new) }
+            → bytes.now ≡ saved shape.now F → OnOk result (IsServerAt shape.now F seen self.new) }
         ensures not_taps { IfErr result (λ e. e ≢ ResumeError.Taps) }
     {
         let state = restored(alloc, shape, bytes)?;

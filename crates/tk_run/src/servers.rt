@@ -4,7 +4,7 @@ ghost use Rattle.tk_frames.specs.declared.entry.Placed.{Placed};
 ghost use Rattle.tk_frames.specs.Spelling.{placed_frame};
 ghost use Rattle.tk_frames.specs.InOrder.{IsNext};
 ghost use Rattle.tk_report.specs.Displaced.{displaced_in};
-ghost use Rattle.tk_run.specs.Servers.{AreServers, AreReady, HaveTaken, MayTakeAll, alike, with_more};
+ghost use Rattle.tk_run.specs.Servers.{AreServers, AreReady, TookOn, MayTakeAll, alike, with_more};
 ghost use Rattle.tk_run.specs.Servers.{nothing_seen};
 
 use crate::server::Server;
@@ -67,7 +67,7 @@ pub(crate) fn take_all(alloc: Global, servers: &mut [Server], placed: &Placed) -
 }
 
 impl Takes for Servers {
-    ghost took = { λ was shape E F is. HaveTaken was shape E F is };
+    ghost took = { λ was shape E F is. TookOn was shape E F is };
 
     fn taken(&self) -> u64 {
         self.taken

@@ -8,7 +8,7 @@ pub trait Sums: Sync {
     ghost use Rattle.std.specs.List.{All};
     ghost use Rattle.std.specs.Thread.{IsSync};
     ghost use Rattle.tk_shards.specs.Shards.{Sharded};
-    ghost use Rattle.tk_run.specs.Ranged.{IsSized};
+    ghost use Rattle.tk_run.specs.Ranged.{MakesBlocks};
 
     /// The sum that it makes for a vector.
     ghost sum: { Self → Sharded → List ℕ → List ℕ };
@@ -27,7 +27,7 @@ pub trait Sums: Sync {
         ensures { IfOk result (λ sums. sums.items ≡ map (sum self.now set.now) vectors.now) };
 
     /// Each is as long as a block.
-    ghost sized: { (sums : Self) → IsSized (sum sums) };
+    ghost sized: { (sums : Self) → MakesBlocks (sum sums) };
 }
 
 /// The sums that the ranges make, each range its own part.

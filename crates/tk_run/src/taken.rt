@@ -3,7 +3,7 @@ ghost use Rattle.std.specs.Prelude.{◌≡◌, true, All, IsSome, length, OnOk};
 ghost use Rattle.std.specs.Thread.{IsSync};
 ghost use Rattle.tk_words.specs.Words.{words_of};
 ghost use Rattle.tk_client.specs.Client.{after_replies};
-ghost use Rattle.tk_run.specs.Reading.{MayTake, HasTaken, EachAt};
+ghost use Rattle.tk_run.specs.Reading.{MayTakeReplies, TookReplies, EachAt};
 
 use crate::sums::Sums;
 use crate::talk::{Reading, Round, Talk, all_done};
@@ -31,8 +31,8 @@ fn take<D: Draws>(draws: &D, client: &mut Client, talk: &Talk) -> Result<(), Mem
 
 /// A client takes the replies to its read, and notes whether it could.
 fn take_on<D: Draws>(draws: &D, reading: &mut Reading)
-    requires { MayTake (D.shape draws.now) reading.old }
-    ensures { reading.new.done ≡ true → HasTaken (D.book draws.now) reading.old reading.new }
+    requires { MayTakeReplies (D.shape draws.now) reading.old }
+    ensures { reading.new.done ≡ true → TookReplies (D.book draws.now) reading.old reading.new }
 {
     reading.done = take(draws, &mut reading.client, &reading.talk).is_ok();
 }
@@ -44,15 +44,15 @@ pub(crate) fn take_all<'a, D: Draws, A: Sums, R: Threads + Sync>(
     round: &Round<'a, D, A>,
     readings: &mut [Reading],
 ) -> Result<(), Memory>
-    requires { All (MayTake (D.shape round.now.draws.now)) readings.old }
+    requires { All (MayTakeReplies (D.shape round.now.draws.now)) readings.old }
     ensures { OnOk result
-        (EachAt (HasTaken (D.book round.now.draws.now)) readings.old readings.new) }
+        (EachAt (TookReplies (D.book round.now.draws.now)) readings.old readings.new) }
 {
     let draws = round.draws;
     let work = |_i: usize, reading: &mut Reading|
-        requires { IsSync D.row × MayTake (D.shape draws.now) reading.now }
+        requires { IsSync D.row × MayTakeReplies (D.shape draws.now) reading.now }
         ensures { reading.exit.now.done ≡ true
-            → HasTaken (D.book draws.entry.now) reading.entry.now reading.exit.now }
+            → TookReplies (D.book draws.entry.now) reading.entry.now reading.exit.now }
     { take_on(draws, reading) };
     thread::for_each_mut(rt, readings, round.crew.workers.max(2) as usize, &work);
     if !all_done(readings) {

@@ -63,28 +63,28 @@ pub(crate) fn talk_all<'a, D: Draws, A: Sums, R: Threads + Sync + AllocGlobal>(
     round: &Round<'a, D, A>,
     kept: &mut Vec<Option<Kept>>,
     clients: &mut Vec<Client>,
-    slips: Vec<PinnedWrite>,
+    deeds: Vec<PinnedWrite>,
 ) -> Result<Vec<Talk>, Memory>
     requires { let b = D.book round.now.draws.now in
         let sum = A.sum round.now.sums.now in
         (S : Script) × (H : History) × (S.shape ≡ D.shape round.now.draws.now)
         × MayRead S b H (over_ranges S b round.now.crew.shards sum H) round.now.turn
-        clients.old.items slips.items }
+        clients.old.items deeds.items }
     ensures talks { let b = D.book round.now.draws.now in
         let sum = A.sum round.now.sums.now in
         (S : Script) (H : History) → let V = over_ranges S b round.now.crew.shards sum H in
-        MayRead S b H V round.now.turn clients.old.items slips.items
+        MayRead S b H V round.now.turn clients.old.items deeds.items
         → IfOk result (λ v. AreTalks S b H V round.now.turn v.items) }
     ensures clients { let b = D.book round.now.draws.now in
         let sum = A.sum round.now.sums.now in
         (S : Script) (H : History) → let V = over_ranges S b round.now.crew.shards sum H in
-        MayRead S b H V round.now.turn clients.old.items slips.items
+        MayRead S b H V round.now.turn clients.old.items deeds.items
         → OnOk result (AreClients S.shape.clients
         (client_under S b H V (round.now.turn + 1)) clients.new.items) }
 {
     let alloc = rt.alloc();
     let asking = mem::replace(clients, Vec::new(alloc));
-    let mut readings = paired(alloc, round.turn, asking, slips.as_slice())?;
+    let mut readings = paired(alloc, round.turn, asking, deeds.as_slice())?;
     let all = readings.as_mut_slice();
     ask_all(rt, round, all)?;
     by_epoch(all);
@@ -96,26 +96,26 @@ pub(crate) fn talk_all<'a, D: Draws, A: Sums, R: Threads + Sync + AllocGlobal>(
     Ok(talks)
 }
 
-/// Each client with the set of its slip.
+/// Each client with the set of its deed.
 fn paired(
     alloc: Global,
     turn: u32,
     clients: Vec<Client>,
-    slips: &[PinnedWrite],
+    deeds: &[PinnedWrite],
 ) -> Result<Vec<Reading>, Memory>
-    requires { length slips.now ≡ length clients.items }
+    requires { length deeds.now ≡ length clients.items }
     ensures clients { IfOk result (λ v. readers v.items ≡ clients.items) }
-    ensures talks { IfOk result (λ v. AreBlank turn slips.now (talks_of v.items)) }
+    ensures talks { IfOk result (λ v. AreBlank turn deeds.now (talks_of v.items)) }
 {
     let mut readings = Vec::new(alloc);
     'pairing: for client in clients {
-        // there are as many slips as clients, so that only memory may be wanting
-        let Some(slip) = slips.get(readings.len()) else {
+        // there are as many deeds as clients, so that only memory may be wanting
+        let Some(deed) = deeds.get(readings.len()) else {
             return Err(Memory);
         };
         let talk = Talk {
             turn,
-            set: Arc::try_clone(&slip.set)?,
+            set: Arc::try_clone(&deed.set)?,
             asked: Vec::new(alloc),
             replies: Vec::new(alloc),
         };

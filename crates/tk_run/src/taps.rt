@@ -2,7 +2,7 @@ ghost use Rattle.std.specs.Prelude.{◌≡◌, ◌≢◌, ◌≤◌, ℕ, [], Li
 ghost use Rattle.tk_io.specs.Content.{Rose, gained};
 ghost use Rattle.tk_shape.specs.declared.shape.Shape.{Shape};
 ghost use Rattle.tk_frames.specs.declared.entry.Placed.{Placed};
-ghost use Rattle.tk_run.specs.Servers.{IsServer, IsReady, AreReady, AreServers, nothing_seen};
+ghost use Rattle.tk_run.specs.Servers.{IsServerAt, MayWriteAndPin, AreReady, AreServers, nothing_seen};
 ghost use Rattle.tk_io.specs.Tapped.{GainsFront, TapsGain, TapsGainFronts, TapsKeepBut};
 
 use crate::server::Server;
@@ -37,10 +37,10 @@ pub(crate) fn give_all<T: Taps>(servers: &mut [Server], taps: &mut T) -> Result<
 fn give<T: Taps>(server: &mut Server, number: u32, taps: &mut T) -> Result<(), Failed>
     requires low { 1 ≤ number }
     requires high { number ≤ 8 }
-    ensures ready { (shape : Shape) (E : List Placed) → IsReady shape E server.old
-        → OnOk result (IsReady shape E server.new) }
+    ensures ready { (shape : Shape) (E : List Placed) → MayWriteAndPin shape E server.old
+        → OnOk result (MayWriteAndPin shape E server.new) }
     ensures server { (shape : Shape) (E : List Placed) (bytes : List ℕ)
-        → IsServer shape E bytes server.old → OnOk result (IsServer shape E [] server.new) }
+        → IsServerAt shape E bytes server.old → OnOk result (IsServerAt shape E [] server.new) }
     ensures ok { let seen = server.old.seen.items in
         OnOk result (T.tap taps.new number ≡ gained (T.tap taps.old number) seen) }
     ensures err { let seen = server.old.seen.items in

@@ -23,17 +23,17 @@ pub(crate) fn turn_from(
     alloc: Global,
     shape: &Shape,
     turn: u32,
-    slips: &[PinnedWrite],
+    deeds: &[PinnedWrite],
 ) -> Result<TurnOrder, Memory>
     requires turn_in { turn < turn_count shape.now }
-    requires counted { length slips.now ≡ shape.now.clients }
-    requires within { All (IsInTurn shape.now turn) slips.now }
+    requires counted { length deeds.now ≡ shape.now.clients }
+    requires within { All (IsInTurn shape.now turn) deeds.now }
     ensures { IfOk result
-        (λ t. t ≡ turn_of shape.now turn (entries_behind shape.now turn) slips.now) }
+        (λ t. t ≡ turn_of shape.now turn (entries_behind shape.now turn) deeds.now) }
 {
     Ok(TurnOrder {
-        order: Items::from_vec(order_from(alloc, shape, turn, slips)?),
-        epochs: epochs_from(alloc, slips)?,
+        order: Items::from_vec(order_from(alloc, shape, turn, deeds)?),
+        epochs: epochs_from(alloc, deeds)?,
     })
 }
 
@@ -42,32 +42,32 @@ fn order_from(
     alloc: Global,
     shape: &Shape,
     turn: u32,
-    slips: &[PinnedWrite],
+    deeds: &[PinnedWrite],
 ) -> Result<Vec<Item>, Memory>
     requires turn_in { turn < turn_count shape.now }
-    requires counted { length slips.now ≡ shape.now.clients }
-    requires within { All (IsInTurn shape.now turn) slips.now }
+    requires counted { length deeds.now ≡ shape.now.clients }
+    requires within { All (IsInTurn shape.now turn) deeds.now }
     ensures { let blank = replicate (shape.now.clients + marks_due shape.now turn) Publish in
         IfOk result (λ order. order.items
-        ≡ placed_clients (entries_behind shape.now turn) 0 slips.now blank) }
+        ≡ placed_clients (entries_behind shape.now turn) 0 deeds.now blank) }
 {
     let marks = if closes(shape, turn) { 1 } else { 0 };
     let count = shape.clients as usize + marks;
     let mut order = vec![in alloc; Item::Publish; count]?;
     let start = behind(shape, turn);
-    'placing: for (i, slip) in slips.iter().enumerate() {
-        order[(slip.position - start - 1) as usize] = Item::Client(i as u32);
+    'placing: for (i, deed) in deeds.iter().enumerate() {
+        order[(deed.position - start - 1) as usize] = Item::Client(i as u32);
     }
     Ok(order)
 }
 
 /// The epochs that the clients read.
-fn epochs_from(alloc: Global, slips: &[PinnedWrite]) -> Result<Words, Memory>
-    ensures { IfOk result (λ w. w ≡ map (λ d. (set_on d).number) slips.now) }
+fn epochs_from(alloc: Global, deeds: &[PinnedWrite]) -> Result<Words, Memory>
+    ensures { IfOk result (λ w. w ≡ map (λ d. (set_on d).number) deeds.now) }
 {
     let mut epochs = Vec::new(alloc);
-    'reading: for slip in slips {
-        epochs.push(slip.set.number())?;
+    'reading: for deed in deeds {
+        epochs.push(deed.set.number())?;
     }
     Ok(Words::from_vec(epochs))
 }

@@ -10,9 +10,9 @@ ghost use Rattle.tk_report.specs.Clients.{AreClients};
 ghost use Rattle.tk_report.specs.Serving.{Serving};
 ghost use Rattle.tk_report.specs.Turns.{placed_before};
 ghost use Rattle.tk_run.specs.Rows.{AreRows};
-ghost use Rattle.tk_run.specs.Servers.{AreReady, AreServers, IsReady, IsServer};
+ghost use Rattle.tk_run.specs.Servers.{AreReady, AreServers, MayWriteAndPin, IsServerAt};
 ghost use Rattle.tk_run.specs.Turns.{entries_seen};
-ghost use Rattle.tk_run.specs.Under.{AreAsking, AreIdle, IsAsking, IsIdle, Serves, asked_under};
+ghost use Rattle.tk_run.specs.Under.{AreAsking, AreIdle, AskedInTurn, IsIdle, ServesAs, asked_under};
 ghost use Rattle.tk_run.specs.Under.{client_under, posed, replied_under, reply_under, turn_under};
 ghost use Rattle.tk_run.specs.Under.{wrote_under};
 
@@ -48,7 +48,7 @@ pub(crate) fn read_turn<D: Draws>(
     ensures clients_under { let S = plan.now.script.now in
         let book = D.book plan.now.draws.now in
         let history = plan.now.history.now in
-        (V : Serving) (Es : ℕ → List Placed) → Serves S book history V turn Es
+        (V : Serving) (Es : ℕ → List Placed) → ServesAs S book history V turn Es
         → AreClients S.shape.clients (wrote_under S book history V turn) clients.old
         → AreServers S.shape Es (entries_seen S (words_of S.shape book) history turn) servers.old
         → OnOk result
@@ -56,7 +56,7 @@ pub(crate) fn read_turn<D: Draws>(
     ensures servers_under { let S = plan.now.script.now in
         let book = D.book plan.now.draws.now in
         let history = plan.now.history.now in
-        (V : Serving) (Es : ℕ → List Placed) → Serves S book history V turn Es
+        (V : Serving) (Es : ℕ → List Placed) → ServesAs S book history V turn Es
         → AreClients S.shape.clients (wrote_under S book history V turn) clients.old
         → AreServers S.shape Es (entries_seen S (words_of S.shape book) history turn) servers.old
         → OnOk result (AreServers S.shape Es (turn_under S book history V turn) servers.new) }
@@ -88,7 +88,7 @@ fn answer_all<D: Draws>(
     ensures replies { let S = plan.now.script.now in
         let book = D.book plan.now.draws.now in
         let history = plan.now.history.now in
-        (V : Serving) (Es : ℕ → List Placed) → Serves S book history V turn Es
+        (V : Serving) (Es : ℕ → List Placed) → ServesAs S book history V turn Es
         → AreRows S.shape.servers (posed S book history V turn S.shape.clients) asked.now
         → AreServers S.shape Es (entries_seen S (words_of S.shape book) history turn) servers.old
         → IfOk result (λ rows. AreRows S.shape.clients
@@ -96,7 +96,7 @@ fn answer_all<D: Draws>(
     ensures servers_under { let S = plan.now.script.now in
         let book = D.book plan.now.draws.now in
         let history = plan.now.history.now in
-        (V : Serving) (Es : ℕ → List Placed) → Serves S book history V turn Es
+        (V : Serving) (Es : ℕ → List Placed) → ServesAs S book history V turn Es
         → AreRows S.shape.servers (posed S book history V turn S.shape.clients) asked.now
         → AreServers S.shape Es (entries_seen S (words_of S.shape book) history turn) servers.old
         → OnOk result (AreServers S.shape Es (turn_under S book history V turn) servers.new) }
@@ -123,15 +123,15 @@ fn answer_one<D: Draws>(
 ) -> Result<Vec<Bytes>, Memory>
     requires turn_in { spot.turn < turn_count plan.now.script.now.shape }
     requires server_in { spot.place < plan.now.script.now.shape.servers }
-    ensures ready { (shape : Shape) (E : List Placed) → IsReady shape E server.old
-        → OnOk result (IsReady shape E server.new) }
+    ensures ready { (shape : Shape) (E : List Placed) → MayWriteAndPin shape E server.old
+        → OnOk result (MayWriteAndPin shape E server.new) }
     ensures replies { let S = plan.now.script.now in
         let book = D.book plan.now.draws.now in
         let history = plan.now.history.now in
         let saw = entries_seen S (words_of S.shape book) history spot.turn (spot.place + 1) in
-        (V : Serving) (Es : ℕ → List Placed) → Serves S book history V spot.turn Es
+        (V : Serving) (Es : ℕ → List Placed) → ServesAs S book history V spot.turn Es
         → asked.now ≡ posed S book history V spot.turn S.shape.clients spot.place
-        → IsServer S.shape (Es (spot.place + 1)) saw server.old
+        → IsServerAt S.shape (Es (spot.place + 1)) saw server.old
         → IfOk result (λ replies. replies.items
         ≡ map (λ c. reply_frame (reply_under S book history V spot.turn (spot.place + 1) c))
         (range_with_len 0 S.shape.clients)) }
@@ -139,10 +139,10 @@ fn answer_one<D: Draws>(
         let book = D.book plan.now.draws.now in
         let history = plan.now.history.now in
         let saw = entries_seen S (words_of S.shape book) history spot.turn (spot.place + 1) in
-        (V : Serving) (Es : ℕ → List Placed) → Serves S book history V spot.turn Es
+        (V : Serving) (Es : ℕ → List Placed) → ServesAs S book history V spot.turn Es
         → asked.now ≡ posed S book history V spot.turn S.shape.clients spot.place
-        → IsServer S.shape (Es (spot.place + 1)) saw server.old
-        → OnOk result (IsServer S.shape (Es (spot.place + 1))
+        → IsServerAt S.shape (Es (spot.place + 1)) saw server.old
+        → OnOk result (IsServerAt S.shape (Es (spot.place + 1))
         (turn_under S book history V spot.turn (spot.place + 1)) server.new) }
 {
     let replies = server.answer(alloc, asked)?;
@@ -164,7 +164,7 @@ fn take_replies<D: Draws>(
     ensures clients_under { let S = plan.now.script.now in
         let book = D.book plan.now.draws.now in
         let history = plan.now.history.now in
-        (V : Serving) (Es : ℕ → List Placed) → Serves S book history V turn Es
+        (V : Serving) (Es : ℕ → List Placed) → ServesAs S book history V turn Es
         → ((j : ℕ) → 1 ≤ j → j ≤ S.shape.servers → IsOrder S.shape (Es j))
         → AreRows S.shape.clients (replied_under S book history V turn S.shape.servers) replies.now
         → AreClients S.shape.clients (asked_under S book history V turn) clients.old
@@ -191,12 +191,12 @@ fn take_one<D: Draws>(
 ) -> Result<(), Memory>
     requires turn_in { spot.turn < turn_count plan.now.script.now.shape }
     requires client_in { spot.place < plan.now.script.now.shape.clients }
-    requires client { IsAsking plan.now.script.now plan.now.history.now spot.turn spot.place client.old }
+    requires client { AskedInTurn plan.now.script.now plan.now.history.now spot.turn spot.place client.old }
     ensures client { OnOk result (IsIdle plan.now.script.now (spot.turn + 1) spot.place client.new) }
     ensures client_under { let S = plan.now.script.now in
         let book = D.book plan.now.draws.now in
         let history = plan.now.history.now in
-        (V : Serving) (Es : ℕ → List Placed) → Serves S book history V spot.turn Es
+        (V : Serving) (Es : ℕ → List Placed) → ServesAs S book history V spot.turn Es
         → ((j : ℕ) → 1 ≤ j → j ≤ S.shape.servers → IsOrder S.shape (Es j))
         → replies.now ≡ replied_under S book history V spot.turn S.shape.servers spot.place
         → client.old ≡ asked_under S book history V spot.turn spot.place

@@ -12,7 +12,7 @@ ghost use Rattle.tk_report.specs.Turns.{placed_before};
 ghost use Rattle.tk_run.specs.Keeping.{AreAccepted, AreGiven, BeginFrom, HasRefused, HaveAccepted};
 ghost use Rattle.tk_run.specs.Keeping.{begun_anew, held_now, kept_up_to, saved_before, turn_due};
 ghost use Rattle.tk_run.specs.Servers.{nothing_seen, with_more};
-ghost use Rattle.tk_run.specs.Under.{IsRunning, IsRunUnder, Serves, turn_under};
+ghost use Rattle.tk_run.specs.Under.{IsRunning, IsRunUnder, ServesAs, turn_under};
 
 use crate::go_on::go_on_before;
 use crate::keeper::Keeper;
@@ -252,7 +252,7 @@ fn take_turn<D: Draws, T: Taps>(
         let book = D.book plan.now.draws.now in
         let history = plan.now.history.now in
         let more = entries_at (write_at S (words_of S.shape book)) history turn in
-        (V : Serving) (Es : ℕ → List Placed) → Serves S book history V turn (with_more Es more)
+        (V : Serving) (Es : ℕ → List Placed) → ServesAs S book history V turn (with_more Es more)
         → IsRunUnder S book history V turn Es nothing_seen run.old
         → OnOk result
         (IsRunUnder S book history V (turn + 1) (with_more Es more) nothing_seen run.new) }
@@ -260,7 +260,7 @@ fn take_turn<D: Draws, T: Taps>(
         let book = D.book plan.now.draws.now in
         let history = plan.now.history.now in
         let more = entries_at (write_at S (words_of S.shape book)) history turn in
-        (V : Serving) (Es : ℕ → List Placed) → Serves S book history V turn (with_more Es more)
+        (V : Serving) (Es : ℕ → List Placed) → ServesAs S book history V turn (with_more Es more)
         → IsRunUnder S book history V turn Es nothing_seen run.old
         → OnOk result (TapsGain S.shape.servers (turn_under S book history V turn)
         (T.tap taps.old) (T.tap taps.new)) }
@@ -268,7 +268,7 @@ fn take_turn<D: Draws, T: Taps>(
         let book = D.book plan.now.draws.now in
         let history = plan.now.history.now in
         let more = entries_at (write_at S (words_of S.shape book)) history turn in
-        (V : Serving) (Es : ℕ → List Placed) → Serves S book history V turn (with_more Es more)
+        (V : Serving) (Es : ℕ → List Placed) → ServesAs S book history V turn (with_more Es more)
         → IsRunUnder S book history V turn Es nothing_seen run.old
         → OnErr result (TapsGainFronts S.shape.servers (turn_under S book history V turn)
         (T.tap taps.old) (T.tap taps.new)) }
@@ -295,7 +295,7 @@ fn meet<D: Draws>(alloc: Global, plan: &Plan<D>, turn: u32, run: &mut Run) -> Re
         let book = D.book plan.now.draws.now in
         let history = plan.now.history.now in
         let more = entries_at (write_at S (words_of S.shape book)) history turn in
-        (V : Serving) (Es : ℕ → List Placed) → Serves S book history V turn (with_more Es more)
+        (V : Serving) (Es : ℕ → List Placed) → ServesAs S book history V turn (with_more Es more)
         → IsRunUnder S book history V turn Es nothing_seen run.old
         → OnOk result (IsRunUnder S book history V (turn + 1) (with_more Es more)
         (turn_under S book history V turn) run.new) }

@@ -25,7 +25,7 @@ use Rattle.tk_schedule.proofs.Offers.{one_more}
 use Rattle.tk_serve.specs.Seats.{Seat, empty_seat, seat_of, AreSeats}
 use Rattle.tk_serve.specs.Told.{reply_told, epoch_bytes, brought, packets_brought}
 use Rattle.tk_serve.specs.Desks.{desk_by}
-use Rattle.tk_serve.specs.Answering.{packet_over, epoch_of, news_of, news_for, MayAnswer}
+use Rattle.tk_serve.specs.Answering.{packet_over, epoch_of, news_of, news_for, IsAnswerable}
 use Rattle.tk_serve.proofs.Lists.{map-each}
 use Rattle.tk_serve.proofs.Phases.{phase-before, phase-past}
 use Rattle.tk_serve.proofs.ToldLaws.{AreReadsOf}
@@ -78,11 +78,11 @@ module _ (shape : Shape) (n c : ℕ) (reads : List ReadFrame) (are : AreReadsOf 
       ∙ sym (map-map (packet (c + 1)) (reply_told shape E) waited)
 
   pub may-answer : (epoch : Epoch) → epoch.shape ≡ shape → c < shape.clients →
-      All (MayAnswer epoch) (take shape.ticks (drop (n * shape.ticks) reads))
+      All (IsAnswerable epoch) (take shape.ticks (drop (n * shape.ticks) reads))
   may-answer epoch same low =
-      All-from_get_or (MayAnswer epoch) (take shape.ticks (drop (n * shape.ticks) reads)) blank_read (λ i inside.
+      All-from_get_or (IsAnswerable epoch) (take shape.ticks (drop (n * shape.ticks) reads)) blank_read (λ i inside.
       let at = over-at i inside in
-      subst (MayAnswer epoch) (sym at.1)
+      subst (IsAnswerable epoch) (sym at.1)
       (record {
         in_range = subst (λ sh. IsRead sh at.0) (sym same) at.4;
         numbered = omega (arith, at.2, low, shape.in_range.clients_high);

@@ -20,7 +20,7 @@ use Rattle.tk_serve.specs.declared.check.Checked.{Checked}
 use Rattle.tk_serve.specs.declared.check.Checked.TheVariants.{Write, Read, Refused}
 use Rattle.tk_serve.specs.Refusals.{of_fault, after_fault, unless, write_misplaced, read_misplaced, write_refusal}
 use Rattle.tk_serve.specs.Refusals.{read_refusal, refusal_by, is_read_kind}
-use Rattle.tk_serve.specs.Checked.{IsTakenWrite, IsTakenRead, IsWriteChecked, IsReadChecked, IsChecked, IsRefusedFor}
+use Rattle.tk_serve.specs.Checked.{IsTakenWrite, IsTakenRead, IsWriteChecked, IsReadChecked, IsChecked, IsRefusedForFrame}
 use Rattle.tk_serve.proofs.WriteFields.{write-read}
 
 after-refused : (o : Option FrameError) (e : FrameError) (behind : Option Refusal) (cause : Refusal) →
@@ -40,7 +40,7 @@ passes false cause behind none = absurd (cc none)
 -- ---- writes
 
 pub write-refused : (shape : Shape) (due : Due) (bytes : List ℕ) (e : FrameError) (x : Checked) →
-    IsRefusal (first_fault (write_checks shape bytes)) e → IsRefusedFor e x → IsWriteChecked shape due bytes x
+    IsRefusal (first_fault (write_checks shape bytes)) e → IsRefusedForFrame e x → IsWriteChecked shape due bytes x
 unfolding write_refusal
 write-refused shape due bytes e x fault for =
     subst (IsWriteChecked shape due bytes) (sym for.refused)
@@ -76,7 +76,7 @@ write-taken shape due bytes w found none =
 -- ---- reads
 
 pub read-refused : (shape : Shape) (due : Due) (bytes : List ℕ) (e : FrameError) (x : Checked) →
-    IsRefusal (first_fault (read_checks shape bytes)) e → IsRefusedFor e x → IsReadChecked shape due bytes x
+    IsRefusal (first_fault (read_checks shape bytes)) e → IsRefusedForFrame e x → IsReadChecked shape due bytes x
 unfolding read_refusal
 read-refused shape due bytes e x fault for =
     subst (IsReadChecked shape due bytes) (sym for.refused)

@@ -19,7 +19,7 @@ use Rattle.tk_serve.specs.Seats.{Seat, empty_seats}
 use Rattle.tk_serve.specs.Steps.{IsOfClient, IsOver, step_on, seats_after, answers}
 use Rattle.tk_serve.specs.Courses.{Told, IsShort, Takes, IsGoing, Goes, answered, seats_next}
 use Rattle.tk_serve.specs.Courses.{answers_next, exchanged, IsCourse, IsCourseFront}
-use Rattle.tk_serve.specs.Stands.{Stands}
+use Rattle.tk_serve.specs.Stands.{HasApplied}
 use Rattle.tk_serve.specs.Nexts.{TakesNext, TakesNextFront}
 
 -- ---- one more packet
@@ -182,9 +182,9 @@ pub record IsRunning (shape : Shape) (count : ℕ) (s : Server) (left middle : T
   pub frames : List PacketView
   pub counted : length frames ≡ count
   pub course : IsCourse shape frames left middle gone now
-  pub stands : Stands shape (seats_after shape (empty_seats shape) frames) s
+  pub stands : HasApplied shape (seats_after shape (empty_seats shape) frames) s
 
-pub running-first : (shape : Shape) (s : Server) (left : Told) (gone : Gone) → Stands shape (empty_seats shape) s →
+pub running-first : (shape : Shape) (s : Server) (left : Told) (gone : Gone) → HasApplied shape (empty_seats shape) s →
     IsRunning shape 0 s left left gone gone
 running-first shape s left gone stands =
     record { frames = []; counted = refl; course = course-none shape left gone; stands = stands }
@@ -200,6 +200,6 @@ running-next shape count s new left middle rest gone now more runs going next =
       counted = length-append runs.frames (next.came ∷ []) ∙ ap (λ n. n + 1) runs.counted;
       course = course-next shape runs.frames new left middle rest gone now more runs.course going next;
       stands =
-          subst (λ seats. Stands shape seats new)
+          subst (λ seats. HasApplied shape seats new)
           (sym (seats-more shape (empty_seats shape) runs.frames next.came)) next.stands;
     }

@@ -7,13 +7,13 @@ use Rattle.tk_packets.specs.Lines.{Gone, after_taking}
 use Rattle.tk_serve.specs.declared.server.Server.{Server}
 use Rattle.tk_serve.specs.Seats.{empty_seats}
 use Rattle.tk_serve.specs.Setup.{setup}
-use Rattle.tk_serve.specs.Stands.{Stands}
+use Rattle.tk_serve.specs.Stands.{HasApplied}
 use Rattle.tk_serve.specs.Courses.{Told, SetUpThen, after_setup}
 
 -- The first packet set a server up.
 module _ (shape : Shape) (first : PacketView) (s : Server) (left middle : Told) (gone now : Gone)
     (is : first ≡ setup shape) (comes : left ≡ before_taking (packet_bytes first) middle)
-    (took : now ≡ after_taking (Some first) gone) (stands : Stands shape (empty_seats shape) s) where
+    (took : now ≡ after_taking (Some first) gone) (stands : HasApplied shape (empty_seats shape) s) where
   pub set-up-then : (Ran : Shape → Told → Gone → Type 0) → Ran s.shape middle now →
       SetUpThen (λ sh m. Ran sh m (after_setup sh gone)) left
   set-up-then Ran ran =

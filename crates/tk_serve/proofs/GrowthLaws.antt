@@ -13,7 +13,7 @@ use Rattle.tk_frames.specs.Fields.{write_in, read_in}
 use Rattle.tk_frames.proofs.Offers.{IsBytes}
 use Rattle.tk_packets.specs.Packets.{PacketView}
 use Rattle.tk_serve.specs.declared.refusal.Refusal.{Refusal}
-use Rattle.tk_serve.specs.Seats.{Seat, empty_seats, seat_of, with_write, with_read, IsWriteOf, IsReadOf, AreSeats}
+use Rattle.tk_serve.specs.Seats.{Seat, empty_seats, seat_of, with_write, with_read, IsWriteOf, IsReadDue, AreSeats}
 use Rattle.tk_serve.specs.Seats.{turns_written, placed, placed_to, newest}
 use Rattle.tk_serve.specs.Told.{told, told_of, brought, turns_read}
 use Rattle.tk_serve.specs.Refusals.{refusal_by, refusal_of, due_of, is_read_kind}
@@ -109,7 +109,7 @@ module _ (shape : Shape) (seats : List Seat) (k : ℕ) (are : AreSeats shape sea
       Follows shape seats (with_write seats k w)
   write-follows w is = record { are = seats-with_write seats k low shape w are is; grows = write-grows w }
 
-  read-follows : (r : ReadFrame) → IsReadOf shape k (length (seat_of seats k).reads) r →
+  read-follows : (r : ReadFrame) → IsReadDue shape k (length (seat_of seats k).reads) r →
       Follows shape seats (with_read seats k r)
   read-follows r is =
       record { are = seats-with_read seats k low shape r are is; grows = λ c _. read-grows r c }

@@ -16,7 +16,7 @@ use Rattle.tk_report.specs.Turns.{next_placed}
 use Rattle.tk_packets.specs.Packets.{PacketView, packet}
 use Rattle.tk_packets.specs.Frames.{epoch_frame}
 use Rattle.tk_serve.specs.Desks.{DeskView, desk, desk_behind, desk_answered, MayTakeTurn, MayComeNext, with_writes}
-use Rattle.tk_serve.specs.Answering.{news_of, news_for, MayAnswer, packet_over, epoch_of}
+use Rattle.tk_serve.specs.Answering.{news_of, news_for, IsAnswerable, packet_over, epoch_of}
 use Rattle.tk_serve.proofs.DeskLaws.{first-behind}
 use Rattle.tk_serve.proofs.EntryLaws.{writes-next, writes-more}
 
@@ -115,12 +115,12 @@ at-front (y ∷ ys) (suc k) x rest e =
     next n = omega arith
 
 pub read-may : (epoch : Epoch) (ticks k : ℕ) (asking : List ReadFrame) (r : ReadFrame) (rest : List ReadFrame) →
-    All (MayAnswer epoch) (take ticks asking) → k < ticks → drop k asking ≡ r ∷ rest → MayAnswer epoch r
+    All (IsAnswerable epoch) (take ticks asking) → k < ticks → drop k asking ≡ r ∷ rest → IsAnswerable epoch r
 read-may epoch ticks k asking r rest all low e =
     let front = at-front asking k r rest e in
     let inside : k < length (take ticks asking) = omega (arith, low, front.low, length-take ticks asking) in
-    subst (MayAnswer epoch) (get_or-take ticks asking k r low ∙ front.here r)
-    (All-get_or (MayAnswer epoch) (take ticks asking) k r inside all)
+    subst (IsAnswerable epoch) (get_or-take ticks asking k r low ∙ front.here r)
+    (All-get_or (IsAnswerable epoch) (take ticks asking) k r inside all)
 
 -- a desk from which one more read is taken
 pub desk-next_read : (k : ℕ) (old now new : DeskView) (r : ReadFrame) → now ≡ desk_answered k old →

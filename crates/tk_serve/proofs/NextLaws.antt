@@ -9,8 +9,8 @@ use Rattle.tk_packets.specs.Lines.{Gone, passed, dealt, after_taking, HasPut, Ha
 use Rattle.tk_packets.proofs.Offers.{takes-packet, dealt-bytes, dealt-order, dealt-bytes_front, dealt-order_front}
 use Rattle.tk_serve.specs.declared.server.Server.{Server}
 use Rattle.tk_serve.specs.Seats.{Seat}
-use Rattle.tk_serve.specs.Steps.{Step, step, step_on}
-use Rattle.tk_serve.specs.Stands.{Stands}
+use Rattle.tk_serve.specs.Steps.{SeatsAndPackets, step, step_on}
+use Rattle.tk_serve.specs.Stands.{HasApplied}
 use Rattle.tk_serve.specs.Courses.{Told, IsShort, StopsBehind}
 use Rattle.tk_serve.specs.Nexts.{TakesNext, TakesNextFront}
 
@@ -39,9 +39,9 @@ module _ (shape : Shape) (seats : List Seat) (p : PacketView) (client : ℕ) (fr
   step-is = ap₂ (λ (k : ℕ) (bytes : List ℕ). step shape seats k bytes) came.client_is came.frame_is
 
   told-is : out ≡ (step_on shape seats p).packets
-  told-is = told ∙ ap (λ (st : Step). st.packets) step-is
+  told-is = told ∙ ap (λ (st : SeatsAndPackets). st.packets) step-is
 
-  pub takes-next : (s : Server) → Stands shape (step shape seats client frame).seats s → HasPut out now new →
+  pub takes-next : (s : Server) → HasApplied shape (step shape seats client frame).seats s → HasPut out now new →
       TakesNext shape seats s left rest gone new
   takes-next s stands put =
       record {
@@ -54,7 +54,7 @@ module _ (shape : Shape) (seats : List Seat) (p : PacketView) (client : ℕ) (fr
             ∙ ap (λ ps. gained gone.bytes (packets_bytes ps)) told-is;
         order =
             dealt-order p out gone now new came.took put ∙ ap (λ ps. passed gone.past (dealt p ps)) told-is;
-        stands = subst (λ (st : Step). Stands shape st.seats s) step-is stands;
+        stands = subst (λ (st : SeatsAndPackets). HasApplied shape st.seats s) step-is stands;
       }
 
   pub takes-front : HasPutFront out now new → TakesNextFront shape seats left rest gone new

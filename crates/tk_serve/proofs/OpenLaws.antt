@@ -11,10 +11,10 @@ use Rattle.tk_schedule.specs.Schedule.{phases_over}
 use Rattle.tk_replica.specs.Replica.{StandsFor}
 use Rattle.tk_report.specs.Entries.{entries_before}
 use Rattle.tk_serve.specs.declared.server.Server.{Server}
-use Rattle.tk_serve.specs.Seats.{Seat, empty_seat, empty_seats, seat_of, IsSeat, AreSeats, turns_written}
+use Rattle.tk_serve.specs.Seats.{Seat, empty_seat, empty_seats, seat_of, IsSeatOf, AreSeats, turns_written}
 use Rattle.tk_serve.specs.Told.{turns_read}
 use Rattle.tk_serve.specs.Desks.{DeskView, desk, empty_desk, desk_by}
-use Rattle.tk_serve.specs.Stands.{StandsAt, Stands}
+use Rattle.tk_serve.specs.Stands.{StandsAt, HasApplied}
 use Rattle.tk_serve.proofs.SeatLaws.{turns-below}
 
 pub empty-counted : (shape : Shape) → length (empty_seats shape) ≡ shape.clients
@@ -30,7 +30,7 @@ empty-are shape =
     record {
       counted = empty-counted shape;
       each = λ c d low.
-          subst (IsSeat shape c) (sym (empty-at shape c d (omega (arith, low, empty-counted shape))))
+          subst (IsSeatOf shape c) (sym (empty-at shape c d (omega (arith, low, empty-counted shape))))
           (record {
             few_writes = omega arith;
             few_reads = omega arith;
@@ -55,7 +55,7 @@ desks-empty shape (suc n) =
     (ap (λ rs. desk [] rs 0) (drop-nil (turns_read shape 0))) (desks-empty shape n)
 
 pub stands-open : (shape : Shape) (s : Server) → s.shape ≡ shape → s.turn ≡ 0 → StandsFor shape [] s.state →
-    s.state.floor ≡ 0 → s.desks.items ≡ replicate shape.clients empty_desk → Stands shape (empty_seats shape) s
+    s.state.floor ≡ 0 → s.desks.items ≡ replicate shape.clients empty_desk → HasApplied shape (empty_seats shape) s
 unfolding entries_before empty_seats
 stands-open shape s same first stands floor desks =
     let turns = empty-turns shape in

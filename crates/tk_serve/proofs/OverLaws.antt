@@ -10,7 +10,7 @@ use Rattle.tk_serve.specs.declared.server.Server.{Server}
 use Rattle.tk_serve.specs.Seats.{Seat, turns_written, newest}
 use Rattle.tk_serve.specs.Steps.{IsOver}
 use Rattle.tk_serve.specs.Desks.{DeskView, desk_by}
-use Rattle.tk_serve.specs.Stands.{Stands}
+use Rattle.tk_serve.specs.Stands.{HasApplied}
 
 -- each element has a number where all pass the test of it
 all-equal : {X : Type 0} (f : X → ℕ) (n : ℕ) (xs : List X) → list_all (λ x. f x == n) xs ≡ true →
@@ -30,7 +30,7 @@ all-pass f n (x ∷ xs) each =
 abbrev pub have_read : Server → Bool
 have_read s = list_all (λ (d : DeskView). d.asked == turn_count s.shape) s.desks.items
 
-module _ (shape : Shape) (seats : List Seat) (s : Server) (stands : Stands shape seats s) where
+module _ (shape : Shape) (seats : List Seat) (s : Server) (stands : HasApplied shape seats s) where
   turns-same : turn_count s.shape ≡ turn_count shape
   turns-same = ap turn_count stands.same
 

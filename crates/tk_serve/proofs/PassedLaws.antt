@@ -12,7 +12,7 @@ use Rattle.tk_frames.specs.Fields.{numbers, write_in, read_in}
 use Rattle.tk_frames.proofs.Offers.{IsBytes, write_found, read_found}
 use Rattle.tk_serve.specs.declared.due.Due.{Due}
 use Rattle.tk_serve.specs.declared.refusal.Refusal.{Refusal}
-use Rattle.tk_serve.specs.Seats.{IsWriteOf, IsReadOf}
+use Rattle.tk_serve.specs.Seats.{IsWriteOf, IsReadDue}
 use Rattle.tk_serve.specs.Refusals.{of_fault, after_fault, write_misplaced, read_misplaced, write_refusal, read_refusal}
 use Rattle.tk_serve.proofs.CheckLaws.{after-none, write-taken, read-taken}
 
@@ -75,7 +75,7 @@ passed-write shape due bytes fits none =
     (write-taken shape due bytes w (write_found shape bytes fits passed) (sym placed)).is_next
 
 pub passed-read : (shape : Shape) (due : Due) (bytes : List ℕ) → IsBytes bytes →
-    read_refusal shape due bytes ≡ None → IsReadOf shape due.client due.read (read_in shape bytes)
+    read_refusal shape due bytes ≡ None → IsReadDue shape due.client due.read (read_in shape bytes)
 unfolding read_refusal
 passed-read shape due bytes fits none =
     let r = read_in shape bytes in

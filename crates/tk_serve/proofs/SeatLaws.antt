@@ -13,7 +13,7 @@ use Rattle.tk_frames.specs.declared.write_frame.WriteFrame.{WriteFrame}
 use Rattle.tk_frames.specs.declared.read_frame.ReadFrame.{ReadFrame}
 use Rattle.tk_lists.proofs.Offers.{front-at, last-at}
 use Rattle.tk_serve.specs.Seats.{Seat, empty_seat, seat_of, seat_with_write, seat_with_read, with_write, with_read}
-use Rattle.tk_serve.specs.Seats.{IsWriteOf, IsReadOf, IsSeat, AreSeats, blank_write, taken_write, least}
+use Rattle.tk_serve.specs.Seats.{IsWriteOf, IsReadDue, IsSeatOf, AreSeats, blank_write, taken_write, least}
 use Rattle.tk_serve.specs.Seats.{turns_written, placed_to}
 use Rattle.tk_serve.proofs.Least.{least-top, least-below, least-above, least-next}
 use Rattle.tk_serve.proofs.EntryLaws.{entries-of_same}
@@ -147,17 +147,17 @@ module _ (seats : List Seat) (c : ℕ) (low : c < length seats) where
       )
 
   -- a seat in the place of another
-  seats-set : (shape : Shape) (new : Seat) → AreSeats shape seats → IsSeat shape c new →
+  seats-set : (shape : Shape) (new : Seat) → AreSeats shape seats → IsSeatOf shape c new →
       AreSeats shape (set seats c new)
   seats-set shape new are is =
       record {
         counted = length-set seats c new ∙ are.counted;
         each = λ d e there. elim (cases_eq d c) [
           | inl same ↦
-              subst (λ k. IsSeat shape k (slice_index_or (set seats c new) k e)) (sym same)
-              (subst (IsSeat shape c) (sym (get_or-set_same seats c new e low)) is)
+              subst (λ k. IsSeatOf shape k (slice_index_or (set seats c new) k e)) (sym same)
+              (subst (IsSeatOf shape c) (sym (get_or-set_same seats c new e low)) is)
           | inr other ↦
-              subst (IsSeat shape d) (sym (get_or-set_other seats c d new e other))
+              subst (IsSeatOf shape d) (sym (get_or-set_other seats c d new e other))
               (are.each d e (omega (arith, there, length-set seats c new)))
         ];
       }
@@ -171,7 +171,7 @@ module _ (seats : List Seat) (c : ℕ) (low : c < length seats) where
       let turn : length s.writes < turn_count shape =
       subst (λ k. k < turn_count shape) is.at is.in_range.turn
       in
-      let new : IsSeat shape c (seat_with_write s w) = record {
+      let new : IsSeatOf shape c (seat_with_write s w) = record {
         few_writes = omega (arith, longer, turn);
         few_reads = own.few_reads;
         write_each = λ i d there. elim (cases_lt i (length s.writes)) [
@@ -203,7 +203,7 @@ module _ (seats : List Seat) (c : ℕ) (low : c < length seats) where
       (λ k d _. ap (λ ws. slice_index_or ws k blank_write) (read-writes r d))
 
   pub seats-with_read : (shape : Shape) (r : ReadFrame) → AreSeats shape seats →
-      IsReadOf shape c (length (seat_of seats c).reads) r → AreSeats shape (with_read seats c r)
+      IsReadDue shape c (length (seat_of seats c).reads) r → AreSeats shape (with_read seats c r)
   seats-with_read shape r are is =
       let s = seat_of seats c in
       let own = are.each c empty_seat low in
@@ -211,17 +211,17 @@ module _ (seats : List Seat) (c : ℕ) (low : c < length seats) where
       let turn : length s.reads < turn_count shape =
       subst (λ k. k < turn_count shape) is.at is.in_range.turn
       in
-      let new : IsSeat shape c (seat_with_read s r) = record {
+      let new : IsSeatOf shape c (seat_with_read s r) = record {
         few_writes = own.few_writes;
         few_reads = omega (arith, longer, turn);
         write_each = own.write_each;
         read_each = λ i d there. elim (cases_lt i (length s.reads)) [
           | inl before ↦
-              subst (IsReadOf shape c i) (sym (front-at s.reads r d i before)) (own.read_each i d before)
+              subst (IsReadDue shape c i) (sym (front-at s.reads r d i before)) (own.read_each i d before)
           | inr last ↦
               let here : i ≡ length s.reads = omega (arith, last, there, longer) in
-              subst (λ k. IsReadOf shape c k (slice_index_or (s.reads ++ r ∷ []) k d)) (sym here)
-              (subst (IsReadOf shape c (length s.reads)) (sym (last-at s.reads r d)) is)
+              subst (λ k. IsReadDue shape c k (slice_index_or (s.reads ++ r ∷ []) k d)) (sym here)
+              (subst (IsReadDue shape c (length s.reads)) (sym (last-at s.reads r d)) is)
         ];
       }
       in

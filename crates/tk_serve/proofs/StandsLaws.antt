@@ -15,7 +15,7 @@ use Rattle.tk_replica.specs.Replica.{ReplicaView, StandsFor}
 use Rattle.tk_report.proofs.Offers.{before-over}
 use Rattle.tk_serve.specs.declared.server.Server.{Server}
 use Rattle.tk_serve.specs.Seats.{Seat, empty_seat, seat_of, seat_with_write, seat_with_read, with_write, with_read}
-use Rattle.tk_serve.specs.Seats.{IsWriteOf, IsReadOf, blank_write, taken_write, turns_written, placed_to}
+use Rattle.tk_serve.specs.Seats.{IsWriteOf, IsReadDue, blank_write, taken_write, turns_written, placed_to}
 use Rattle.tk_serve.specs.Told.{turns_read}
 use Rattle.tk_serve.specs.Desks.{DeskView, desk, empty_desk, desk_by, desk_behind, desk_answered, WaitsFirst}
 use Rattle.tk_serve.specs.Desks.{MayTakeTurn}
@@ -118,7 +118,7 @@ module _ (shape : Shape) (seats : List Seat) (g n : ℕ) (s : Server) (is : Stan
 
   -- any change of a desk that counts one more read
   read-stands : (c : ℕ) (r : ReadFrame) (new : Server) (d : DeskView) → c < length seats →
-      IsReadOf shape c (length (seat_of seats c).reads) r → new.shape ≡ s.shape → new.turn ≡ s.turn →
+      IsReadDue shape c (length (seat_of seats c).reads) r → new.shape ≡ s.shape → new.turn ≡ s.turn →
       new.state ≡ s.state → new.desks.items ≡ set s.desks.items c d →
       d ≡ desk_by shape g n (seat_with_read (seat_of seats c) r) →
       s.state.floor ≤ phases_over shape d.asked → StandsAt shape (with_read seats c r) g n new
@@ -154,7 +154,7 @@ module _ (shape : Shape) (seats : List Seat) (g n : ℕ) (s : Server) (is : Stan
   -- one whose epoch is there
   pub stands-with_read : (c : ℕ) (r : ReadFrame) (new : Server) → c < length seats →
       length (seat_of seats c).reads < turns_read shape n →
-      IsReadOf shape c (length (seat_of seats c).reads) r → new.shape ≡ s.shape → new.turn ≡ s.turn →
+      IsReadDue shape c (length (seat_of seats c).reads) r → new.shape ≡ s.shape → new.turn ≡ s.turn →
       new.state ≡ s.state →
       (let d = desk_at s c in new.desks.items ≡ set s.desks.items c (desk d.waiting d.asking (d.asked + 1))) →
       StandsAt shape (with_read seats c r) g n new
@@ -169,7 +169,7 @@ module _ (shape : Shape) (seats : List Seat) (g n : ℕ) (s : Server) (is : Stan
   -- one that waits
   pub stands-with_waiting : (c : ℕ) (r : ReadFrame) (new : Server) → c < length seats →
       turns_read shape n ≤ length (seat_of seats c).reads →
-      IsReadOf shape c (length (seat_of seats c).reads) r → new.shape ≡ s.shape → new.turn ≡ s.turn →
+      IsReadDue shape c (length (seat_of seats c).reads) r → new.shape ≡ s.shape → new.turn ≡ s.turn →
       new.state ≡ s.state →
       (let d = desk_at s c in
       new.desks.items ≡ set s.desks.items c (desk d.waiting (d.asking ++ r ∷ []) (d.asked + 1))) →

@@ -14,17 +14,17 @@ use Rattle.tk_serve.specs.declared.refusal.Refusal.{Refusal}
 use Rattle.tk_serve.specs.Seats.{Seat, with_write, with_read, turns_written, newest}
 use Rattle.tk_serve.specs.Refusals.{refusal_by, due_of, code_of}
 use Rattle.tk_serve.specs.declared.check.Checked.TheVariants.{Write, Read, Refused}
-use Rattle.tk_serve.specs.Checked.{IsTaken, IsTakenWrite, IsTakenRead, IsChecked}
-use Rattle.tk_serve.specs.Steps.{Step, step_by, step, with_frame, all_gained}
-use Rattle.tk_serve.specs.Stands.{Stands, due_at}
+use Rattle.tk_serve.specs.Checked.{IsAccepted, IsTakenWrite, IsTakenRead, IsChecked}
+use Rattle.tk_serve.specs.Steps.{SeatsAndPackets, step_by, step, with_frame, all_gained}
+use Rattle.tk_serve.specs.Stands.{HasApplied, due_at}
 use Rattle.tk_serve.proofs.StandsLaws.{due-is}
 
 -- seats, and what clients are told when these come after others
-abbrev pub told_step : Shape → List Seat → List Seat → Step
+abbrev pub told_step : Shape → List Seat → List Seat → SeatsAndPackets
 told_step shape seats new = record { seats = new; packets = all_gained shape seats new }
 
 -- the same seats, and a client is told why its frame was refused
-abbrev pub refused_step : List Seat → ℕ → Refusal → Step
+abbrev pub refused_step : List Seat → ℕ → Refusal → SeatsAndPackets
 refused_step seats c cause =
     record { seats = seats; packets = packet (c + 1) (refused_frame (code_of cause)) ∷ [] }
 
@@ -54,18 +54,18 @@ frame-read shape seats c bytes r begins spelled =
 
 -- ---- a step that is known
 
-module _ (shape : Shape) (seats : List Seat) (c : ℕ) (bytes : List ℕ) (known : Step)
+module _ (shape : Shape) (seats : List Seat) (c : ℕ) (bytes : List ℕ) (known : SeatsAndPackets)
     (is : step shape seats c bytes ≡ known)
   where
-    pub step-stands : (new : Server) → Stands shape known.seats new → Stands shape (step shape seats c bytes).seats new
-    step-stands new stands = subst (λ (st : Step). Stands shape st.seats new) (sym is) stands
+    pub step-stands : (new : Server) → HasApplied shape known.seats new → HasApplied shape (step shape seats c bytes).seats new
+    step-stands new stands = subst (λ (st : SeatsAndPackets). HasApplied shape st.seats new) (sym is) stands
 
     pub step-told : (first out : List PacketView) → out ≡ first ++ known.packets →
         out ≡ first ++ (step shape seats c bytes).packets
-    step-told first out told = subst (λ (st : Step). out ≡ first ++ st.packets) (sym is) told
+    step-told first out told = subst (λ (st : SeatsAndPackets). out ≡ first ++ st.packets) (sym is) told
 
 -- What is checked against a server's due is checked against that of its seats.
-module _ (shape : Shape) (seats : List Seat) (s : Server) (c : ℕ) (bytes : List ℕ) (stands : Stands shape seats s)
+module _ (shape : Shape) (seats : List Seat) (s : Server) (c : ℕ) (bytes : List ℕ) (stands : HasApplied shape seats s)
     (low : c < length seats) where
   due-same : due_at s c ≡ due_of seats c
   due-same = due-is shape seats (turns_written shape seats) (newest shape seats) s stands c low
@@ -74,7 +74,7 @@ module _ (shape : Shape) (seats : List Seat) (s : Server) (c : ℕ) (bytes : Lis
   none-same none =
       sym (ap₂ (λ (sh : Shape) (due : Due). refusal_by sh due bytes) stands.same due-same) ∙ none
 
-  step-write : (w : WriteFrame) → IsTaken s.shape (due_at s c) bytes true →
+  step-write : (w : WriteFrame) → IsAccepted s.shape (due_at s c) bytes true →
       IsTakenWrite s.shape (due_at s c) bytes w → step shape seats c bytes
       ≡ told_step shape seats (with_write seats w.client w)
   step-write w taken is =
@@ -83,7 +83,7 @@ module _ (shape : Shape) (seats : List Seat) (s : Server) (c : ℕ) (bytes : Lis
       (frame-write shape seats c bytes w taken.begins (is.spelled ∙ ap (λ sh. write_in sh (drop 2 bytes)) stands.same)
       ∙ ap (λ k. with_write seats k w) (sym is.is_next.of))
 
-  step-read : (r : ReadFrame) → IsTaken s.shape (due_at s c) bytes false →
+  step-read : (r : ReadFrame) → IsAccepted s.shape (due_at s c) bytes false →
       IsTakenRead s.shape (due_at s c) bytes r → step shape seats c bytes
       ≡ told_step shape seats (with_read seats r.client r)
   step-read r taken is =
@@ -101,7 +101,7 @@ module _ (shape : Shape) (seats : List Seat) (s : Server) (c : ℕ) (bytes : Lis
 
 -- What is checked against what a server has due.
 module _ (shape : Shape) (seats : List Seat) (s : Server) (c : ℕ) (bytes : List ℕ) (due : Due)
-    (stands : Stands shape seats s) (is_due : due ≡ due_at s c) (client : c < s.shape.clients) where
+    (stands : HasApplied shape seats s) (is_due : due ≡ due_at s c) (client : c < s.shape.clients) where
   low : c < length seats
   low = omega (arith, client, stands.are.counted, ap (λ (sh : Shape). sh.clients) stands.same)
 

@@ -12,7 +12,7 @@ use Rattle.tk_serve.specs.Seats.{Seat, seat_of, with_write, IsWriteOf, AreSeats,
 use Rattle.tk_serve.specs.Told.{packets_brought}
 use Rattle.tk_serve.specs.Steps.{all_gained}
 use Rattle.tk_serve.specs.Desks.{DeskView, desk}
-use Rattle.tk_serve.specs.Stands.{StandsAt, Stands, IsDueWrite, desk_at}
+use Rattle.tk_serve.specs.Stands.{StandsAt, HasApplied, IsDueWrite, desk_at}
 use Rattle.tk_serve.proofs.Phases.{phases-step, phases-stay}
 use Rattle.tk_serve.proofs.SeatLaws.{turns-kept, turns-next, turns-below, placed-kept, write-reads, seats-with_write}
 use Rattle.tk_serve.proofs.StandsLaws.{desks-counted, due-is, desks-with_write, stands-with_write}
@@ -25,7 +25,7 @@ pub stands-as : (shape : Shape) (seats : List Seat) (g n h m : ℕ) (s : Server)
 stands-as shape seats g n h m s turns epochs is =
     subst (λ k. StandsAt shape seats k m s) turns (subst (λ k. StandsAt shape seats g k s) epochs is)
 
-module _ (shape : Shape) (seats : List Seat) (s : Server) (is : Stands shape seats s) (w : WriteFrame)
+module _ (shape : Shape) (seats : List Seat) (s : Server) (is : HasApplied shape seats s) (w : WriteFrame)
     (due : IsDueWrite s w) where
   pub write-low : w.client < length seats
   write-low =
@@ -101,7 +101,7 @@ module _ (shape : Shape) (seats : List Seat) (s : Server) (is : Stands shape sea
   -- where a write of some client is wanted still
   pub write-waits : (new : Server) → turns_written shape (with_write seats w.client w) ≡ turns_written shape seats →
       StandsAt shape (with_write seats w.client w) (turns_written shape seats) (newest shape seats) new →
-      Stands shape (with_write seats w.client w) new
+      HasApplied shape (with_write seats w.client w) new
   write-waits new same put =
       let next = with_write seats w.client w in
       stands-as shape next (turns_written shape seats) (newest shape seats) (turns_written shape next)
@@ -124,7 +124,7 @@ module _ (shape : Shape) (seats : List Seat) (s : Server) (is : Stands shape sea
       turns_written shape (with_write seats w.client w) ≡ turns_written shape seats + 1 →
       is_closing shape (turns_written shape seats) ≡ false →
       StandsAt shape (with_write seats w.client w) (turns_written shape seats + 1) (newest shape seats) new →
-      Stands shape (with_write seats w.client w) new
+      HasApplied shape (with_write seats w.client w) new
   write-open new one open_still applied =
       let next = with_write seats w.client w in
       let g = turns_written shape seats in
@@ -147,7 +147,7 @@ module _ (shape : Shape) (seats : List Seat) (s : Server) (is : Stands shape sea
       turns_written shape (with_write seats w.client w) ≡ turns_written shape seats + 1 →
       is_closing shape (turns_written shape seats) ≡ true →
       StandsAt shape (with_write seats w.client w) (turns_written shape seats + 1) (newest shape seats + 1) new →
-      Stands shape (with_write seats w.client w) new
+      HasApplied shape (with_write seats w.client w) new
   write-closed new one closes told =
       let next = with_write seats w.client w in
       let g = turns_written shape seats in

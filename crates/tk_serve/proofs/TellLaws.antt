@@ -15,12 +15,12 @@ use Rattle.tk_replica.specs.declared.epoch.Epoch.{Epoch}
 use Rattle.tk_replica.specs.Epochs.{IsEpochOf}
 use Rattle.tk_serve.specs.declared.server.Server.{Server}
 use Rattle.tk_serve.specs.declared.due.Due.{Due}
-use Rattle.tk_serve.specs.Seats.{Seat, empty_seat, seat_of, IsReadOf, taken_write, turns_written, placed, placed_to}
+use Rattle.tk_serve.specs.Seats.{Seat, empty_seat, seat_of, IsReadDue, taken_write, turns_written, placed, placed_to}
 use Rattle.tk_serve.specs.Seats.{newest}
 use Rattle.tk_serve.specs.Told.{packets_brought, epoch_bytes, closing_told, turns_read}
 use Rattle.tk_serve.specs.Desks.{DeskView, empty_desk}
-use Rattle.tk_serve.specs.Answering.{MayAnswer, news_for}
-use Rattle.tk_serve.specs.Stands.{StandsAt, Stands, IsDueRead}
+use Rattle.tk_serve.specs.Answering.{IsAnswerable, news_for}
+use Rattle.tk_serve.specs.Stands.{StandsAt, HasApplied, IsDueRead}
 use Rattle.tk_serve.proofs.Phases.{phase-before, phase-past}
 use Rattle.tk_serve.proofs.EntryLaws.{turns-marks}
 use Rattle.tk_serve.proofs.SeatLaws.{turns-most}
@@ -45,14 +45,14 @@ module _ (shape : Shape) (seats : List Seat) (g n : ℕ) (s : Server) (is : Stan
       omega (arith, whole, same, is.within, turns-most shape seats, turn_count_small shape)
 
   pub tell-reads : (epoch : Epoch) → epoch.shape ≡ shape →
-      All (λ (d : DeskView). All (MayAnswer epoch) (take s.shape.ticks d.asking)) s.desks.items
+      All (λ (d : DeskView). All (IsAnswerable epoch) (take s.shape.ticks d.asking)) s.desks.items
   tell-reads epoch same =
-      All-from_get_or (λ (d : DeskView). All (MayAnswer epoch) (take s.shape.ticks d.asking)) s.desks.items empty_desk
+      All-from_get_or (λ (d : DeskView). All (IsAnswerable epoch) (take s.shape.ticks d.asking)) s.desks.items empty_desk
       (λ c low.
       let there : c < length seats = omega (arith, low, desks-counted shape seats g n s is) in
-      subst (λ (sh : Shape). All (MayAnswer epoch) (take sh.ticks (slice_index_or s.desks.items c empty_desk).asking))
+      subst (λ (sh : Shape). All (IsAnswerable epoch) (take sh.ticks (slice_index_or s.desks.items c empty_desk).asking))
       (sym is.same)
-      (subst (λ (d : DeskView). All (MayAnswer epoch) (take shape.ticks d.asking))
+      (subst (λ (d : DeskView). All (IsAnswerable epoch) (take shape.ticks d.asking))
       (sym (desk-at shape seats g n s is c empty_desk there))
       (may-answer shape (n + 1) c (seat_of seats c).reads (is.are.each c empty_seat there).read_each epoch same
       (subst (λ k. c < k) is.are.counted there))))
@@ -66,18 +66,18 @@ module _ (shape : Shape) (seats : List Seat) (g n : ℕ) (s : Server) (is : Stan
 
 -- ---- one client
 
-module _ (shape : Shape) (seats : List Seat) (s : Server) (is : Stands shape seats s) (r : ReadFrame)
+module _ (shape : Shape) (seats : List Seat) (s : Server) (is : HasApplied shape seats s) (r : ReadFrame)
     (due : IsDueRead s r) where
   pub read-low : r.client < length seats
   read-low =
       subst (λ k. r.client < k)
       (desks-counted shape seats (turns_written shape seats) (newest shape seats) s is) due.low
 
-  pub read-next : IsReadOf shape r.client (length (seat_of seats r.client).reads) r
+  pub read-next : IsReadDue shape r.client (length (seat_of seats r.client).reads) r
   read-next =
       let same = due-is shape seats (turns_written shape seats) (newest shape seats) s is r.client read-low in
-      subst (λ (sh : Shape). IsReadOf sh r.client (length (seat_of seats r.client).reads) r) is.same
-      (subst (λ (d : Due). IsReadOf s.shape r.client d.read r) same due.is)
+      subst (λ (sh : Shape). IsReadDue sh r.client (length (seat_of seats r.client).reads) r) is.same
+      (subst (λ (d : Due). IsReadDue s.shape r.client d.read r) same due.is)
 
   pub last-newest : s.state.last ≡ newest shape seats
   last-newest =

@@ -23,7 +23,7 @@ use Rattle.tk_replica.specs.Epochs.{filter_of}
 use Rattle.tk_packets.specs.Frames.{epoch_frame, marks_len}
 use Rattle.tk_packets.specs.Marks.{mark_bytes}
 use Rattle.tk_schedule.proofs.Offers.{one_more}
-use Rattle.tk_serve.specs.Seats.{IsReadOf}
+use Rattle.tk_serve.specs.Seats.{IsReadDue}
 use Rattle.tk_serve.specs.Told.{reply_told, epoch_bytes, closing_told, told_of, turns_read, told_in, brought}
 use Rattle.tk_serve.proofs.Lists.{flat_map-each}
 use Rattle.tk_serve.proofs.Phases.{phase-before, phase-past, phase-closed, last-closes, last-phase}
@@ -92,10 +92,10 @@ closing-same shape n m E F g same more when =
 -- each read is of its turn, over the epoch before its phase's
 abbrev pub AreReadsOf : Shape → ℕ → List ReadFrame → Type 0
 AreReadsOf shape c reads =
-    (i : ℕ) (d : ReadFrame) → i < length reads → IsReadOf shape c i (slice_index_or reads i d)
+    (i : ℕ) (d : ReadFrame) → i < length reads → IsReadDue shape c i (slice_index_or reads i d)
 
 told-same_at : (shape : Shape) (n m : ℕ) (E F : List Placed) (c g : ℕ) (r : ReadFrame) → SameUpTo n E F → n ≤ m →
-    IsReadOf shape c g r → g < turns_read shape n →
+    IsReadDue shape c g r → g < turns_read shape n →
     ((g + 1) % shape.ticks ≡ 0 → (phase_of shape g ≤ n) ⊎ (m < phase_of shape g)) →
     told_of shape F m r ≡ told_of shape E n r
 told-same_at shape n m E F c g r same more is low when =

@@ -20,7 +20,7 @@ epoch_of shape epoch =
     record { epoch = epoch.number; marks = mark_bytes (marks_len shape) epoch.filter }
 
 -- a read that may be answered over it
-pub record MayAnswer (epoch : Epoch) (r : ReadFrame) : Type 0 where
+pub record IsAnswerable (epoch : Epoch) (r : ReadFrame) : Type 0 where
   pub in_range : IsRead epoch.shape r
   pub numbered : r.client + 1 < 2 ^ 32
 

@@ -6,7 +6,7 @@ pub mod Steps
 pub mod Answering
 pub mod Setup
 pub mod Desks
-pub mod Stands
+pub mod HasApplied
 pub mod Releasing
 pub mod Courses
 pub mod Faults

@@ -9,7 +9,7 @@ use Rattle.tk_serve.specs.Steps.{IsOfClient, step_on}
 use Rattle.tk_serve.specs.Setup.{longest_frame}
 use Rattle.tk_serve.specs.Courses.{Told, IsStill, IsShort}
 use Rattle.tk_serve.specs.declared.server.Server.{Server}
-use Rattle.tk_serve.specs.Stands.{Stands}
+use Rattle.tk_serve.specs.Stands.{HasApplied}
 
 -- it is taken, and what goes out for it is put
 pub record TakesNext (shape : Shape) (seats : List Seat) (s : Server) (left rest : Told) (gone new : Gone) : Type 0 where
@@ -19,7 +19,7 @@ pub record TakesNext (shape : Shape) (seats : List Seat) (s : Server) (left rest
   pub taken : left ≡ before_taking (packet_bytes came) rest
   pub puts : new.bytes ≡ gained gone.bytes (packets_bytes (step_on shape seats came).packets)
   pub order : new.past ≡ passed gone.past (dealt came (step_on shape seats came).packets)
-  pub stands : Stands shape (step_on shape seats came).seats s
+  pub stands : HasApplied shape (step_on shape seats came).seats s
 
 -- it is taken, and a front of what goes out for it is put
 pub record TakesNextFront (shape : Shape) (seats : List Seat) (left rest : Told) (gone new : Gone) : Type 0 where

@@ -46,25 +46,25 @@ pub record IsWriteOf (shape : Shape) (c g : ℕ) (w : WriteFrame) : Type 0 where
   pub at : w.turn ≡ g
 
 -- a read in range, of a client and a turn, over the epoch before its phase's
-pub record IsReadOf (shape : Shape) (c g : ℕ) (r : ReadFrame) : Type 0 where
+pub record IsReadDue (shape : Shape) (c g : ℕ) (r : ReadFrame) : Type 0 where
   pub in_range : IsRead shape r
   pub of : r.client ≡ c
   pub at : r.turn ≡ g
   pub over : r.epoch ≡ phases_over shape g
 
 -- what was taken of client c: its writes, and its reads, turn by turn
-pub record IsSeat (shape : Shape) (c : ℕ) (s : Seat) : Type 0 where
+pub record IsSeatOf (shape : Shape) (c : ℕ) (s : Seat) : Type 0 where
   pub few_writes : length s.writes ≤ turn_count shape
   pub few_reads : length s.reads ≤ turn_count shape
   pub write_each : (i : ℕ) (d : WriteFrame) → i < length s.writes →
       IsWriteOf shape c i (slice_index_or s.writes i d)
   pub read_each : (i : ℕ) (d : ReadFrame) → i < length s.reads →
-      IsReadOf shape c i (slice_index_or s.reads i d)
+      IsReadDue shape c i (slice_index_or s.reads i d)
 
 -- a seat for each client
 pub record AreSeats (shape : Shape) (seats : List Seat) : Type 0 where
   pub counted : length seats ≡ shape.clients
-  pub each : (c : ℕ) (d : Seat) → c < length seats → IsSeat shape c (slice_index_or seats c d)
+  pub each : (c : ℕ) (d : Seat) → c < length seats → IsSeatOf shape c (slice_index_or seats c d)
 
 -- ---- the order
 

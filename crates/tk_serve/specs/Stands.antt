@@ -7,7 +7,7 @@ use Rattle.tk_frames.specs.declared.read_frame.ReadFrame.{ReadFrame}
 use Rattle.tk_replica.specs.Replica.{StandsFor}
 use Rattle.tk_serve.specs.declared.server.Server.{Server}
 use Rattle.tk_serve.specs.declared.due.Due.{Due}
-use Rattle.tk_serve.specs.Seats.{Seat, AreSeats, IsWriteOf, IsReadOf, turns_written, placed_to, newest}
+use Rattle.tk_serve.specs.Seats.{Seat, AreSeats, IsWriteOf, IsReadDue, turns_written, placed_to, newest}
 use Rattle.tk_serve.specs.Desks.{DeskView, empty_desk, desk_by}
 
 -- A server whose replica has applied the first g turns, and which has answered the reads over epochs up to epoch n.
@@ -22,14 +22,14 @@ pub record StandsAt (shape : Shape) (seats : List Seat) (g n : ℕ) (s : Server)
   pub floor_low : All (λ d. s.state.floor ≤ phases_over shape d.asked) s.desks.items
 
 -- it has applied all turns that all have written
-abbrev pub Stands : Shape → List Seat → Server → Type 0
-Stands shape seats s = StandsAt shape seats (turns_written shape seats) (newest shape seats) s
+abbrev pub HasApplied : Shape → List Seat → Server → Type 0
+HasApplied shape seats s = StandsAt shape seats (turns_written shape seats) (newest shape seats) s
 
 -- a server that stands for some seats
-pub record Serves (s : Server) : Type 0 where
+pub record StandsForSome (s : Server) : Type 0 where
   pub shape_of : Shape
   pub seats_of : List Seat
-  pub stands : Stands shape_of seats_of s
+  pub stands : HasApplied shape_of seats_of s
 
 -- a server that hasn't applied a turn that all have written
 pub record MayApply (s : Server) : Type 0 where
@@ -70,4 +70,4 @@ pub record IsDueWrite (s : Server) (w : WriteFrame) : Type 0 where
 -- the next read of its client
 pub record IsDueRead (s : Server) (r : ReadFrame) : Type 0 where
   pub low : r.client < length s.desks.items
-  pub is : IsReadOf s.shape r.client (due_at s r.client).read r
+  pub is : IsReadDue s.shape r.client (due_at s r.client).read r

@@ -36,12 +36,12 @@ with_frame shape seats c bytes =
     (with_read seats c (read_in shape bytes))
 
 -- seats, and packets that go out
-pub record Step : Type 0 where
+pub record SeatsAndPackets : Type 0 where
   pub seats : List Seat
   pub packets : List PacketView
 
 -- a refused frame is told to its client, and changes nothing
-abbrev pub step_by : Shape → List Seat → ℕ → List ℕ → Option Refusal → Step
+abbrev pub step_by : Shape → List Seat → ℕ → List ℕ → Option Refusal → SeatsAndPackets
 step_by shape seats c bytes (Some refusal) =
     record {
       seats = seats;
@@ -52,10 +52,10 @@ step_by shape seats c bytes None =
     record { seats = new; packets = all_gained shape seats new }
 
 -- a frame of a client is taken
-unfoldable pub step : Shape → List Seat → ℕ → List ℕ → Step
+unfoldable pub step : Shape → List Seat → ℕ → List ℕ → SeatsAndPackets
 step shape seats c bytes = step_by shape seats c bytes (refusal_of shape seats c bytes)
 
-abbrev pub step_on : Shape → List Seat → PacketView → Step
+abbrev pub step_on : Shape → List Seat → PacketView → SeatsAndPackets
 step_on shape seats p = step shape seats (p.peer - 1) p.bytes
 
 -- ---- packets

@@ -1,6 +1,6 @@
 //! Whether a frame is the next write or read of a client.
 ghost use Rattle.std.specs.Prelude.{◌≡◌, IfOk, slice_index};
-ghost use Rattle.tk_serve.specs.Checked.{IsChecked, IsWriteChecked, IsReadChecked, IsRefusedFor};
+ghost use Rattle.tk_serve.specs.Checked.{IsChecked, IsWriteChecked, IsReadChecked, IsRefusedForFrame};
 ghost use Rattle.tk_serve.specs.Refusals.{write_misplaced, read_misplaced};
 
 use crate::due::Due;
@@ -75,7 +75,7 @@ fn first_byte(frame: &[u8]) -> u8
 
 /// A frame with a fault of its own.
 fn refused(error: FrameError) -> Result<Checked, Memory>
-    ensures { IfOk result (IsRefusedFor error) }
+    ensures { IfOk result (IsRefusedForFrame error) }
 {
     match Refusal::of(error) {
         Some(cause) => Ok(Checked::Refused(cause)),

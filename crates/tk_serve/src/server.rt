@@ -21,11 +21,11 @@ impl Server {
     ghost use Rattle.tk_shape.specs.declared.shape.Shape.{Shape};
     ghost use Rattle.tk_serve.specs.Seats.{Seat, empty_seats};
     ghost use Rattle.tk_serve.specs.Steps.{IsOver};
-    ghost use Rattle.tk_serve.specs.Stands.{Stands};
+    ghost use Rattle.tk_serve.specs.Stands.{HasApplied};
 
     /// A server that took nothing.
     pub(crate) fn open(alloc: Global, shape: &Shape) -> Result<Server, Memory>
-        ensures { IfOk result (Stands shape.now (empty_seats shape.now)) }
+        ensures { IfOk result (HasApplied shape.now (empty_seats shape.now)) }
     {
         Ok(Server {
             shape: *shape,
@@ -37,7 +37,7 @@ impl Server {
 
     /// Whether all clients have written and read every turn.
     pub(crate) fn is_over(&self) -> bool
-        ensures { (shape : Shape) (seats : List Seat) → Stands shape seats self.now
+        ensures { (shape : Shape) (seats : List Seat) → HasApplied shape seats self.now
             → (IsTrue result ↔ IsOver shape seats) }
     {
         let turns = self.shape.turns();

@@ -6,7 +6,7 @@ ghost use Rattle.tk_serve.specs.Courses.{RanRead, RanFront, CutFirst, LongFirst,
 ghost use Rattle.tk_serve.specs.Setup.{setup_len, longest_frame as longest};
 ghost use Rattle.tk_serve.specs.Nexts.{TakesNext, TakesNextFront, NoneNext, CutNext, LongNext, StrangerNext};
 ghost use Rattle.tk_serve.specs.Seats.{Seat, empty_seats};
-ghost use Rattle.tk_serve.specs.Stands.{Stands, Serves};
+ghost use Rattle.tk_serve.specs.Stands.{HasApplied, StandsForSome};
 
 use crate::fault::Fault;
 use crate::server::Server;
@@ -63,9 +63,9 @@ pub fn serve<L: Line>(alloc: Global, line: &mut L) -> Result<(), Fault>
     serve_clients(alloc, &mut server, line)
 }
 
-/// Serves clients.
+/// StandsForSome clients.
 fn serve_clients<L: Line>(alloc: Global, server: &mut Server, line: &mut L) -> Result<(), Fault>
-    requires { Stands server.old.shape (empty_seats server.old.shape) server.old }
+    requires { HasApplied server.old.shape (empty_seats server.old.shape) server.old }
     ensures done { OnOk result (RanDone server.old.shape (L.left line.old) (L.left line.new)
         (L.gone line.old) (L.gone line.new)) }
     ensures setup { result ≡ Err Fault.Setup → ⊥ }
@@ -97,9 +97,9 @@ fn serve_clients<L: Line>(alloc: Global, server: &mut Server, line: &mut L) -> R
 
 /// Takes the next packet and puts what goes out for it; false where nothing is left.
 fn serve_next<L: Line>(alloc: Global, server: &mut Server, line: &mut L) -> Result<bool, Fault>
-    requires { Serves server.old }
+    requires { StandsForSome server.old }
     ensures shape { server.new.shape ≡ server.old.shape }
-    ensures next { (seats : List Seat) → Stands server.old.shape seats server.old → result ≡ Ok true
+    ensures next { (seats : List Seat) → HasApplied server.old.shape seats server.old → result ≡ Ok true
         → TakesNext server.old.shape seats server.new (L.left line.old) (L.left line.new)
         (L.gone line.old) (L.gone line.new) }
     ensures none { result ≡ Ok false
@@ -111,7 +111,7 @@ fn serve_next<L: Line>(alloc: Global, server: &mut Server, line: &mut L) -> Resu
         (L.gone line.old) (L.gone line.new) }
     ensures peer { result ≡ Err Fault.Peer → StrangerNext server.old.shape (L.left line.old) (L.left line.new)
         (L.gone line.old) (L.gone line.new) }
-    ensures front { (seats : List Seat) → Stands server.old.shape seats server.old
+    ensures front { (seats : List Seat) → HasApplied server.old.shape seats server.old
         → OnErr result (StopsBehind (8 + longest server.old.shape) (L.left line.old) (L.left line.new)
         (L.gone line.old) (L.gone line.new)
         ⊎ TakesNextFront server.old.shape seats (L.left line.old) (L.left line.new)

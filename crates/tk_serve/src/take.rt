@@ -19,7 +19,7 @@ impl Server {
     ghost use Rattle.tk_shape.specs.declared.shape.Shape.{Shape};
     ghost use Rattle.tk_serve.specs.Seats.{Seat, with_write, with_read};
     ghost use Rattle.tk_serve.specs.Steps.{step, all_gained};
-    ghost use Rattle.tk_serve.specs.Stands.{Stands, Serves, IsDueWrite, IsDueRead, due_at};
+    ghost use Rattle.tk_serve.specs.Stands.{HasApplied, StandsForSome, IsDueWrite, IsDueRead, due_at};
 
     /// Takes a frame of a client. The packets that go out are appended.
     pub(crate) fn take(
@@ -29,12 +29,12 @@ impl Server {
         frame: &[u8],
         out: &mut Vec<Packet>,
     ) -> Result<(), Memory>
-        requires serves { Serves self.old }
+        requires serves { StandsForSome self.old }
         requires client { client < self.old.shape.clients }
         ensures shape { self.new.shape ≡ self.old.shape }
-        ensures stands { (shape : Shape) (seats : List Seat) → Stands shape seats self.old
-            → OnOk result (Stands shape (step shape seats client frame.now).seats self.new) }
-        ensures told { (shape : Shape) (seats : List Seat) → Stands shape seats self.old
+        ensures stands { (shape : Shape) (seats : List Seat) → HasApplied shape seats self.old
+            → OnOk result (HasApplied shape (step shape seats client frame.now).seats self.new) }
+        ensures told { (shape : Shape) (seats : List Seat) → HasApplied shape seats self.old
             → OnOk result (out.new.items ≡ out.old.items ++ (step shape seats client frame.now).packets) }
     {
         let due = self.due(client);
@@ -47,7 +47,7 @@ impl Server {
 
     /// What is due of a client.
     fn due(&self, client: u32) -> Due
-        requires serves { Serves self.now }
+        requires serves { StandsForSome self.now }
         requires client { client < length self.now.desks.items }
         ensures { result ≡ due_at self.now client }
     {
@@ -66,12 +66,12 @@ impl Server {
         write: WriteFrame,
         out: &mut Vec<Packet>,
     ) -> Result<(), Memory>
-        requires serves { Serves self.old }
+        requires serves { StandsForSome self.old }
         requires due { IsDueWrite self.old write }
         ensures shape { self.new.shape ≡ self.old.shape }
-        ensures stands { (shape : Shape) (seats : List Seat) → Stands shape seats self.old
-            → OnOk result (Stands shape (with_write seats write.client write) self.new) }
-        ensures told { (shape : Shape) (seats : List Seat) → Stands shape seats self.old
+        ensures stands { (shape : Shape) (seats : List Seat) → HasApplied shape seats self.old
+            → OnOk result (HasApplied shape (with_write seats write.client write) self.new) }
+        ensures told { (shape : Shape) (seats : List Seat) → HasApplied shape seats self.old
             → OnOk result (out.new.items
             ≡ out.old.items ++ all_gained shape seats (with_write seats write.client write)) }
     {
@@ -97,12 +97,12 @@ impl Server {
         read: ReadFrame,
         out: &mut Vec<Packet>,
     ) -> Result<(), Memory>
-        requires serves { Serves self.old }
+        requires serves { StandsForSome self.old }
         requires due { IsDueRead self.old read }
         ensures shape { self.new.shape ≡ self.old.shape }
-        ensures stands { (shape : Shape) (seats : List Seat) → Stands shape seats self.old
-            → OnOk result (Stands shape (with_read seats read.client read) self.new) }
-        ensures told { (shape : Shape) (seats : List Seat) → Stands shape seats self.old
+        ensures stands { (shape : Shape) (seats : List Seat) → HasApplied shape seats self.old
+            → OnOk result (HasApplied shape (with_read seats read.client read) self.new) }
+        ensures told { (shape : Shape) (seats : List Seat) → HasApplied shape seats self.old
             → OnOk result (out.new.items
             ≡ out.old.items ++ all_gained shape seats (with_read seats read.client read)) }
     {

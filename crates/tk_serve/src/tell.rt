@@ -4,7 +4,7 @@ ghost use Rattle.std.specs.Prelude.{IfOk, OnOk};
 ghost use Rattle.tk_packets.specs.Packets.{packet};
 ghost use Rattle.tk_packets.specs.Frames.{epoch_frame as frame_of};
 ghost use Rattle.tk_serve.specs.Desks.{desk_answered};
-ghost use Rattle.tk_serve.specs.Answering.{packet_over, epoch_of, news_for, MayAnswer};
+ghost use Rattle.tk_serve.specs.Answering.{packet_over, epoch_of, news_for, IsAnswerable};
 
 use crate::desk::Desk;
 use crate::server::Server;
@@ -23,7 +23,7 @@ impl Server {
     ghost use Rattle.tk_serve.specs.Seats.{Seat, placed, placed_to, newest};
     ghost use Rattle.tk_serve.specs.Told.{told_of, closing_told, packets_brought};
     ghost use Rattle.tk_serve.specs.Steps.{packets_to};
-    ghost use Rattle.tk_serve.specs.Stands.{StandsAt, Stands, Serves, MayTell, IsDueRead};
+    ghost use Rattle.tk_serve.specs.Stands.{StandsAt, HasApplied, StandsForSome, MayTell, IsDueRead};
 
     /// Tells all clients what the newest epoch brings: those that have read the phase before it the epoch, and all the
     /// answers to the reads that waited for it.
@@ -48,10 +48,10 @@ impl Server {
         read: &ReadFrame,
         out: &mut Vec<Packet>,
     ) -> Result<(), Memory>
-        requires serves { Serves self.now }
+        requires serves { StandsForSome self.now }
         requires due { IsDueRead self.now read.now }
         requires there { read.now.epoch ≤ self.now.state.last }
-        ensures { (shape : Shape) (seats : List Seat) → Stands shape seats self.now
+        ensures { (shape : Shape) (seats : List Seat) → HasApplied shape seats self.now
             → OnOk result (out.new.items ≡ out.old.items
             ++ packets_to read.now.client
             (told_of shape (placed shape seats) (newest shape seats) read.now)) }
@@ -70,9 +70,9 @@ impl Server {
         read: &ReadFrame,
         out: &mut Vec<Packet>,
     ) -> Result<(), Memory>
-        requires serves { Serves self.now }
+        requires serves { StandsForSome self.now }
         requires due { IsDueRead self.now read.now }
-        ensures { (shape : Shape) (seats : List Seat) → Stands shape seats self.now
+        ensures { (shape : Shape) (seats : List Seat) → HasApplied shape seats self.now
             → OnOk result (out.new.items ≡ out.old.items ++ packets_to read.now.client
             (closing_told shape (placed shape seats) (newest shape seats) read.now.turn)) }
     {
@@ -99,7 +99,7 @@ fn tell_desks(
 ) -> Result<(), Memory>
     requires clients { length desks.old + 1 < 2 ^ 32 }
     requires turns { epoch.now.number * shape.now.ticks < 2 ^ 32 }
-    requires reads { All (λ d. All (MayAnswer epoch.now) (take shape.now.ticks d.asking)) desks.old }
+    requires reads { All (λ d. All (IsAnswerable epoch.now) (take shape.now.ticks d.asking)) desks.old }
     ensures desks { OnOk result (desks.new ≡ map (desk_answered shape.now.ticks) desks.old) }
     ensures told { OnOk result (out.new.items
         ≡ out.old.items ++ news_for shape.now epoch.now 0 desks.old) }
@@ -139,7 +139,7 @@ fn answer_waiting(
     desk: &mut Desk,
     out: &mut Vec<Packet>,
 ) -> Result<(), Memory>
-    requires { All (MayAnswer epoch.now) (take ticks desk.old.asking) }
+    requires { All (IsAnswerable epoch.now) (take ticks desk.old.asking) }
     ensures desk { OnOk result (desk.new ≡ desk_answered ticks desk.old) }
     ensures told { OnOk result (out.new.items
         ≡ out.old.items ++ map (packet_over epoch.now) (take ticks desk.old.asking)) }

@@ -20,7 +20,7 @@ use Rattle.tk_client.specs.declared.got.Got.{Got}
 use Rattle.tk_client.specs.declared.got.Got.TheVariants.{Text}
 use Rattle.tk_client.specs.Reader.{got_in}
 use Rattle.tk_hostile.specs.Given.{zero_sums}
-use Rattle.tk_hostile.specs.Attack.{Adversary, Move, Writes, Reads, Sight, Wrote, Asked, KeyWords}
+use Rattle.tk_hostile.specs.Attack.{Adversary, Move, Writes, Reads, SeenAct, Wrote, Asked, KeyWords}
 use Rattle.tk_hostile.specs.Attack.{under_attack, seen_by, attack_mirror}
 use Rattle.tk_hostile.specs.Laws.{AreTargets}
 use Rattle.tk_hostile.proofs.examples.Replied.{slot}
@@ -87,7 +87,7 @@ abbrev pub moves : List Move
 moves = Writes 0 ∷ Writes 1 ∷ Reads 1 ∷ Reads 1 ∷ []
 
 -- whether it saw first what client 0 writes where it says its text over that tape
-abbrev pub lies_to : List Sight → Bool
+abbrev pub lies_to : List SeenAct → Bool
 lies_to [] = false
 lies_to (Wrote write ∷ xs) = slice_index write.block 0 == 49
 lies_to (Asked reads ∷ xs) = false
@@ -97,7 +97,7 @@ abbrev pub first_byte : List ReadFrame → ℕ
 first_byte [] = 0
 first_byte (r ∷ rs) = slice_index r.first 0
 
-abbrev pub last_byte : List Sight → ℕ
+abbrev pub last_byte : List SeenAct → ℕ
 last_byte [] = 0
 last_byte (Wrote write ∷ []) = 0
 last_byte (Asked reads ∷ []) = first_byte reads
@@ -117,7 +117,7 @@ adversary =
 
 -- ---- what comes of it
 
-abbrev pub sights : Script → List ℕ → List Sight
+abbrev pub sights : Script → List ℕ → List SeenAct
 sights S u = (seen_by S (drawn u) 1 adversary 4).sights
 
 -- what log 0 gave to client 1
@@ -163,7 +163,7 @@ abbrev pub epoch_of : List ReadFrame → ℕ
 epoch_of [] = 0
 epoch_of (r ∷ rs) = r.epoch
 
-abbrev pub last_epoch : List Sight → ℕ
+abbrev pub last_epoch : List SeenAct → ℕ
 last_epoch [] = 0
 last_epoch (Wrote write ∷ []) = 0
 last_epoch (Asked reads ∷ []) = epoch_of reads

@@ -4,8 +4,7 @@ use Rattle.std.proofs.Common.{List, [], ◌∷◌, ◌++◌}
 use Rattle.std.specs.Prelude.{nat_lt, nat_le, ◌&&◌, not, replicate}
 use Rattle.tk_shape.specs.declared.shape.Shape.{Shape}
 use Rattle.tk_schedule.specs.Schedule.{phases_over}
-use Rattle.tk_meeting.proofs.Pace.{Pace, Paced, Kind, Wrote, Asked, acted, gone_ahead, gone_by_ticks}
-use Rattle.tk_meeting.proofs.Pace.{count_ahead}
+use Rattle.tk_meeting.proofs.Pace.{Pace, Paced, Kind, Wrote, Asked, acted, gone_ahead, gone_by_ticks, count_ahead}
 use Rattle.tk_meeting.proofs.Pace.{count_ticks, asks_now, has_asked, known_by, settled}
 
 -- how many of these are writes, and how many are reads

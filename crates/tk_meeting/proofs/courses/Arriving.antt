@@ -1,7 +1,6 @@
 -- A frame that comes to a client keeps what a meeting has where its course is known.
 use Rattle.std.proofs.Common.{◌≡◌, ◌∙◌, refl, ap, sym, subst, ℕ, ◌+◌, ◌-◌, ◌/◌, ◌≤◌, ◌<◌, Bool, true, false}
-use Rattle.std.proofs.Common.{cond, arith, List, [], ◌∷◌, ◌++◌}
-use Rattle.std.proofs.Common.{append-nil}
+use Rattle.std.proofs.Common.{cond, arith, List, [], ◌∷◌, ◌++◌, append-nil}
 use Rattle.std.specs.Prelude.{◌==◌, nat_lt, drop}
 use Rattle.std.proofs.Math.ListN.{drop_of_length-le}
 use Rattle.std.proofs.lemmas.Bool.{eqb-true, eqb-false, ltb-true, ltb-false}

@@ -1,7 +1,6 @@
 -- A frame that comes to a client is one that it waits for.
 use Rattle.std.proofs.Common.{◌≡◌, ◌∙◌, inl, inr, refl, ap, sym, subst, ℕ, zero, suc, ◌+◌, ◌-◌, ◌*◌, ◌/◌, ◌≤◌}
-use Rattle.std.proofs.Common.{◌<◌, Bool, true, false}
-use Rattle.std.proofs.Common.{cond, arith, List}
+use Rattle.std.proofs.Common.{◌<◌, Bool, true, false, cond, arith, List}
 use Rattle.std.specs.Prelude.{◌==◌}
 use Rattle.std.specs.List.{range_with_len, list_all}
 use Rattle.std.proofs.lemmas.Bool.{eqb-true, eqb-false, and_parts, cases_eq}

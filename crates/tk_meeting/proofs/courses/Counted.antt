@@ -12,8 +12,7 @@ use Rattle.tk_privacy.proofs.Offers as privacy
 use Rattle.tk_meeting.specs.Meeting.{Meeting}
 use Rattle.tk_meeting.specs.Events.{met}
 use Rattle.tk_meeting.specs.Hidden.{LooksAlike}
-use Rattle.tk_meeting.specs.Counted.{link_seen, all_seen}
-use Rattle.tk_meeting.specs.Counted.{MeetingsAsOften}
+use Rattle.tk_meeting.specs.Counted.{link_seen, all_seen, MeetingsAsOften}
 use Rattle.tk_privacy.proofs.Offers.{map-range_same}
 use Rattle.tk_meeting.proofs.hidden.LookAlike.{meetings-look-alike}
 

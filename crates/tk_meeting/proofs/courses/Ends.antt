@@ -1,7 +1,6 @@
 -- When all is handed over each client has asked in every turn, and every read is settled.
 use Rattle.std.proofs.Common.{◌≡◌, ◌∙◌, ◌⊎◌, inl, inr, refl, ap, sym, subst, ℕ, zero, suc, ◌+◌, ◌-◌, ◌*◌, ◌/◌}
-use Rattle.std.proofs.Common.{◌≤◌, ◌<◌, Bool, true, false}
-use Rattle.std.proofs.Common.{cond, arith, List, [], map}
+use Rattle.std.proofs.Common.{◌≤◌, ◌<◌, Bool, true, false, cond, arith, List, [], map}
 use Rattle.std.specs.Prelude.{◌&&◌, not, nat_lt, nat_le, min}
 use Rattle.std.specs.List.{range_with_len, list_all}
 use Rattle.std.proofs.Math.Nat.{mul-div_left}
@@ -12,8 +11,7 @@ use Rattle.tk_schedule.specs.Schedule.{phases_over}
 use Rattle.tk_member.specs.Epochs.{least_of}
 use Rattle.tk_serve.proofs.Offers.{phase-past}
 use Rattle.tk_meeting.proofs.Pace.{Pace, Paced, Kind, IsPace, IsIdle, asks_now, gone_ahead}
-use Rattle.tk_meeting.proofs.Pace.{gone_by_ticks, known_by, all_replied}
-use Rattle.tk_meeting.proofs.Pace.{settled}
+use Rattle.tk_meeting.proofs.Pace.{gone_by_ticks, known_by, all_replied, settled}
 use Rattle.tk_meeting.proofs.Course.{newest_by, replies_of, came_of, stream_len}
 use Rattle.tk_meeting.proofs.servers.Numbers.{phases-ordered}
 use Rattle.tk_meeting.proofs.courses.Lengths.{order-epoch}

@@ -3,7 +3,7 @@ use Rattle.std.specs.Prelude.{List, ◌++◌}
 use Rattle.tk_shape.specs.declared.shape.Shape.{Shape}
 use Rattle.tk_script.specs.declared.script.Script.{Script}
 use Rattle.tk_words.specs.Words.{WordBook, IsBook}
-use Rattle.tk_meeting.specs.Laws.{Tells}
+use Rattle.tk_meeting.specs.Laws.{HasWhatWasSaid}
 use Rattle.tk_meeting.specs.Events.{Event, met}
 use Rattle.tk_meeting.proofs.Course.{course_of}
 use Rattle.tk_meeting.proofs.members.Idle.{first-idle, acted-idle}
@@ -48,10 +48,10 @@ course-balanced shape events = all-balanced shape (paces-are shape) events
 
 -- a meeting has what its course says
 pub meeting-keeps : (S : Script) (b : WordBook) → IsBook S.shape b → (events more : List Event) →
-    Tells S (met S (λ c. b) (events ++ more)) → Keeps S b (course_of S.shape events) (met S (λ c. b) events)
+    HasWhatWasSaid S (met S (λ c. b) (events ++ more)) → Keeps S b (course_of S.shape events) (met S (λ c. b) events)
 meeting-keeps S b book = keeps-all S b book (paces-are S.shape) (members-are S b book)
 
 -- and is serial
 pub meeting-serial : (S : Script) (b : WordBook) → IsBook S.shape b → (events more : List Event) →
-    Tells S (met S (λ c. b) (events ++ more)) → IsSerialWhole S b (met S (λ c. b) events)
+    HasWhatWasSaid S (met S (λ c. b) (events ++ more)) → IsSerialWhole S b (met S (λ c. b) events)
 meeting-serial S b book = serial-whole S b book (paces-are S.shape) (members-are S b book)

@@ -8,7 +8,7 @@ use Rattle.tk_script.specs.declared.script.Script.{Script}
 use Rattle.tk_words.specs.Words.{WordBook}
 use Rattle.tk_packets.specs.Packets.{PacketView}
 use Rattle.tk_member.specs.declared.fault.Fault.{Fault}
-use Rattle.tk_member.specs.Acting.{Turned}
+use Rattle.tk_member.specs.Acting.{ActedMember}
 use Rattle.tk_meeting.specs.Meeting.{Meeting, Saying, member_went, for_peer, frames_for}
 use Rattle.tk_meeting.specs.Laws.{news_before, tells_read}
 use Rattle.tk_meeting.proofs.Canonical.{AreFronts, stream}
@@ -66,7 +66,7 @@ module _ (S : Script) (b : WordBook) where
 
   -- the client itself
   client_went : (q : Course) (m : Meeting) (c : ℕ) (p : Pace) (saids : List Saying)
-      (news : List PacketView) (result : Result Turned Fault) → IsPoised S b q m c p saids news →
+      (news : List PacketView) (result : Result ActedMember Fault) → IsPoised S b q m c p saids news →
       (g : Goes S b c p saids news result) → let next = acted S.shape p in
       ClientKeeps S b c next.pace q.writes q.reads (λ j. q.up c j ++ next.kinds) g.turned.member
       (m.said c) (m.told c ++ for_peer 0 g.turned.packets) (m.ended c)
@@ -90,7 +90,7 @@ module _ (S : Script) (b : WordBook) where
 
   -- the whole meeting
   pub went-keeps : (q : Course) (m : Meeting) (c : ℕ) (p : Pace) (saids : List Saying)
-      (news : List PacketView) (result : Result Turned Fault) → IsPoised S b q m c p saids news →
+      (news : List PacketView) (result : Result ActedMember Fault) → IsPoised S b q m c p saids news →
       Goes S b c p saids news result → Keeps S b (goes_on S.shape q c p) (member_went m c result)
   went-keeps q m c p saids news result h g =
       let next = acted S.shape p in

@@ -10,7 +10,7 @@ use Rattle.tk_report.specs.Report.{reader_before}
 use Rattle.tk_member.specs.declared.fault.Fault.{Fault}
 use Rattle.tk_member.specs.News.{news}
 use Rattle.tk_member.specs.Members.{MemberState}
-use Rattle.tk_member.specs.Acting.{Turned, behind, acts}
+use Rattle.tk_member.specs.Acting.{ActedMember, behind, acts}
 use Rattle.tk_member.specs.Steps.{tells_and_acts, served}
 use Rattle.tk_meeting.specs.Meeting.{Meeting, Saying, member_went, opening}
 use Rattle.tk_meeting.specs.Laws.{news_before, tells_read}
@@ -64,11 +64,11 @@ module _ (S : Script) (b : WordBook) (paces : ArePaces S.shape) (laws : AreMembe
       }
 
   pub step-keeps : (q : Course) (m : Meeting) (c : ℕ) (p : Pace) (saids : List Saying)
-      (news : List PacketView) (result : Result Turned Fault) → c < S.shape.clients → IsPace S.shape p →
+      (news : List PacketView) (result : Result ActedMember Fault) → c < S.shape.clients → IsPace S.shape p →
       IsPoised S b q m c p saids news → Readies S b c p saids news result →
       Foresees S (member_went m c result) → Keeps S b (goes_on S.shape q c p) (member_went m c result)
   step-keeps q m c p saids news result low pace h r f =
-      let turned : Turned = behind r.told (acts b r.member) in
+      let turned : ActedMember = behind r.told (acts b r.member) in
       let there : Foresees S (member_went m c (Ok turned)) =
       subst (λ x. Foresees S (member_went m c x)) r.is f
       in

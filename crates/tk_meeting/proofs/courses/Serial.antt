@@ -11,17 +11,14 @@ use Rattle.tk_words.specs.Words.{WordBook, IsBook}
 use Rattle.tk_member.specs.declared.fault.Fault.{Fault}
 use Rattle.tk_member.specs.declared.word.HostWord.TheVariants.{Say, Tick, Ahead, Has}
 use Rattle.tk_meeting.specs.Meeting.{Meeting, opening}
-use Rattle.tk_meeting.specs.Laws.{Tells}
-use Rattle.tk_meeting.specs.Events.{Event, Said, Ticked, WentAhead, Greeted, Up, Down, is_client, is_server}
-use Rattle.tk_meeting.specs.Events.{happens}
-use Rattle.tk_meeting.specs.Events.{after_events, met, client_does, unless_ended, hears, noted, say_fault}
-use Rattle.tk_meeting.specs.Events.{greeting_of}
+use Rattle.tk_meeting.specs.Laws.{HasWhatWasSaid}
+use Rattle.tk_meeting.specs.Events.{Event, Said, Ticked, WentAhead, Greeted, Up, Down, is_client, is_server, happens}
+use Rattle.tk_meeting.specs.Events.{after_events, met, client_does, unless_ended, hears, noted, say_fault, greeting_of}
 use Rattle.tk_meeting.specs.Events.{comes_up, comes_down}
 use Rattle.tk_meeting.proofs.Canonical.{stream}
 use Rattle.tk_meeting.proofs.Pace.{ticked, sent_ahead}
 use Rattle.tk_meeting.proofs.Standing.{frames_of}
-use Rattle.tk_meeting.proofs.Course.{Course, first_course, newest_by, stream_len, goes_on, course_up}
-use Rattle.tk_meeting.proofs.Course.{course_down}
+use Rattle.tk_meeting.proofs.Course.{Course, first_course, newest_by, stream_len, goes_on, course_up, course_down}
 use Rattle.tk_meeting.proofs.Course.{moves, moved, course_of}
 use Rattle.tk_meeting.proofs.servers.Openings.{opening-fronts}
 use Rattle.tk_meeting.proofs.servers.Numbers.{stream-length}
@@ -144,10 +141,10 @@ module _ (S : Script) (b : WordBook) (book : IsBook S.shape b) (paces : ArePaces
       (λ front rest is. now (x ∷ front) rest (ap (λ ys. x ∷ ys) is))
 
   -- the meeting has what its course says, where a script has what is said and will be said
-  pub keeps-all : (events more : List Event) → Tells S (met S (λ c. b) (events ++ more)) →
+  pub keeps-all : (events more : List Event) → HasWhatWasSaid S (met S (λ c. b) (events ++ more)) →
       Keeps S b (course_of S.shape events) (met S (λ c. b) events)
   keeps-all events more tells =
       keeps_after first_course (opening S) events (first-balanced S.shape paces) (keeps-first S b laws)
       (λ front rest is. foresees S (λ c. b) front (rest ++ more)
-      (subst (λ (xs : List Event). Tells S (met S (λ c. b) xs))
+      (subst (λ (xs : List Event). HasWhatWasSaid S (met S (λ c. b) xs))
       (ap (λ (xs : List Event). xs ++ more) is ∙ append_assoc front rest more) tells))

@@ -1,24 +1,21 @@
 -- What its course says of a meeting is what the laws say.
 use Rattle.std.proofs.Common.{◌≡◌, ◌∙◌, refl, ap, sym, ℕ, ◌+◌, ◌-◌, ◌≤◌, ◌<◌, Bool, true, false, cond, arith}
-use Rattle.std.proofs.Common.{List, [], ◌++◌, length, filter}
+use Rattle.std.proofs.Common.{List, [], ◌++◌, length, filter, ap₂, ◌∷◌}
 use Rattle.std.specs.Prelude.{drop, ◌&&◌, ◌==◌, Option, Some, None}
 use Rattle.std.specs.Option.{is_none}
-use Rattle.std.proofs.lemmas.Bool.{eqb-true, eq-eqb, and_from}
+use Rattle.std.proofs.lemmas.Bool.{eqb-true, eq-eqb, and_from, and_parts}
 use Rattle.tk_shape.specs.declared.shape.Shape.{Shape}
 use Rattle.tk_client.specs.declared.open_read.OpenRead.{OpenRead}
 use Rattle.tk_member.specs.Members.{MemberState, is_over}
-use Rattle.std.proofs.lemmas.Bool.{and_parts}
 use Rattle.tk_meeting.proofs.Standing.{read_of}
-use Rattle.std.proofs.Common.{ap₂, ◌∷◌}
-use Rattle.std.proofs.lemmas.List.{length-append}
+use Rattle.std.proofs.lemmas.List.{length-append, length-drop}
 use Rattle.tk_script.specs.Sent.{unsent_count}
 use Rattle.tk_client.specs.Writing.{Writing, with_text, count_of}
 use Rattle.tk_report.specs.Queues.{writing_before}
 use Rattle.tk_report.proofs.Offers.{queues-send}
-use Rattle.tk_meeting.specs.Meeting.{Saying}
-use Rattle.tk_meeting.proofs.Canonical.{with_sayings}
+use Rattle.tk_meeting.specs.Meeting.{Saying, Meeting}
+use Rattle.tk_meeting.proofs.Canonical.{with_sayings, stream, serial}
 use Rattle.std.specs.List.{list_any}
-use Rattle.std.proofs.lemmas.List.{length-drop}
 use Rattle.tk_shape.specs.Lengths.{turn_count}
 use Rattle.tk_schedule.specs.Schedule.{serial_history}
 use Rattle.tk_script.specs.declared.script.Script.{Script}
@@ -26,11 +23,9 @@ use Rattle.tk_words.specs.Words.{WordBook, IsBook, words_of}
 use Rattle.tk_client.specs.Reader.{Reader}
 use Rattle.tk_report.specs.Report.{reader_before, logs}
 use Rattle.tk_serve.specs.Seats.{Seat}
-use Rattle.tk_meeting.specs.Meeting.{Meeting}
-use Rattle.tk_meeting.specs.Laws.{Tells, HasFront, HasTold, IsQuiet, IsAllHanded, news_before, tells_read}
+use Rattle.tk_meeting.specs.Laws.{HasWhatWasSaid, HasFront, HasTold, HasNoFaults, IsAllHanded, news_before, tells_read}
 use Rattle.tk_meeting.specs.Laws.{is_refusal}
 use Rattle.tk_meeting.specs.Events.{Event, met}
-use Rattle.tk_meeting.proofs.Canonical.{stream, serial}
 use Rattle.tk_meeting.proofs.Pace.{Pace, Kind, settled}
 use Rattle.tk_meeting.proofs.Course.{Course, newest_by, stream_len, came_of, course_of}
 use Rattle.tk_meeting.proofs.servers.Numbers.{stream-length}
@@ -58,7 +53,7 @@ pub record HasToldWhole (S : Script) (b : WordBook) (m : Meeting) (c : ℕ) : Ty
 pub record IsSerialWhole (S : Script) (b : WordBook) (m : Meeting) : Type 0 where
   pub fronts : (c j : ℕ) → c < S.shape.clients → 1 ≤ j → j ≤ S.shape.servers → HasFront S b m c j
   pub told : (c : ℕ) → c < S.shape.clients → HasTold S b m c
-  pub quiet : IsQuiet S.shape m
+  pub quiet : HasNoFaults S.shape m
   pub over : (c : ℕ) → c < S.shape.clients → is_over (m.members c) ≡ true → HasToldWhole S b m c
   pub whole : IsAllHanded S.shape m → (c : ℕ) → c < S.shape.clients →
       (is_over (m.members c) ≡ true) × HasToldWhole S b m c
@@ -129,7 +124,7 @@ module _ (S : Script) (b : WordBook) (q : Course) (m : Meeting) (keeps : Keeps S
         told = (keeps.clients c low).told_is;
       }
 
-  keeps-quiet : IsQuiet S.shape m
+  keeps-quiet : HasNoFaults S.shape m
   keeps-quiet =
       record {
         members = λ c low. (keeps.clients c low).going;
@@ -227,7 +222,7 @@ module _ (S : Script) (b : WordBook) (q : Course) (m : Meeting) (keeps : Keeps S
 
 -- a meeting is serial, where a script has what is said and will be said
 pub serial-whole : (S : Script) (b : WordBook) → IsBook S.shape b → ArePaces S.shape → AreMembers S b →
-    (events more : List Event) → Tells S (met S (λ c. b) (events ++ more)) →
+    (events more : List Event) → HasWhatWasSaid S (met S (λ c. b) (events ++ more)) →
     IsSerialWhole S b (met S (λ c. b) events)
 serial-whole S b book paces laws events more tells =
     keeps-serial S b (course_of S.shape events) (met S (λ c. b) events)

@@ -1,6 +1,5 @@
 -- A frame that comes to a server keeps what a meeting has where its course is known.
-use Rattle.std.proofs.Common.{◌≡◌, ◌∙◌, refl, ap, sym, subst, ℕ, ◌+◌, ◌≤◌, ◌<◌, false, cond, arith, List, []}
-use Rattle.std.proofs.Common.{◌∷◌, ◌++◌}
+use Rattle.std.proofs.Common.{◌≡◌, ◌∙◌, refl, ap, sym, subst, ℕ, ◌+◌, ◌≤◌, ◌<◌, false, cond, arith, List, [], ◌∷◌, ◌++◌}
 use Rattle.std.proofs.Common.{length}
 use Rattle.std.specs.Prelude.{◌==◌, drop}
 use Rattle.std.proofs.lemmas.List.{drop-append-le}
@@ -8,7 +7,7 @@ use Rattle.tk_shape.specs.Lengths.{turn_count}
 use Rattle.tk_script.specs.declared.script.Script.{Script}
 use Rattle.tk_words.specs.Words.{WordBook, IsBook}
 use Rattle.tk_frames.specs.Spelling.{write_frame, read_frame}
-use Rattle.tk_serve.specs.Steps.{Step, step}
+use Rattle.tk_serve.specs.Steps.{SeatsAndPackets, step}
 use Rattle.tk_meeting.specs.Meeting.{Meeting, changed, server_went, frames_for}
 use Rattle.tk_meeting.specs.Events.{comes_up}
 use Rattle.tk_meeting.proofs.Canonical.{AreFronts, stream, write_in, read_from}
@@ -27,7 +26,7 @@ module _ (S : Script) (b : WordBook) (q : Course) (m : Meeting) (keeps : Keeps S
     (balanced : IsBalanced S.shape q) (c j : ℕ) (low : c < S.shape.clients) (one : 1 ≤ j)
     (most : j ≤ S.shape.servers) where
   -- server j with a frame more of client c, where these are left
-  module _ (writes reads : ℕ → ℕ) (left : List Kind) (frames : List (List ℕ)) (s : Step)
+  module _ (writes reads : ℕ → ℕ) (left : List Kind) (frames : List (List ℕ)) (s : SeatsAndPackets)
       (takes : TakesFrame S b j (q.writes j) (q.reads j) writes reads s)
       (up_left : frames ≡ frames_of S b c j (writes c) (reads c) left)
       (writes_same : (d : ℕ) → (d == c) ≡ false → writes d ≡ q.writes j d)

@@ -1,7 +1,6 @@
 -- What a host says keeps what a meeting has where its course is known.
 use Rattle.std.proofs.Common.{◌≡◌, ◌∙◌, refl, ap, sym, subst, ℕ, ◌+◌, ◌≤◌, ◌<◌, false, cond, arith}
-use Rattle.std.proofs.Common.{List, [], ◌∷◌, ◌++◌, filter}
-use Rattle.std.proofs.Common.{length, append-nil}
+use Rattle.std.proofs.Common.{List, [], ◌∷◌, ◌++◌, filter, length, append-nil}
 use Rattle.std.specs.Prelude.{◌==◌, drop, Option, Some, None}
 use Rattle.std.proofs.lemmas.Bool.{ne_eqb}
 use Rattle.std.proofs.lemmas.List.FromFn.{length-map-range_with_len}

@@ -8,8 +8,7 @@ use Rattle.tk_shape.specs.Lengths.{turn_count}
 use Rattle.tk_serve.proofs.Offers.{phase-past, phase-before}
 use Rattle.tk_meeting.proofs.Pace.{Pace, Paced, Kind, IsIdle, known_by}
 use Rattle.tk_meeting.proofs.Course.{Course, newest_by, came_of, stream_len}
-use Rattle.tk_meeting.proofs.members.Paces.{count_due}
-use Rattle.tk_meeting.proofs.members.Paces.{acted-written}
+use Rattle.tk_meeting.proofs.members.Paces.{count_due, acted-written}
 use Rattle.tk_meeting.proofs.servers.Numbers.{length-grows}
 use Rattle.tk_meeting.proofs.courses.Lengths.{newest-least}
 use Rattle.tk_meeting.proofs.courses.Acting.{wrote_in}

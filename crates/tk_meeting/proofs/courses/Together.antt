@@ -3,7 +3,7 @@ use Rattle.std.proofs.Common.{sym, subst, ℕ, ◌++◌}
 use Rattle.tk_script.specs.declared.script.Script.{Script}
 use Rattle.tk_words.specs.Words.{WordBook}
 use Rattle.tk_meeting.specs.Meeting.{Meeting}
-use Rattle.tk_meeting.specs.Laws.{Tells, HasToldAll, IsSerial, MeetingsAreSerial}
+use Rattle.tk_meeting.specs.Laws.{HasWhatWasSaid, HasToldAll, IsSerial, MeetingsAreSerial}
 use Rattle.tk_meeting.specs.Events.{met}
 use Rattle.tk_meeting.proofs.own.Meetings.{same-met}
 use Rattle.tk_meeting.proofs.gotten.Telling.{told-of, told-whole}
@@ -39,4 +39,4 @@ meetings-are-serial S b books events more book keys tells =
     let same = same-met S b books keys in
     subst (IsSerial S b) (sym (same events))
     (log-by-log S b (met S (λ c. b) events)
-    (meeting-serial S b book events more (subst (Tells S) (same (events ++ more)) tells)))
+    (meeting-serial S b book events more (subst (HasWhatWasSaid S) (same (events ++ more)) tells)))

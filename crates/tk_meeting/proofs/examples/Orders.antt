@@ -26,7 +26,7 @@ use Rattle.tk_member.specs.News.{to_host, news_from}
 use Rattle.tk_member.specs.Acting.{wrote, acts}
 use Rattle.tk_meeting.specs.Meeting.{Meeting}
 use Rattle.tk_meeting.specs.Events.{Event, Said, Ticked, WentAhead, Greeted, Up, Down, happens, after_events, met}
-use Rattle.tk_meeting.specs.Laws.{sayings, Tells, news_before, tells_read}
+use Rattle.tk_meeting.specs.Laws.{sayings, HasWhatWasSaid, news_before, tells_read}
 
 unfoldable pub computing : ⊤
 unfolding of_report.computing numbers chosen_sum levels_from search_end
@@ -72,7 +72,7 @@ on_their_way m =
 -- The script has what was said; the second client told its host the text, and the first nothing; each
 -- server has what the serial run has it see; no member has ended, and nothing is left on its way.
 pub record IsAsSerial (m : Meeting) : Type 0 where
-  pub tells : Tells script m
+  pub tells : HasWhatWasSaid script m
   pub told : filter tells_read (m.told 1) ≡ heard_hi
   pub none_told : filter tells_read (m.told 0) ≡ []
   pub first_sees : seen_by m 1 ≡ view script book history 1
@@ -83,7 +83,7 @@ pub record IsAsSerial (m : Meeting) : Type 0 where
 
 -- two clients, and two turns
 tells-all : (m : Meeting) → m.said 0 0 ≡ sayings script 0 0 → m.said 0 1 ≡ sayings script 0 1 →
-    m.said 1 0 ≡ sayings script 1 0 → m.said 1 1 ≡ sayings script 1 1 → Tells script m
+    m.said 1 0 ≡ sayings script 1 0 → m.said 1 1 ≡ sayings script 1 1 → HasWhatWasSaid script m
 unfolding computing
 tells-all m a b c d zero zero low turn = a
 tells-all m a b c d zero (suc zero) low turn = b

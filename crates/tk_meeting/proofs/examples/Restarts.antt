@@ -5,7 +5,7 @@ use Rattle.std.proofs.Common.{refl}
 use Rattle.tk_frames.specs.Spelling.{be32}
 use Rattle.tk_packets.specs.Packets.{PacketView, packet}
 use Rattle.tk_report.proofs.examples.OrdinaryRun.{script}
-use Rattle.tk_member.specs.Acting.{Turned}
+use Rattle.tk_member.specs.Acting.{ActedMember}
 use Rattle.tk_member.specs.Steps as stepping
 use Rattle.tk_member.specs.Courses.{after_packets}
 use Rattle.tk_meeting.specs.Meeting.{frames_for}
@@ -25,7 +25,7 @@ has count = packet 0 (0x47 ∷ be32 count)
 
 -- what the first client puts for server 1, if it goes on
 abbrev puts : List PacketView → Option (List (List ℕ))
-puts packets = option_map (λ (t : Turned). frames_for 1 t.packets) (after_packets book (first_member script 0) packets)
+puts packets = option_map (λ (t : ActedMember). frames_for 1 t.packets) (after_packets book (first_member script 0) packets)
 
 abbrev count_put : List PacketView → Option ℕ
 count_put packets = option_map (length {A = List ℕ}) (puts packets)

@@ -1,7 +1,6 @@
 -- What a client told of a log is delivered: in a clear run each text as it was written, and each number that
 -- it told to be absent was rightly passed over.
-use Rattle.std.proofs.Common.{◌≡◌, ap, sym, ◌∙◌, ℕ, ◌<◌}
-use Rattle.std.proofs.Common.{List, ◌++◌, slice_get, Some}
+use Rattle.std.proofs.Common.{◌≡◌, ap, sym, ◌∙◌, ℕ, ◌<◌, List, ◌++◌, slice_get, Some}
 use Rattle.std.proofs.lemmas.Option.{slice_get_within}
 use Rattle.tk_shape.specs.Lengths.{turn_count}
 use Rattle.tk_script.specs.declared.script.Script.{Script}
@@ -23,7 +22,7 @@ use Rattle.tk_schedule.specs.Schedule.{epoch_at}
 use Rattle.tk_meeting.specs.Meeting.{Meeting}
 use Rattle.tk_meeting.specs.Events.{met}
 use Rattle.tk_meeting.specs.Laws.{HasToldOf, IsSerial, MeetingsAreSerial}
-use Rattle.tk_meeting.specs.Delivery.{IsAsWritten, IsDelivered, MeetingsDeliver}
+use Rattle.tk_meeting.specs.Delivery.{IsAsWritten, HasDelivered, MeetingsDeliver}
 use Rattle.tk_meeting.proofs.Canonical.{serial}
 use Rattle.tk_meeting.proofs.gotten.Finding.{WasFound, texts-found}
 
@@ -67,7 +66,7 @@ front-gives all got rest s x front e =
     ap (λ gots. slice_get gots s) front ∙ get-front got rest s (slice_get_within got s x e) ∙ e
 
 pub delivered-of : (S : Script) (b : WordBook) (m : Meeting) (c log : ℕ) → IsBook S.shape b →
-    log < S.shape.logs → HasToldOf S b m c log → IsDelivered S b m c log
+    log < S.shape.logs → HasToldOf S b m c log → HasDelivered S b m c log
 delivered-of S b m c log served low told =
     let w = words_of S.shape b in
     let all = got_of S w (serial S) c log in
@@ -86,7 +85,7 @@ delivered-of S b m c log served low told =
 
 -- a meeting that does what the serial run does delivers of each log
 pub serial-delivers : (S : Script) (b : WordBook) (m : Meeting) (c log : ℕ) → IsBook S.shape b →
-    IsSerial S b m → c < S.shape.clients → log < S.shape.logs → IsDelivered S b m c log
+    IsSerial S b m → c < S.shape.clients → log < S.shape.logs → HasDelivered S b m c log
 serial-delivers S b m c log served serially client low =
     delivered-of S b m c log served low (serially.told_of c log client low)
 

@@ -1,7 +1,6 @@
 -- If a client told its host what the first turns give, it told of each log a front of what the log gives to
 -- it in the whole run; and if it told what all turns give, all of that.
-use Rattle.std.proofs.Common.{◌≡◌, refl, ap, ◌∙◌, ℕ, ◌<◌, ◌≤◌}
-use Rattle.std.proofs.Common.{Bool, true, false, List, [], ◌∷◌, filter}
+use Rattle.std.proofs.Common.{◌≡◌, refl, ap, ◌∙◌, ℕ, ◌<◌, ◌≤◌, Bool, true, false, List, [], ◌∷◌, filter}
 use Rattle.std.specs.Prelude.{◌&&◌, ◌==◌}
 use Rattle.tk_shape.specs.Lengths.{turn_count}
 use Rattle.tk_script.specs.declared.script.Script.{Script}

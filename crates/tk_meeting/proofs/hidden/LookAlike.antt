@@ -12,7 +12,7 @@ use Rattle.tk_privacy.proofs.Offers.{length-mirror}
 use Rattle.tk_meeting.specs.Meeting.{Meeting}
 use Rattle.tk_meeting.specs.Events.{Event, met}
 use Rattle.tk_meeting.specs.OwnBooks.{HaveKeys}
-use Rattle.tk_meeting.specs.Laws.{Tells}
+use Rattle.tk_meeting.specs.Laws.{HasWhatWasSaid}
 use Rattle.tk_meeting.specs.Hidden.{outline, SeesAlike, IsSizedAlike, ActsAlike, LooksAlike, MeetingsLookAlike}
 use Rattle.tk_meeting.proofs.Canonical.{stream}
 use Rattle.tk_meeting.proofs.Course.{Course, newest_by, came_of, course_of}
@@ -57,14 +57,14 @@ kinds-in S b q m kept c j client low high =
 
 -- a group whose texts a script has keeps what its course says, also where each client has a book of its own
 pub is-kept : (S : Script) (b : WordBook) (books : ℕ → WordBook) (events more : List Event) → IsBook S.shape b →
-    HaveKeys S b books → Tells S (met S books (events ++ more)) →
+    HaveKeys S b books → HasWhatWasSaid S (met S books (events ++ more)) →
     IsKept S b (course_of S.shape events) (met S books events)
 is-kept S b books events more served keys tells =
     subst (IsKept S b (course_of S.shape events)) (sym (same-met S b books keys events)) (record {
       balanced = course-balanced S.shape events;
       keeps =
           meeting-keeps S b served events more
-          (subst (Tells S) (same-met S b books keys (events ++ more)) tells);
+          (subst (HasWhatWasSaid S) (same-met S b books keys (events ++ more)) tells);
     })
 
 -- ---- two groups at one course

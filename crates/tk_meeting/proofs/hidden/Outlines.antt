@@ -1,7 +1,6 @@
 -- The kinds and lengths of frames, which the shape gives.
 use Rattle.std.proofs.Common.{◌≡◌, ℕ, ◌+◌, ◌≤◌, ◌<◌, Bool, true, false, cond, List}
-use Rattle.std.proofs.Common.{length, refl, ap, sym, ◌∙◌, subst, arith, length-append}
-use Rattle.std.proofs.Common.{[]}
+use Rattle.std.proofs.Common.{length, refl, ap, sym, ◌∙◌, subst, arith, length-append, []}
 use Rattle.std.specs.Prelude.{slice_index, ◌==◌, nat_lt, ◌&&◌}
 use Rattle.std.proofs.lemmas.List.FromFn.{length-map-range_with_len}
 use Rattle.tk_shape.specs.declared.shape.Shape.{Shape}

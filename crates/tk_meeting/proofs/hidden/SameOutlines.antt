@@ -16,8 +16,7 @@ use Rattle.tk_meeting.proofs.Pace.{Kind, Wrote, Asked}
 use Rattle.tk_meeting.proofs.Standing.{frames_of}
 use Rattle.tk_meeting.proofs.servers.Places.{read-turn}
 use Rattle.tk_meeting.proofs.hidden.SameStreams.{AreOfRun}
-use Rattle.tk_meeting.proofs.hidden.Outlines.{KindsAgree, same-reply, same-read_outline}
-use Rattle.tk_meeting.proofs.hidden.Outlines.{same-epoch, same-write_outline}
+use Rattle.tk_meeting.proofs.hidden.Outlines.{KindsAgree, same-reply, same-read_outline, same-epoch, same-write_outline}
 
 pub outlines-drop : (n : ℕ) (xs ys : List (List ℕ)) → map outline xs ≡ map outline ys →
     map outline (drop n xs) ≡ map outline (drop n ys)

@@ -1,7 +1,6 @@
 -- Two groups in which the same is done but for what is said show the same to all servers but the hidden one.
 use Rattle.std.proofs.Common.{◌≡◌, refl, sym, ap, ap₂, ◌∙◌, subst, arith, inl, inr, ℕ, suc, ◌≤◌, ◌<◌, Bool, true}
-use Rattle.std.proofs.Common.{false, cond}
-use Rattle.std.proofs.Common.{List, [], ◌∷◌, ◌++◌, map, length, drop, Option, Some, None}
+use Rattle.std.proofs.Common.{false, cond, List, [], ◌∷◌, ◌++◌, map, length, drop, Option, Some, None}
 use Rattle.std.specs.Prelude.{◌==◌, slice_index_or, Result, Ok, Err}
 use Rattle.std.proofs.lemmas.Bool.{ltb-true, true≢false}
 use Rattle.std.proofs.lemmas.List.{append_assoc}
@@ -16,14 +15,14 @@ use Rattle.tk_report.specs.Queues.{writing_before}
 use Rattle.tk_privacy.specs.Privacy.{Pairs}
 use Rattle.tk_member.specs.declared.fault.Fault.{Fault}
 use Rattle.tk_member.specs.Members.{MemberState, new_member}
-use Rattle.tk_member.specs.Acting.{Turned, behind, acts}
+use Rattle.tk_member.specs.Acting.{ActedMember, behind, acts}
 use Rattle.tk_meeting.specs.Meeting.{Meeting, Saying, opening, changed, for_peer, frames_for}
 use Rattle.tk_meeting.specs.Events.{say_fault, unless_ended, is_client}
-use Rattle.tk_meeting.specs.Laws.{Tells}
+use Rattle.tk_meeting.specs.Laws.{HasWhatWasSaid}
 use Rattle.tk_meeting.specs.Shown.{Stand, stand}
 use Rattle.tk_meeting.specs.Lying.{Deed, Says, Ticks, GoesAhead, Claims, Sends, Answers, doer, deed_shown, Hidden}
 use Rattle.tk_meeting.specs.Lying.{member_does, said_more, said_after, went_on, does, after_deeds, lied}
-use Rattle.tk_meeting.specs.Lying.{DoAlike, AreAlike, HoldsBlocks}
+use Rattle.tk_meeting.specs.Lying.{DoAlike, StandAlike, HoldsBlocks}
 use Rattle.tk_meeting.proofs.lying.Books.{IsOf, ShowAlike, LiedAlike}
 use Rattle.tk_meeting.proofs.Canonical.{with_sayings}
 use Rattle.tk_meeting.proofs.telling.Foreseeing.{ForeseesOf, Foresees}
@@ -88,7 +87,7 @@ first-speaks S c =
     }
 
 -- a client that goes on by this, to which that was said
-abbrev went_as : Meeting → ℕ → (ℕ → ℕ → List Saying) → Turned → Meeting
+abbrev went_as : Meeting → ℕ → (ℕ → ℕ → List Saying) → ActedMember → Meeting
 went_as m c said t =
     record m {
       members = changed c t.member m.members;
@@ -103,7 +102,7 @@ module _ (A B : Script) (h : Hidden) (a b : WordBook) (pairs others : Pairs)
   pub record Goes (m n : Meeting) : Type 0 where
     pub speak : (c : ℕ) → c < A.shape.clients → Speaks A c (m.said c) (m.members c)
     pub other_speak : (c : ℕ) → c < A.shape.clients → Speaks B c (n.said c) (n.members c)
-    pub alike : AreAlike A.shape h m n
+    pub alike : StandAlike A.shape h m n
 
   -- what is to hold of a group after a deed
   pub record Holds (S : Script) (book : WordBook) (reads : Pairs) (m : Meeting) : Type 0 where
@@ -123,10 +122,10 @@ module _ (A B : Script) (h : Hidden) (a b : WordBook) (pairs others : Pairs)
       (other_ready : Speaks B c (other_said c) second) (told other_told : List PacketView)
       (host : AreToHost told)
       (other_host : AreToHost other_told) where
-    abbrev turned : Turned
+    abbrev turned : ActedMember
     turned = behind told (acts a first)
 
-    abbrev other_turned : Turned
+    abbrev other_turned : ActedMember
     other_turned = behind other_told (acts b second)
 
     both-go : Holds A a pairs (went_as m c said turned) → Holds B b others (went_as n c other_said other_turned) →
@@ -204,7 +203,7 @@ module _ (A B : Script) (h : Hidden) (a b : WordBook) (pairs others : Pairs)
   module _ (m n : Meeting) (goes : Goes m n) (d e : Deed) (low : doer d < A.shape.clients) (is : doer d ≡ doer e)
     where
       ready_from : (S : Script) (book : WordBook) (x : Meeting) (f : Deed) (k : ℕ) → Speaks S k (x.said k) (x.members k) →
-          doer f ≡ k → (result : Result Turned Fault) (ready : Result Stand Fault) →
+          doer f ≡ k → (result : Result ActedMember Fault) (ready : Result Stand Fault) →
           (r : ReadiesFrom book (does_writing (x.members k) f) (x.members k) result ready) →
           Speaks S k (said_after x f k) r.first
       ready_from S book x f k speak of result ready r =
@@ -219,7 +218,7 @@ module _ (A B : Script) (h : Hidden) (a b : WordBook) (pairs others : Pairs)
             later = λ g past. q.later g (subst (λ (y : ℕ). y < g) r.written_is past);
           }
 
-      went-alike : (r s : Result Turned Fault) (x y : Result Stand Fault) →
+      went-alike : (r s : Result ActedMember Fault) (x y : Result Stand Fault) →
           EndsOrReadies a (does_writing (m.members (doer d)) d) (m.members (doer d)) r x →
           EndsOrReadies b (does_writing (n.members (doer d)) e) (n.members (doer d)) s y → x ≡ y →
           Holds A a pairs (went_on m d r) → Holds B b others (went_on n e s) →
@@ -229,8 +228,8 @@ module _ (A B : Script) (h : Hidden) (a b : WordBook) (pairs others : Pairs)
           let faults : one.fault ≡ two.fault =
           ap (fault-of one.fault) (sym one.ready_is ∙ same ∙ two.ready_is)
           in
-          subst (λ (k : Result Turned Fault). Goes (went_on m d k) (went_on n e s)) (sym one.is)
-          (subst (λ (k : Result Turned Fault). Goes (went_on m d (Err one.fault)) (went_on n e k)) (sym two.is)
+          subst (λ (k : Result ActedMember Fault). Goes (went_on m d k) (went_on n e s)) (sym one.is)
+          (subst (λ (k : Result ActedMember Fault). Goes (went_on m d (Err one.fault)) (went_on n e k)) (sym two.is)
           (both-end m n goes (doer d) (doer e) is one.fault two.fault faults))
       went-alike r s x y (inl one) (inr two) same holds_then other_holds =
           absurd (true≢false (sym (ap goes-on (sym one.ready_is ∙ same ∙ two.stands))))
@@ -241,8 +240,8 @@ module _ (A B : Script) (h : Hidden) (a b : WordBook) (pairs others : Pairs)
           let stands : stand one.first ≡ stand two.first =
           stands-same (stand one.first) (stand two.first) (sym one.stands ∙ same ∙ two.stands)
           in
-          let first : Turned = behind one.told (acts a one.first) in
-          let second : Turned = behind two.told (acts b two.first) in
+          let first : ActedMember = behind one.told (acts a one.first) in
+          let second : ActedMember = behind two.told (acts b two.first) in
           let there : went_on n e s ≡ went_as n k (said_after n e) second =
           ap (went_on n e) two.is ∙ ap (λ (i : ℕ). went_as n i (said_after n e) second) (sym is)
           in
@@ -251,10 +250,10 @@ module _ (A B : Script) (h : Hidden) (a b : WordBook) (pairs others : Pairs)
           (λ z other. said-other m d k z refl other) (λ z other. said-other n e k z (sym is) other) one.first two.first
           stands (ready_from A a m d k (goes.speak k low) refl r x one)
           (ready_from B b n e k (goes.other_speak k low) (sym is) s y two) one.told two.told one.to_host two.to_host
-          (subst (λ (i : Result Turned Fault). Holds A a pairs (went_on m d i)) one.is holds_then)
+          (subst (λ (i : Result ActedMember Fault). Holds A a pairs (went_on m d i)) one.is holds_then)
           (subst (Holds B b others) there other_holds)
           in
-          subst (λ (i : Result Turned Fault). Goes (went_on m d i) (went_on n e s)) (sym one.is)
+          subst (λ (i : Result ActedMember Fault). Goes (went_on m d i) (went_on n e s)) (sym one.is)
           (subst (Goes (went_as m k (said_after m d) first)) (sym there) went)
 
   does-is : (S : Script) (book : WordBook) (x : Meeting) (f : Deed) (k : ℕ) → doer f ≡ k → (t : Bool) →
@@ -357,13 +356,13 @@ module _ (A B : Script) (h : Hidden) (a b : WordBook) (pairs others : Pairs)
       }
 
 lasts-from : (S : Script) (h : Hidden) (book : WordBook) (deeds more front back : List Deed) →
-    Tells S (lied S h book (deeds ++ more)) → deeds ≡ front ++ back → Foresees S (lied S h book front)
+    HasWhatWasSaid S (lied S h book (deeds ++ more)) → deeds ≡ front ++ back → Foresees S (lied S h book front)
 lasts-from S h book deeds more front back tells is =
     let whole : deeds ++ more ≡ front ++ (back ++ more) =
     ap (λ (xs : List Deed). xs ++ more) is ∙ append_assoc front back more
     in
     foresees-deeds S h book front (back ++ more)
-    (subst (λ (xs : List Deed). Tells S (lied S h book xs)) whole tells)
+    (subst (λ (xs : List Deed). HasWhatWasSaid S (lied S h book xs)) whole tells)
 
 pub lied-alike : LiedAlike
 lied-alike A B h a b pairs others show holds deeds more other_deeds rest asked other_asked tells other_tells same =

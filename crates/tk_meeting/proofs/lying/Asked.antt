@@ -11,7 +11,7 @@ use Rattle.tk_client.specs.declared.open_read.OpenRead.{OpenRead}
 use Rattle.tk_privacy.specs.Privacy.{Pairs}
 use Rattle.tk_member.specs.declared.fault.Fault.{Fault}
 use Rattle.tk_member.specs.Members.{MemberState}
-use Rattle.tk_member.specs.Acting.{Turned}
+use Rattle.tk_member.specs.Acting.{ActedMember}
 use Rattle.tk_meeting.specs.Meeting.{opening}
 use Rattle.tk_meeting.specs.Events.{is_client}
 use Rattle.tk_meeting.specs.Lying.{Deed, doer, Hidden, pair_open}
@@ -43,7 +43,7 @@ stays k run c =
 pub opening-runs : (S : Script) → AllInRun (core (opening S))
 opening-runs S c = record { below = tt; behind = omega arith; within = omega arith }
 
-went-moves : (k : Core) (c : ℕ) (r : Result Turned Fault) → AllInRun k → MovesOn (k.members c) r →
+went-moves : (k : Core) (c : ℕ) (r : Result ActedMember Fault) → AllInRun k → MovesOn (k.members c) r →
     AllMove k (went_core c (left r) k)
 went-moves k c (Ok t) run moves x =
     at-place (λ y e. MovesFrom (k.members y) (cond e t.member (k.members y))) c x moves (λ e. stays k run x)

@@ -8,8 +8,8 @@ use Rattle.tk_client.specs.declared.open_read.OpenRead.{OpenRead}
 use Rattle.tk_client.specs.Asked.{frame_for}
 use Rattle.tk_privacy.specs.Privacy.{Pairs}
 use Rattle.tk_report.specs.Entries.{write_at}
-use Rattle.tk_meeting.specs.Laws.{Tells}
-use Rattle.tk_meeting.specs.Lying.{Deed, Hidden, HoldsBlocks, pair_open, lied, DoAlike, AreAlike}
+use Rattle.tk_meeting.specs.Laws.{HasWhatWasSaid}
+use Rattle.tk_meeting.specs.Lying.{Deed, Hidden, HoldsBlocks, pair_open, lied, DoAlike, StandAlike}
 
 -- a read that is open is for these buckets
 abbrev pub IsOf : Shape → WordBook → Pairs → ℕ → Option OpenRead → Type 0
@@ -38,5 +38,5 @@ LiedAlike =
     (A B : Script) (h : Hidden) (a b : WordBook) (pairs others : Pairs) → ShowAlike A B h a b pairs others →
     HoldsBlocks A.shape h → (deeds more : List Deed) (other_deeds rest : List Deed) →
     AreAsked A h a pairs deeds → AreAsked B h b others other_deeds →
-    Tells A (lied A h a (deeds ++ more)) → Tells B (lied B h b (other_deeds ++ rest)) →
-    DoAlike deeds other_deeds → AreAlike A.shape h (lied A h a deeds) (lied B h b other_deeds)
+    HasWhatWasSaid A (lied A h a (deeds ++ more)) → HasWhatWasSaid B (lied B h b (other_deeds ++ rest)) →
+    DoAlike deeds other_deeds → StandAlike A.shape h (lied A h a deeds) (lied B h b other_deeds)

@@ -8,23 +8,22 @@ use Rattle.tk_member.specs.declared.fault.Fault.{Fault}
 use Rattle.tk_member.specs.declared.fault.Fault.TheVariants.{Peer}
 use Rattle.tk_member.specs.declared.word.HostWord.TheVariants.{Say, Tick, Ahead, Has}
 use Rattle.tk_member.specs.Members.{MemberState}
-use Rattle.tk_member.specs.Acting.{Turned}
+use Rattle.tk_member.specs.Acting.{ActedMember}
 use Rattle.tk_member.specs.Steps.{heard, served}
 use Rattle.tk_meeting.specs.Meeting.{Meeting, changed}
 use Rattle.tk_meeting.specs.Events.{unless_ended, is_client, is_server}
-use Rattle.tk_meeting.specs.Lying.{Deed, Says, Ticks, GoesAhead, Claims, Sends, Answers, doer, Hidden}
-use Rattle.tk_meeting.specs.Lying.{answer_to}
+use Rattle.tk_meeting.specs.Lying.{Deed, Says, Ticks, GoesAhead, Claims, Sends, Answers, doer, Hidden, answer_to}
 use Rattle.tk_meeting.specs.Lying.{member_does, went_on, does, after_deeds}
 use Rattle.tk_meeting.specs.Matched.{pair_noted, pairs_noted, pairs_from}
 use Rattle.tk_meeting.proofs.lying.Outcomes.{table_of}
 
 -- the member that is left, or why it ended
-abbrev pub left : Result Turned Fault → Result MemberState Fault
+abbrev pub left : Result ActedMember Fault → Result MemberState Fault
 left (Ok t) = Ok t.member
 left (Err fault) = Err fault
 
 -- what becomes of a member by a deed, where the hidden server's answer is this
-abbrev pub does_with : ℕ → List ℕ → WordBook → MemberState → Deed → Result Turned Fault
+abbrev pub does_with : ℕ → List ℕ → WordBook → MemberState → Deed → Result ActedMember Fault
 does_with j answer b m (Says c log text) = heard b m (Some (Say log text))
 does_with j answer b m (Ticks c) = heard b m (Some Tick)
 does_with j answer b m (GoesAhead c turns) = heard b m (Some (Ahead turns))
@@ -86,7 +85,7 @@ core_pairs shape j answers b k pairs (d ∷ ds) =
 
 -- ---- the members of a group
 
-core-went : (m : Meeting) (d : Deed) (r : Result Turned Fault) →
+core-went : (m : Meeting) (d : Deed) (r : Result ActedMember Fault) →
     core (went_on m d r) ≡ went_core (doer d) (left r) (core m)
 core-went m d (Ok t) = refl
 core-went m d (Err fault) = refl
@@ -110,7 +109,7 @@ core-does shape h b m d =
     core-cond (is_client shape c) (unless_ended (m.ended c) m after) m
     ∙ ap (λ (k : Core). cond (is_client shape c) k (core m))
     (core-unless (m.ended c) m after ∙ ap (unless_core (m.ended c) (core m)) (core-went m d r))
-    ∙ ap (λ (x : Result Turned Fault). next_core shape c (left x) (core m)) (does-with h b (m.members c) d)
+    ∙ ap (λ (x : Result ActedMember Fault). next_core shape c (left x) (core m)) (does-with h b (m.members c) d)
 
 pub run-core : (shape : Shape) (h : Hidden) (b : WordBook) (m : Meeting) (ds : List Deed) →
     core (after_deeds shape h b m ds) ≡ core_run shape h.server (own_answer h b) b (core m) ds

@@ -7,10 +7,10 @@ use Rattle.tk_words.specs.Words.{WordBook}
 use Rattle.tk_client.specs.declared.say_error.SayError.{SayError}
 use Rattle.tk_member.specs.declared.fault.Fault.{Fault}
 use Rattle.tk_member.specs.Members.{MemberState}
-use Rattle.tk_member.specs.Acting.{Turned}
+use Rattle.tk_member.specs.Acting.{ActedMember}
 use Rattle.tk_meeting.specs.Meeting.{Meeting, Saying, opening, member_went}
 use Rattle.tk_meeting.specs.Events.{noted, say_fault}
-use Rattle.tk_meeting.specs.Laws.{Tells}
+use Rattle.tk_meeting.specs.Laws.{HasWhatWasSaid}
 use Rattle.tk_meeting.proofs.telling.Rising.{RisesIn, goes-rises}
 use Rattle.tk_meeting.proofs.telling.Growing.{Grows, grows-none, grows-next, grows-noted, grows-went}
 use Rattle.tk_meeting.proofs.telling.Foreseeing.{Foresees, foresees-by}
@@ -39,7 +39,7 @@ does-rises : (h : Hidden) (b : WordBook) (m : MemberState) (d : Deed) → RisesI
 does-rises h b m d =
     goes-rises b (does_writing m d) m (member_does h b m d) _ (deed-readies h b m d)
 
-grows-went_on : (m : Meeting) (d : Deed) (r : Result Turned Fault) → RisesIn (m.members (doer d)).written r →
+grows-went_on : (m : Meeting) (d : Deed) (r : Result ActedMember Fault) → RisesIn (m.members (doer d)).written r →
     Grows m (went_on m d r)
 grows-went_on m d (Ok t) rises =
     let said : Meeting = record m { said = said_after m d } in
@@ -70,8 +70,8 @@ deeds-append shape h b m (d ∷ ds) more = deeds-append shape h b (does shape h 
 
 -- at any time this much of the script is said, where the script has the texts of all that is still to be done
 pub foresees-deeds : (S : Script) (h : Hidden) (b : WordBook) (deeds more : List Deed) →
-    Tells S (lied S h b (deeds ++ more)) → Foresees S (lied S h b deeds)
+    HasWhatWasSaid S (lied S h b (deeds ++ more)) → Foresees S (lied S h b deeds)
 foresees-deeds S h b deeds more tells =
     let now : Meeting = lied S h b deeds in
     foresees-by S now (after_deeds S.shape h b now more) (grows-deeds S.shape h b (opening S) deeds)
-    (grows-deeds S.shape h b now more) (subst (Tells S) (deeds-append S.shape h b (opening S) deeds more) tells)
+    (grows-deeds S.shape h b now more) (subst (HasWhatWasSaid S) (deeds-append S.shape h b (opening S) deeds more) tells)

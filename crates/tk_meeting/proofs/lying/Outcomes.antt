@@ -1,7 +1,6 @@
 -- How a member stands after a deed, before it acts, follows from how it stood and from what shows of the deed.
 use Rattle.std.proofs.Common.{◌≡◌, inl, cond, refl, ap, ap₂, sym, ◌∙◌, arith, ℕ, ◌+◌, List, [], ◌∷◌, ◌++◌, Option}
-use Rattle.std.proofs.Common.{Some, None}
-use Rattle.std.proofs.Common.{length, length-append}
+use Rattle.std.proofs.Common.{Some, None, length, length-append}
 use Rattle.std.specs.Prelude.{nat_le, ◌==◌, Result, Err}
 use Rattle.std.specs.Option.{is_none, is_some}
 use Rattle.std.proofs.lemmas.Bool.{true≢false}

@@ -1,7 +1,6 @@
 -- Liars see the same of two groups over matched tapes, step by step.
 use Rattle.std.proofs.Common.{◌≡◌, refl, sym, ap, ap₂, ◌∙◌, subst, arith, ℕ, zero, suc, ◌+◌, List, [], ◌∷◌, ◌++◌, map}
-use Rattle.std.proofs.Common.{length}
-use Rattle.std.proofs.Common.{append-nil, length-append}
+use Rattle.std.proofs.Common.{length, append-nil, length-append}
 use Rattle.std.specs.List.{range_with_len}
 use Rattle.std.proofs.lemmas.List.{append_assoc}
 use Rattle.tk_shape.specs.declared.shape.Shape.{Shape}
@@ -9,17 +8,17 @@ use Rattle.tk_script.specs.declared.script.Script.{Script}
 use Rattle.tk_words.specs.Words.{WordBook, drawn}
 use Rattle.tk_privacy.proofs.Offers as privacy
 use Rattle.tk_meeting.specs.Meeting.{Meeting, Saying}
-use Rattle.tk_meeting.specs.Laws.{Tells}
+use Rattle.tk_meeting.specs.Laws.{HasWhatWasSaid}
 use Rattle.tk_meeting.specs.Lying.{Deed, Says, Ticks, GoesAhead, Claims, Sends, Answers, deed_shown, Hidden, lied}
-use Rattle.tk_meeting.specs.Lying.{DoAlike, AreAlike}
+use Rattle.tk_meeting.specs.Lying.{DoAlike, StandAlike}
 use Rattle.tk_meeting.specs.Matched.{AreGroups, AreMatched}
-use Rattle.tk_meeting.specs.Adaptive.{Sight, sight, Liars, with_text_of, Play, play, retold, PlayAlike, LiarsPlayAlike}
+use Rattle.tk_meeting.specs.Adaptive.{JointSight, sight, Liars, with_text_of, Play, play, retold, PlayAlike, LiarsPlayAlike}
 use Rattle.tk_privacy.proofs.Offers.{map-range_same}
 use Rattle.tk_meeting.proofs.lying.Tapes.{liars-see-alike}
 
 -- ---- the same is seen
 
-pub same-sight : (shape : Shape) (h : Hidden) (m n : Meeting) → AreAlike shape h m n →
+pub same-sight : (shape : Shape) (h : Hidden) (m n : Meeting) → StandAlike shape h m n →
     sight shape h m ≡ sight shape h n
 same-sight shape h m n alike =
     let sent =
@@ -113,8 +112,8 @@ module _ (A B : Script) (h : Hidden) (are : AreGroups A B h) (liars : Liars) (te
 
   module _ (matched : AreMatched A B h (play A h (drawn u) liars texts steps).deeds
       (retold others 0 (play A h (drawn u) liars texts steps).deeds) u v)
-      (tells : Tells A (lied A h (drawn u) (play A h (drawn u) liars texts steps).deeds))
-      (other_tells : Tells B (lied B h (drawn v) (retold others 0 (play A h (drawn u) liars texts steps).deeds))) where
+      (tells : HasWhatWasSaid A (lied A h (drawn u) (play A h (drawn u) liars texts steps).deeds))
+      (other_tells : HasWhatWasSaid B (lied B h (drawn v) (retold others 0 (play A h (drawn u) liars texts steps).deeds))) where
     -- after so many steps the same is seen
     sight-at : (k n : ℕ) → k + n ≡ steps →
         sight A.shape h (lied A h (drawn u) (one k).deeds)
@@ -132,8 +131,8 @@ module _ (A B : Script) (h : Hidden) (are : AreGroups A B h) (liars : Liars) (te
         (subst (λ (es : List Deed). AreMatched A B h (so_far ++ b.more) es u v) other_whole
         (subst (λ (ds : List Deed). AreMatched A B h ds (retold others 0 all) u v) whole matched))
         (retold-alike others 0 so_far)
-        (subst (λ (ds : List Deed). Tells A (lied A h (drawn u) ds)) whole tells)
-        (subst (λ (es : List Deed). Tells B (lied B h (drawn v) es)) other_whole other_tells))
+        (subst (λ (ds : List Deed). HasWhatWasSaid A (lied A h (drawn u) ds)) whole tells)
+        (subst (λ (es : List Deed). HasWhatWasSaid B (lied B h (drawn v) es)) other_whole other_tells))
         ∙ ap (λ (shape : Shape). sight shape h (lied B h (drawn v) (retold others 0 so_far))) are.one_shape
 
     pub steps-alike : (k n : ℕ) → k + n ≡ steps → PlayAlike (one k) (other k) (retold others 0 (one k).deeds)
@@ -141,7 +140,7 @@ module _ (A B : Script) (h : Hidden) (are : AreGroups A B h) (liars : Liars) (te
     steps-alike zero n sum =
         record {
           done = refl;
-          seen = ap (λ (s : Sight). s ∷ []) (sight-at zero n sum);
+          seen = ap (λ (s : JointSight). s ∷ []) (sight-at zero n sum);
         }
     steps-alike (suc k) n sum =
         let before = steps-alike k (suc n) (omega (arith, sum)) in
@@ -153,7 +152,7 @@ module _ (A B : Script) (h : Hidden) (are : AreGroups A B h) (liars : Liars) (te
         let last : with_text_of others (0 + length (one k).deeds) d ≡ e =
         ap (λ (i : ℕ). with_text_of others i d) place
         ∙ retold-twice texts others k (liars (one k).seen)
-        ∙ ap (λ (s : List Sight). with_text_of others k (liars s)) before.seen
+        ∙ ap (λ (s : List JointSight). with_text_of others k (liars s)) before.seen
         in
         let deeds : retold others 0 ((one k).deeds ++ d ∷ []) ≡ (other k).deeds ++ e ∷ [] =
         retold-append others 0 (one k).deeds (d ∷ [])
@@ -162,7 +161,7 @@ module _ (A B : Script) (h : Hidden) (are : AreGroups A B h) (liars : Liars) (te
         record {
           done = sym deeds;
           seen =
-              ap₂ (λ (xs : List Sight) (x : Sight). xs ++ x ∷ []) before.seen
+              ap₂ (λ (xs : List JointSight) (x : JointSight). xs ++ x ∷ []) before.seen
               (sight-at (suc k) n sum
               ∙ ap (λ (ds : List Deed). sight B.shape h (lied B h (drawn v) ds)) deeds);
         }

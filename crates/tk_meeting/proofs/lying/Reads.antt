@@ -1,7 +1,6 @@
 -- A member keeps the read that it has open, closes it, or opens that of the next turn.
 use Rattle.std.proofs.Common.{◌≡◌, refl, sym, ◌∙◌, subst, arith, inl, inr, ℕ, ◌+◌, ◌-◌, ◌≤◌, ◌<◌, Bool}
-use Rattle.std.proofs.Common.{true, false, cond}
-use Rattle.std.proofs.Common.{List, Option, Some, None}
+use Rattle.std.proofs.Common.{true, false, cond, List, Option, Some, None}
 use Rattle.std.specs.Prelude.{◌⊎◌, nat_lt, nat_le, ◌&&◌, Result, Ok, Err}
 use Rattle.std.specs.Option.{is_none}
 use Rattle.std.proofs.lemmas.Bool.{and_parts, ltb-true}
@@ -15,10 +14,9 @@ use Rattle.tk_member.specs.declared.fault.Fault.TheVariants.{Peer}
 use Rattle.tk_member.specs.declared.word.HostWord.{HostWord}
 use Rattle.tk_member.specs.declared.word.HostWord.TheVariants.{Say, Tick, Ahead, Has}
 use Rattle.tk_member.specs.Members.{MemberState, known_to}
-use Rattle.tk_member.specs.Acting.{Turned, goes_ahead, goes_by_ticks, may_ask, asks, unmoved}
+use Rattle.tk_member.specs.Acting.{ActedMember, goes_ahead, goes_by_ticks, may_ask, asks, unmoved}
 use Rattle.tk_member.specs.Acting.{asks_if_due, ahead_due, ticks_due, epoch_due, acts}
-use Rattle.tk_member.specs.Steps.{heard}
-use Rattle.tk_member.specs.Steps.{served}
+use Rattle.tk_member.specs.Steps.{heard, served}
 use Rattle.tk_meeting.specs.Lying.{Deed, Says, Ticks, GoesAhead, Claims, Sends, Answers}
 use Rattle.tk_meeting.specs.Events.{is_server}
 use Rattle.tk_meeting.specs.Shown.{Stand, stand, word_shown, frame_shown}
@@ -101,7 +99,7 @@ asked-moves b m run = either (may_ask m) refl
 
 asked-written : (b : WordBook) (m : MemberState) → (asks_if_due b m).member.written ≡ m.written
 asked-written b m =
-    cond-has (λ (t : Turned). t.member.written ≡ m.written) (may_ask m) (asks b m) (unmoved m) refl refl
+    cond-has (λ (t : ActedMember). t.member.written ≡ m.written) (may_ask m) (asks b m) (unmoved m) refl refl
 
 -- once it has written
 pub writes-keep : (w : BookWords) (m : MemberState) →
@@ -159,17 +157,17 @@ closed-moves asked read shape number m moves =
 
 -- ---- results
 
-abbrev pub MovesIn : ℕ → Option OpenRead → Shape → ℕ → Result Turned Fault → Type 0
+abbrev pub MovesIn : ℕ → Option OpenRead → Shape → ℕ → Result ActedMember Fault → Type 0
 MovesIn asked read shape number (Ok t) = Moves asked read shape number t.member
 MovesIn asked read shape number (Err fault) = Unit {0}
 
 -- from a member on
-abbrev pub MovesOn : MemberState → Result Turned Fault → Type 0
+abbrev pub MovesOn : MemberState → Result ActedMember Fault → Type 0
 MovesOn m result = MovesIn m.asked m.client.read m.client.shape m.client.number result
 
 module _ (b : WordBook) where
   -- a member that goes on to act from one that is in a run
-  goes-moves : (writing : Writing) (m : MemberState) (r : Result Turned Fault) (s : Result Stand Fault) → InRun m →
+  goes-moves : (writing : Writing) (m : MemberState) (r : Result ActedMember Fault) (s : Result Stand Fault) → InRun m →
       EndsOrReadies b writing m r s → MovesOn m r
   goes-moves writing m r s run (inl e) = subst (MovesOn m) (sym e.is) tt
   goes-moves writing m r s run (inr e) = subst (MovesOn m) (sym e.is) (either e.read_is)

@@ -15,7 +15,7 @@ use Rattle.tk_member.specs.declared.fault.Fault.{Fault}
 use Rattle.tk_member.specs.declared.fault.Fault.TheVariants.{Peer}
 use Rattle.tk_member.specs.declared.word.HostWord.TheVariants.{Say, Tick, Ahead, Has}
 use Rattle.tk_member.specs.Members.{MemberState}
-use Rattle.tk_member.specs.Acting.{Turned}
+use Rattle.tk_member.specs.Acting.{ActedMember}
 use Rattle.tk_member.specs.Steps.{served}
 use Rattle.tk_meeting.specs.Meeting.{Meeting, Saying, opening, changed}
 use Rattle.tk_meeting.specs.Events.{say_fault, unless_ended, is_server, is_client}
@@ -59,7 +59,7 @@ does-lasts h b m (Sends c j frame) =
 does-lasts h b m (Answers c table) =
     served-lasts b m h.server (answer_to h b table m.client.shape m.client.number m.client.read)
 
-went-may : (S : Script) (m : Meeting) (d : Deed) (r : Result Turned Fault) → IsSayable S m →
+went-may : (S : Script) (m : Meeting) (d : Deed) (r : Result ActedMember Fault) → IsSayable S m →
     LastsIn (base_of (m.members (doer d))) r → IsSayable S (went_on m d r)
 went-may S m d (Ok t) is lasts =
     went-sayable S (record m { said = said_after m d }) (doer d) (Ok t) (said-sayable S m d is) lasts
@@ -124,7 +124,7 @@ module _ (S : Script) (h : Hidden) (holds : HoldsBlocks S.shape h) (a b : WordBo
   said-same m n alike (Sends c j frame) = alike.said
   said-same m n alike (Answers c table) = alike.said
 
-  went-same : (m n : Meeting) → SaidAlike S m n → (d : Deed) (r s : Result Turned Fault) → outcome r ≡ outcome s →
+  went-same : (m n : Meeting) → SaidAlike S m n → (d : Deed) (r s : Result ActedMember Fault) → outcome r ≡ outcome s →
       IsSayable S (went_on m d r) → IsSayable S (went_on n d s) → SaidAlike S (went_on m d r) (went_on n d s)
   went-same m n alike d (Ok t) (Ok u) same may other_may =
       record {

@@ -14,9 +14,9 @@ use Rattle.tk_member.specs.declared.fault.Fault.{Fault}
 use Rattle.tk_member.specs.declared.fault.Fault.TheVariants.{Peer, Older}
 use Rattle.tk_member.specs.declared.word.HostWord.{HostWord}
 use Rattle.tk_member.specs.declared.word.HostWord.TheVariants.{Say, Tick, Ahead, Has}
-use Rattle.tk_member.specs.Epochs.{Telling, with_epoch, filter_of, marks_at}
+use Rattle.tk_member.specs.Epochs.{ToldMarks, with_epoch, filter_of, marks_at}
 use Rattle.tk_member.specs.Members.{MemberState}
-use Rattle.tk_member.specs.Acting.{Turned, goes_ahead, goes_by_ticks, may_ask, asks, unmoved, asks_if_due, epoch_due}
+use Rattle.tk_member.specs.Acting.{ActedMember, goes_ahead, goes_by_ticks, may_ask, asks, unmoved, asks_if_due, epoch_due}
 use Rattle.tk_member.specs.Acting.{acts}
 use Rattle.tk_member.specs.Steps.{tells_and_acts, counted_up, said, heard, all_of, after_settling, settled}
 use Rattle.tk_member.specs.Steps.{settled_by, with_reply, replied, told_epoch, served}
@@ -50,7 +50,7 @@ module _ (a b : WordBook) where
       ∙ asks-same second
       (subst (λ (k : Shape). words_of k a ≡ words_of k b) (sym (writes-keep w m).shape_is) words)
 
-  unless-left : (t : Bool) (fault : Fault) (r s : Result Turned Fault) → left r ≡ left s →
+  unless-left : (t : Bool) (fault : Fault) (r s : Result ActedMember Fault) → left r ≡ left s →
       left (cond t (Err fault) r) ≡ left (cond t (Err fault) s)
   unless-left true fault r s same = refl
   unless-left false fault r s same = same
@@ -94,7 +94,7 @@ module _ (a b : WordBook) where
       (settled_by a now (all_of now.replies)) (settled_by b now (all_of now.replies))
       (settled_by-same now (all_of now.replies) words)
 
-  told-same : (m : MemberState) (r : Result (List Telling) Fault) →
+  told-same : (m : MemberState) (r : Result (List ToldMarks) Fault) →
       words_of m.client.shape a ≡ words_of m.client.shape b → left (told_epoch a m r) ≡ left (told_epoch b m r)
   told-same m (Err fault) words = refl
   told-same m (Ok told) words = ap Ok (acts-same (record m { told = told }) words)
@@ -107,7 +107,7 @@ module _ (a b : WordBook) where
       (told_epoch b m (with_epoch m.client.shape m.told j frame)) _ _
       (told-same m (with_epoch m.client.shape m.told j frame) words) refl)
     where
-      either : (t : Bool) (r s r' s' : Result Turned Fault) → left r ≡ left s → left r' ≡ left s' →
+      either : (t : Bool) (r s r' s' : Result ActedMember Fault) → left r ≡ left s → left r' ≡ left s' →
           left (cond t r r') ≡ left (cond t s s')
       either true r s r' s' one two = one
       either false r s r' s' one two = two

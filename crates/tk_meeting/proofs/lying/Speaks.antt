@@ -11,7 +11,7 @@ use Rattle.tk_client.specs.Writing.{Writing, with_text}
 use Rattle.tk_client.specs.declared.say_error.SayError.{SayError}
 use Rattle.tk_client.specs.Saying.{fault_of}
 use Rattle.tk_member.specs.Members.{MemberState}
-use Rattle.tk_member.specs.Acting.{Turned, asks, unmoved, may_ask, asks_if_due, acts}
+use Rattle.tk_member.specs.Acting.{ActedMember, asks, unmoved, may_ask, asks_if_due, acts}
 use Rattle.tk_meeting.specs.Meeting.{Meeting, Saying, changed}
 use Rattle.tk_meeting.specs.Events.{say_fault}
 use Rattle.tk_meeting.proofs.Standing.{IsForetold}
@@ -20,11 +20,10 @@ use Rattle.tk_meeting.proofs.members.Hearing.{said-one}
 use Rattle.tk_meeting.proofs.courses.Picks.{itself}
 use Rattle.tk_meeting.specs.Shown.{stand}
 use Rattle.tk_meeting.specs.Lying.{Deed, Says, Ticks, GoesAhead, Claims, Sends, Answers, doer, said_more, said_after}
-use Rattle.tk_meeting.proofs.shown.Steps.{written_then, acts-written, ahead_of}
+use Rattle.tk_meeting.proofs.shown.Steps.{written_then, acts-written, ahead_of, said_writing, heard_writing}
 use Rattle.tk_meeting.proofs.members.Writing.{queue}
 use Rattle.tk_meeting.proofs.members.Acts.{Written, acts-so}
 use Rattle.tk_meeting.proofs.telling.Rising.{cond-has}
-use Rattle.tk_meeting.proofs.shown.Steps.{said_writing, heard_writing}
 use Rattle.tk_meeting.proofs.lying.Outcomes.{does_writing}
 
 -- a member to which this was said, by turns
@@ -89,7 +88,7 @@ module _ (S : Script) (m : Meeting) (c : ℕ) (speaks : Speaks S c (m.said c) (m
 asked-keeps : (b : WordBook) (m : MemberState) → let k = (asks_if_due b m).member.client in
     (k.shape ≡ m.client.shape) × (k.number ≡ m.client.number) × (k.writing ≡ m.client.writing)
 asked-keeps b m =
-    cond-has (λ (t : Turned).
+    cond-has (λ (t : ActedMember).
     (t.member.client.shape ≡ m.client.shape) × (t.member.client.number ≡ m.client.number)
     × (t.member.client.writing ≡ m.client.writing)) (may_ask m) (asks b m) (unmoved m) (refl, refl, refl)
     (refl, refl, refl)
@@ -131,7 +130,7 @@ module _ (S : Script) (b : WordBook) (c : ℕ) (client : c < S.shape.clients) (m
       let w = written-so in
       let n : (acts b m).member.written ≡ written_then m = acts-written b m in
       let member : (acts b m).member ≡ (asks_if_due b w.last).member =
-      ap (λ (t : Turned). t.member) w.acts_are
+      ap (λ (t : ActedMember). t.member) w.acts_are
       in
       let kept = asked-keeps b w.last in
       record {

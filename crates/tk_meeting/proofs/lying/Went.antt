@@ -11,7 +11,7 @@ use Rattle.tk_frames.specs.Spelling.{write_frame}
 use Rattle.tk_packets.specs.Packets.{PacketView}
 use Rattle.tk_privacy.specs.Privacy.{Pairs}
 use Rattle.tk_member.specs.Members.{MemberState}
-use Rattle.tk_member.specs.Acting.{Turned, packets_from, asks_if_due, acts}
+use Rattle.tk_member.specs.Acting.{ActedMember, packets_from, asks_if_due, acts}
 use Rattle.tk_meeting.specs.Meeting.{Saying, frames_for}
 use Rattle.tk_meeting.specs.Shown.{Stand, stand}
 use Rattle.tk_meeting.specs.Lying.{Hidden}
@@ -84,14 +84,14 @@ module _ (A B : Script) (h : Hidden) (a b : WordBook) (pairs others : Pairs)
         let asked =
         asks-alike A B h a b pairs others show c client one.last two.last one.shape one.number two.shape two.number
         last-within last-same j low high differ
-        (subst (λ (t : Turned). IsOf A.shape a pairs c t.member.client.read) one.acts_are is)
-        (subst (λ (t : Turned). IsOf B.shape b others c t.member.client.read) two.acts_are other_is)
+        (subst (λ (t : ActedMember). IsOf A.shape a pairs c t.member.client.read) one.acts_are is)
+        (subst (λ (t : ActedMember). IsOf B.shape b others c t.member.client.read) two.acts_are other_is)
         in
-        ap (λ (t : Turned). frames_for j t.packets) one.acts_are
+        ap (λ (t : ActedMember). frames_for j t.packets) one.acts_are
         ∙ frames-append j first (asks_if_due a one.last).packets
         ∙ ap₂ (λ (xs : List PacketView) (ys : List (List ℕ)). frames_for j xs ++ ys) written-same asked
         ∙ sym (frames-append j second (asks_if_due b two.last).packets)
-        ∙ sym (ap (λ (t : Turned). frames_for j t.packets) two.acts_are)
+        ∙ sym (ap (λ (t : ActedMember). frames_for j t.packets) two.acts_are)
 
     -- beside what their hosts are told
     pub frames-then : (told other_told : List PacketView) → AreToHost told → AreToHost other_told → (j : ℕ) →

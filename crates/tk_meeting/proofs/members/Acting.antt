@@ -7,8 +7,7 @@ use Rattle.tk_script.specs.declared.script.Script.{Script}
 use Rattle.tk_words.specs.Words.{WordBook, words_of}
 use Rattle.tk_packets.specs.Packets.{PacketView}
 use Rattle.tk_member.specs.Members.{MemberState}
-use Rattle.tk_member.specs.Acting.{Turned, behind, followed_by, goes_ahead, goes_by_ticks}
-use Rattle.tk_member.specs.Acting.{asks_if_due, acts}
+use Rattle.tk_member.specs.Acting.{ActedMember, behind, followed_by, goes_ahead, goes_by_ticks, asks_if_due, acts}
 use Rattle.tk_member.specs.Steps.{tells_and_acts}
 use Rattle.tk_meeting.specs.Meeting.{Saying, for_peer, frames_for}
 use Rattle.tk_meeting.specs.Shown.{stand}
@@ -16,8 +15,7 @@ use Rattle.tk_meeting.specs.Laws.{tells_read}
 use Rattle.tk_meeting.proofs.Pace.{Pace, IsPace, acted, asks_now, count_ahead, count_ticks, gone_ahead}
 use Rattle.tk_meeting.proofs.Standing.{IsAt, IsForetold, Goes, said_on, frames_of}
 use Rattle.tk_meeting.proofs.members.Members.{member_at, at-is, at-from}
-use Rattle.tk_meeting.proofs.members.Paces.{written_on, asked_on, acted-pace, acted-kinds, written-pace}
-use Rattle.tk_meeting.proofs.members.Paces.{acted-written}
+use Rattle.tk_meeting.proofs.members.Paces.{written_on, asked_on, acted-pace, acted-kinds, written-pace, acted-written}
 use Rattle.tk_meeting.proofs.members.Packets.{AreToHost, peer-append, frames-append, host-own, host-alone}
 use Rattle.tk_meeting.proofs.members.Writing.{turned_at, turned_with, queue, packets_on, frames-on, host-on}
 use Rattle.tk_meeting.proofs.members.Writing.{frames-then}
@@ -76,7 +74,7 @@ module _ (S : Script) (b : WordBook) (c : ℕ) (p : Pace) (saids : List Saying) 
     unfolding acts
     acts-is client told =
         let q = written_on S.shape p in
-        ap (λ (t : Turned). followed_by t (asks_if_due b)) (writes-go told)
+        ap (λ (t : ActedMember). followed_by t (asks_if_due b)) (writes-go told)
         ∙ ap (behind (packets_on S b c p.written (ahead + ticking)))
         (asks-go S b c q (said_on p.written last saids) client (written-pace S.shape p is))
 
@@ -115,7 +113,7 @@ acts-go S b c p saids m told client is foretold at to_host =
     let does = ap (acts b) (at-is at) ∙ acts-is S b c p saids is client known in
     let stands : (acts b m).member
     ≡ member_at S b c (acted S.shape p).pace (said_on p.written (acted S.shape p).pace.written saids) =
-    ap (λ (t : Turned). t.member) does
+    ap (λ (t : ActedMember). t.member) does
     ∙ ap₂ (λ (q : Pace) (n : ℕ). member_at S b c q (said_on p.written n saids))
     (sym (acted-pace S.shape p)) last
     in
@@ -127,11 +125,11 @@ acts-go S b c p saids m told client is foretold at to_host =
           frames-append j told (acts b m).packets
           ∙ ap₂ (λ (xs : List PacketView) (ys : List (List ℕ)). map (λ (x : PacketView). x.bytes) xs ++ ys)
           (host-alone told j low to_host)
-          (ap (λ (t : Turned). frames_for j t.packets) does ∙ frames-are S b c p saids is j low high);
+          (ap (λ (t : ActedMember). frames_for j t.packets) does ∙ frames-are S b c p saids is j low high);
       host =
           ap (filter tells_read)
           (peer-append 0 told (acts b m).packets
           ∙ ap₂ (λ (xs ys : List PacketView). xs ++ ys) (host-own told to_host)
-          (ap (λ (t : Turned). for_peer 0 t.packets) does ∙ host-none S b c p saids is)
+          (ap (λ (t : ActedMember). for_peer 0 t.packets) does ∙ host-none S b c p saids is)
           ∙ append-nil told);
     }

@@ -6,15 +6,14 @@ use Rattle.tk_words.specs.Words.{WordBook, words_of}
 use Rattle.tk_client.specs.Writing.{Writing}
 use Rattle.tk_packets.specs.Packets.{PacketView}
 use Rattle.tk_member.specs.Members.{MemberState}
-use Rattle.tk_member.specs.Acting.{Turned, behind, followed_by, wrote, goes_ahead, goes_by_ticks}
+use Rattle.tk_member.specs.Acting.{ActedMember, behind, followed_by, wrote, goes_ahead, goes_by_ticks}
 use Rattle.tk_member.specs.Acting.{asks_if_due, acts}
 use Rattle.tk_meeting.specs.Meeting.{Saying}
 use Rattle.tk_meeting.specs.Laws.{sayings}
 use Rattle.tk_meeting.proofs.Standing.{IsForetold, said_on}
-use Rattle.tk_meeting.proofs.members.Writing.{packets_on, packets-both}
+use Rattle.tk_meeting.proofs.members.Writing.{packets_on, packets-both, queue, with_writing, turned_with, wrote-so}
 use Rattle.tk_meeting.specs.Shown.{stand}
 use Rattle.tk_meeting.proofs.shown.Steps.{gone_ahead, gone_by_ticks, ahead_of, ticks_of}
-use Rattle.tk_meeting.proofs.members.Writing.{queue, with_writing, turned_with, wrote-so}
 use Rattle.tk_meeting.proofs.members.Writing.{nothing-said, said-later, said-still}
 
 -- ---- what is said and foretold, in two steps
@@ -98,7 +97,7 @@ module _ (S : Script) (b : WordBook) (c : ℕ) (m : MemberState) (saids : List S
       queue S c (m.written + ahead + ticking)
       (said_on (m.written + ahead) (m.written + ahead + ticking) said_then)
 
-  abbrev turned_then : List PacketView → Turned
+  abbrev turned_then : List PacketView → ActedMember
   turned_then packets = turned_with fewer_ticks left_then (m.written + ahead + ticking) packets
 
   second-goes :
@@ -112,7 +111,7 @@ module _ (S : Script) (b : WordBook) (c : ℕ) (m : MemberState) (saids : List S
   pub both-go : followed_by (goes_ahead (words_of S.shape b) m) (goes_by_ticks (words_of S.shape b))
       ≡ turned_then (packets_on S b c m.written (ahead + ticking))
   both-go =
-      ap (λ (t : Turned). followed_by t (goes_by_ticks (words_of S.shape b))) first-goes
+      ap (λ (t : ActedMember). followed_by t (goes_by_ticks (words_of S.shape b))) first-goes
       ∙ ap (behind (packets_on S b c m.written ahead)) second-goes
       ∙ ap turned_then (packets-both S b c m.written ahead ticking)
 
@@ -125,7 +124,7 @@ module _ (S : Script) (b : WordBook) (c : ℕ) (m : MemberState) (saids : List S
             (λ i. followed_by
             (followed_by (goes_ahead (words_of (shape i) b) m) (goes_by_ticks (words_of (shape i) b)))
             (asks_if_due b))
-            ∙ ap (λ (t : Turned). followed_by t (asks_if_due b)) both-go;
+            ∙ ap (λ (t : ActedMember). followed_by t (asks_if_due b)) both-go;
         shape = shape;
         number = number;
         stands = refl;

@@ -23,7 +23,7 @@ use Rattle.tk_client.specs.Reader.{Reader, target, at_epoch}
 use Rattle.tk_client.specs.Client.{target_over}
 use Rattle.tk_report.specs.Report.{target_at, reader_before, read_over}
 use Rattle.tk_member.specs.Epochs.{filter_of, marks_at, epochs_in, known, least_of, Marks}
-use Rattle.tk_member.specs.Acting.{Turned, packets_from, may_ask, asks, asks_if_due, unmoved}
+use Rattle.tk_member.specs.Acting.{ActedMember, packets_from, may_ask, asks, asks_if_due, unmoved}
 use Rattle.tk_report.proofs.Offers.{map_same, map-map, asked-read_at}
 use Rattle.tk_meeting.specs.Meeting.{Saying, for_peer, frames_for}
 use Rattle.tk_meeting.proofs.Canonical.{serial, whole, read_from, marks_in, telling_of, reply_in}
@@ -95,7 +95,7 @@ open_for S g t = record { turn = g; epoch = phases_over S.shape g; target = t }
 
 -- a member with this reader, this read and these replies, which sent these packets
 abbrev turned_as : Script → WordBook → ℕ → Pace → List Saying → Reader → Option OpenRead →
-    List (Option (List ℕ)) → List PacketView → Turned
+    List (Option (List ℕ)) → List PacketView → ActedMember
 turned_as S b c p saids reader read replies packets =
     record {
       member =

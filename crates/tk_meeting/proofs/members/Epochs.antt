@@ -6,8 +6,7 @@ use Rattle.std.specs.Option.{option_or}
 use Rattle.std.specs.List.{range_with_len}
 use Rattle.std.proofs.lemmas.Bool.{cases_lt, lt-ltb, eq-eqb, and_from}
 use Rattle.std.proofs.lemmas.Nat.{from_be_bytes-to_be_bytes_4}
-use Rattle.std.proofs.lemmas.List.FromFn.{length-map-range_with_len, get_or-map-range_with_len}
-use Rattle.std.proofs.lemmas.List.FromFn.{map-range_with_len_more}
+use Rattle.std.proofs.lemmas.List.FromFn.{length-map-range_with_len, get_or-map-range_with_len, map-range_with_len_more}
 use Rattle.std.proofs.lemmas.Option.{slice_get-get_or, slice_get_past}
 use Rattle.std.proofs.lemmas.Slice.Eq.{bytes_eq-Decides}
 use Rattle.tk_script.specs.declared.script.Script.{Script}
@@ -21,7 +20,7 @@ use Rattle.tk_replica.specs.Epochs.{filter_of as filter_told}
 use Rattle.tk_serve.specs.Told.{epoch_bytes}
 use Rattle.tk_member.specs.declared.fault.Fault.{Fault}
 use Rattle.tk_member.specs.declared.fault.Fault.TheVariants.{Peer, Differ}
-use Rattle.tk_member.specs.Epochs.{Telling, agrees, told_behind, is_epoch_frame, with_epoch}
+use Rattle.tk_member.specs.Epochs.{ToldMarks, agrees, told_behind, is_epoch_frame, with_epoch}
 use Rattle.tk_member.specs.Members.{MemberState}
 use Rattle.tk_member.specs.Steps.{served, told_epoch}
 use Rattle.tk_meeting.specs.Meeting.{changed, Saying}
@@ -137,10 +136,10 @@ with-epoch S b p j low high more =
     let n = p.epochs j in
     let frame = epoch_in S b (n + 1) in
     let marks = marks_in S b (n + 1) in
-    let taken : Telling → Result (List Telling) Fault =
+    let taken : ToldMarks → Result (List ToldMarks) Fault =
     λ before. Ok (slice_set told (j - 1) (before ++ marks ∷ []))
     in
-    let body : Telling → ℕ → Result (List Telling) Fault =
+    let body : ToldMarks → ℕ → Result (List ToldMarks) Fault =
     λ before k. cond (nat_lt k S.shape.phases && is_epoch_frame S.shape (k + 1) frame)
     (cond (agrees (first_some (told_behind k) told) marks) (taken before) (Err Differ)) (Err Peer)
     in
@@ -148,7 +147,7 @@ with-epoch S b p j low high more =
     and_from (nat_lt n S.shape.phases) (is_epoch_frame S.shape (n + 1) frame)
     (lt-ltb n S.shape.phases more) (is-frame S b (n + 1) (omega (arith, more)))
     in
-    ap (λ (t : Telling). body t (length t)) (telling-at S b p j low high)
+    ap (λ (t : ToldMarks). body t (length t)) (telling-at S b p j low high)
     ∙ ap (body (telling_of S b n)) (length-telling S b n)
     ∙ ap (λ x. cond x (cond (agrees (first_some (told_behind n) told) marks)
     (taken (telling_of S b n)) (Err Differ)) (Err Peer)) fits

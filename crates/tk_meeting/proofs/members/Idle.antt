@@ -1,6 +1,5 @@
 -- Where a client acted nothing is due any more.
-use Rattle.std.proofs.Common.{[], ◌≡◌, refl, sym, ap, ap₂, ◌∙◌, subst, arith, ◌+◌, ◌-◌, Bool, true, false}
-use Rattle.std.proofs.Common.{List, ◌++◌}
+use Rattle.std.proofs.Common.{[], ◌≡◌, refl, sym, ap, ap₂, ◌∙◌, subst, arith, ◌+◌, ◌-◌, Bool, true, false, List, ◌++◌}
 use Rattle.std.specs.Prelude.{nat_le, nat_lt, not, ◌&&◌, replicate}
 use Rattle.tk_shape.specs.declared.shape.Shape.{Shape}
 use Rattle.tk_schedule.specs.Schedule.{phases_over}

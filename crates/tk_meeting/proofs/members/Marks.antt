@@ -24,9 +24,8 @@ use Rattle.tk_client.specs.declared.waiting.Waiting.{Waiting}
 use Rattle.tk_client.specs.Writes.{write_of}
 use Rattle.tk_report.specs.Entries.{write_at}
 use Rattle.tk_report.specs.Queues.{waiting_of}
-use Rattle.tk_report.proofs.Offers.{turns-own, before-front}
+use Rattle.tk_report.proofs.Offers.{turns-own, before-front, each-front, each-append}
 use Rattle.tk_member.specs.Epochs.{filter_of, marks_at, no_marks, least_of, told_by}
-use Rattle.tk_report.proofs.Offers.{each-front, each-append}
 use Rattle.std.proofs.Math.Seq.{drop-nil}
 use Rattle.tk_meeting.proofs.Canonical.{serial, whole, marks_in, telling_of}
 use Rattle.tk_meeting.proofs.Pace.{Pace, known_by}

@@ -11,7 +11,7 @@ use Rattle.tk_client.specs.Reader.{Reader}
 use Rattle.tk_client.specs.Writing.{Writing}
 use Rattle.tk_report.specs.Queues.{writing_before, writes_of}
 use Rattle.tk_report.specs.Report.{reader_before, follows_of}
-use Rattle.tk_member.specs.Epochs.{Telling}
+use Rattle.tk_member.specs.Epochs.{ToldMarks}
 use Rattle.tk_member.specs.Members.{MemberState, new_member}
 use Rattle.tk_meeting.specs.Meeting.{Saying}
 use Rattle.tk_meeting.proofs.Canonical.{serial, with_sayings, telling_of}
@@ -19,7 +19,7 @@ use Rattle.tk_meeting.proofs.Pace.{Pace, first_pace, settled}
 use Rattle.tk_meeting.proofs.Standing.{IsAt, read_of, reply_there}
 
 -- what it tells of epochs and has of replies
-abbrev pub tellings_at : Script → WordBook → Pace → List Telling
+abbrev pub tellings_at : Script → WordBook → Pace → List ToldMarks
 tellings_at S b p = map (λ j. telling_of S b (p.epochs j)) (range_with_len 1 S.shape.servers)
 
 abbrev pub replies_at : Script → WordBook → ℕ → Pace → List (Option (List ℕ))

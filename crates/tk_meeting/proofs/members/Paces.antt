@@ -11,8 +11,7 @@ use Rattle.tk_member.specs.Epochs.{least_of}
 use Rattle.tk_meeting.specs.Meeting.{changed}
 use Rattle.tk_meeting.proofs.Pace.{Pace, Paced, Kind, Wrote, Asked, IsPace, first_pace, acted, known_by}
 use Rattle.tk_meeting.proofs.Pace.{count_ahead, count_ticks, gone_ahead, gone_by_ticks, asks_now, has_asked}
-use Rattle.tk_meeting.proofs.Pace.{ticked, sent_ahead, with_reply_of, all_replied, closed, reply_came}
-use Rattle.tk_meeting.proofs.Pace.{epoch_came}
+use Rattle.tk_meeting.proofs.Pace.{ticked, sent_ahead, with_reply_of, all_replied, closed, reply_came, epoch_came}
 use Rattle.tk_meeting.proofs.courses.Picks.{at-place}
 
 -- all writes that are due are done

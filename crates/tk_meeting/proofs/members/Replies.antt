@@ -17,7 +17,7 @@ use Rattle.tk_member.specs.declared.fault.Fault.{Fault}
 use Rattle.tk_member.specs.declared.fault.Fault.TheVariants.{Peer}
 use Rattle.tk_member.specs.Members.{MemberState}
 use Rattle.tk_member.specs.News.{news}
-use Rattle.tk_member.specs.Acting.{Turned}
+use Rattle.tk_member.specs.Acting.{ActedMember}
 use Rattle.tk_member.specs.Steps.{served, replied, settled as settles, settled_by, all_of, tells_and_acts}
 use Rattle.tk_meeting.specs.Meeting.{Saying}
 use Rattle.tk_meeting.proofs.Canonical.{serial, reply_in}
@@ -139,7 +139,7 @@ module _ (S : Script) (b : WordBook) (c : ℕ) (p : Pace) (saids : List Saying)
       }
 
   -- the member with this reader and no reply, and what its host is told
-  abbrev settling : Reader → List (Option (List ℕ)) → Result Turned Fault
+  abbrev settling : Reader → List (Option (List ℕ)) → Result ActedMember Fault
   settling r replies =
       tells_and_acts b
       (news S.shape (reader_before S (words_of S.shape b) (serial S) c turn_of) r)
@@ -207,7 +207,7 @@ module _ (S : Script) (b : WordBook) (c : ℕ) (p : Pace) (saids : List Saying)
 
 -- what comes to the same is as ready
 readies-from : {S : Script} {b : WordBook} {c : ℕ} {p : Pace} {saids : List Saying}
-    {told : List PacketView} {x y : Result Turned Fault} → x ≡ y → Readies S b c p saids told y →
+    {told : List PacketView} {x y : Result ActedMember Fault} → x ≡ y → Readies S b c p saids told y →
     Readies S b c p saids told x
 readies-from same ready =
     record {

@@ -17,7 +17,7 @@ use Rattle.tk_report.specs.Entries.{write_at}
 use Rattle.tk_report.specs.Queues.{with_says, says_in, writing_before, writing_said}
 use Rattle.tk_report.proofs.Offers.{queues-send}
 use Rattle.tk_member.specs.Members.{MemberState}
-use Rattle.tk_member.specs.Acting.{Turned, behind, packets_from, write_packets, after_turn, wrote}
+use Rattle.tk_member.specs.Acting.{ActedMember, behind, packets_from, write_packets, after_turn, wrote}
 use Rattle.tk_meeting.specs.Meeting.{Saying, for_peer, frames_for}
 use Rattle.tk_meeting.specs.Laws.{saying_of, sayings}
 use Rattle.tk_meeting.proofs.Canonical.{write_in, with_sayings}
@@ -83,7 +83,7 @@ queue S c g saids = with_sayings saids (writing_before S c g)
 abbrev pub with_writing : MemberState → Writing → ℕ → MemberState
 with_writing m writing k = record m { client = record m.client { writing = writing }; written = k }
 
-abbrev pub turned_with : MemberState → Writing → ℕ → List PacketView → Turned
+abbrev pub turned_with : MemberState → Writing → ℕ → List PacketView → ActedMember
 turned_with m writing k packets = record { member = with_writing m writing k; packets = packets }
 
 -- ---- several turns
@@ -157,7 +157,7 @@ module _ (S : Script) (b : WordBook) (c : ℕ) (m : MemberState) (shape : m.clie
 
 -- ---- a member at a pace
 
-abbrev pub turned_at : Script → WordBook → ℕ → Pace → List Saying → List PacketView → Turned
+abbrev pub turned_at : Script → WordBook → ℕ → Pace → List Saying → List PacketView → ActedMember
 turned_at S b c p saids packets = record { member = member_at S b c p saids; packets = packets }
 
 -- ---- frame by frame

@@ -22,11 +22,11 @@ use Rattle.tk_client.specs.Client.{target_over, opened}
 use Rattle.tk_packets.specs.Packets.{PacketView}
 use Rattle.tk_member.specs.Epochs.{filter_of, marks_at}
 use Rattle.tk_member.specs.Members.{MemberState}
-use Rattle.tk_member.specs.Acting.{Turned, unmoved, behind, followed_by}
+use Rattle.tk_member.specs.Acting.{ActedMember, unmoved, behind, followed_by}
 use Rattle.tk_member.specs.Acting.{packets_from, epoch_due, write_packets, after_turn, wrote}
 use Rattle.tk_member.specs.Acting.{ahead_due, goes_ahead, ticks_due, goes_by_ticks, may_ask, asks, asks_if_due, acts}
 use Rattle.tk_report.proofs.Offers.{each-weaker}
-use Rattle.tk_meeting.specs.OwnBooks.{HasKeys}
+use Rattle.tk_meeting.specs.OwnBooks.{AgreesForClient}
 use Rattle.tk_meeting.proofs.own.Words.{IsUsed, IsOwnTextOrNone, write-same, pair-same, hits-same}
 use Rattle.tk_meeting.proofs.own.Reading.{Follows, IsFoundOrNone, target-same, target-found, epoch-follows}
 use Rattle.tk_meeting.proofs.own.Clients.{first-own, write-own, IsOwn}
@@ -39,7 +39,7 @@ follows-by P Q r by all =
       cursor_in = all.cursor_in;
     }
 
-module _ (S : Script) (b own : WordBook) (c : ℕ) (keys : HasKeys S b c own) where
+module _ (S : Script) (b own : WordBook) (c : ℕ) (keys : AgreesForClient S b c own) where
   -- ---- words
 
   write-alike : (shape : Shape) (number g : ℕ) (first : Option Waiting) →
@@ -129,7 +129,7 @@ module _ (S : Script) (b own : WordBook) (c : ℕ) (keys : HasKeys S b c own) wh
   unfolding wrote
   wrote-same shape zero m of has is = refl
   wrote-same shape (suc n) m of has is =
-      ap₂ (λ (ps : List PacketView) (t : Turned). behind ps t)
+      ap₂ (λ (ps : List PacketView) (t : ActedMember). behind ps t)
       (subst (λ (s : Shape). write_packets (words_of s own) m ≡ write_packets (words_of s b) m) has
       (packets-same m is))
       (wrote-same shape n (after_turn m) of has (turn-own m is))
@@ -148,7 +148,7 @@ module _ (S : Script) (b own : WordBook) (c : ℕ) (keys : HasKeys S b c own) wh
       (at_epoch epoch m.client.reader) (epoch-follows (IsUsed S c) epoch m.client.reader is.follows))
       in
       let t : Option Target = target_over (words_of shape b) marks epoch m.client in
-      let does : Option Target → List ReadFrame → Turned = λ t frames.
+      let does : Option Target → List ReadFrame → ActedMember = λ t frames.
       record {
         member = record m { client = opened m.asked epoch t m.client; asked = m.asked + 1 };
         packets = packets_from 1 (map read_frame frames);
@@ -161,7 +161,7 @@ module _ (S : Script) (b own : WordBook) (c : ℕ) (keys : HasKeys S b c own) wh
       is.number_is found)
 
   due-same : (m : MemberState) → IsOwn S c m.client → asks_if_due own m ≡ asks_if_due b m
-  due-same m is = ap (λ (t : Turned). cond (may_ask m) t (unmoved m)) (asks-same m is)
+  due-same m is = ap (λ (t : ActedMember). cond (may_ask m) t (unmoved m)) (asks-same m is)
 
   asks-own : (m : MemberState) → IsOwn S c m.client → IsOwn S c (asks b m).member.client
   asks-own m is =
@@ -206,21 +206,21 @@ module _ (S : Script) (b own : WordBook) (c : ℕ) (keys : HasKeys S b c own) wh
       let shape = m.client.shape in
       let v = words_of shape own in
       let w = words_of shape b in
-      let first : Turned = goes_ahead w m in
-      let second : Turned = followed_by first (goes_by_ticks w) in
+      let first : ActedMember = goes_ahead w m in
+      let second : ActedMember = followed_by first (goes_by_ticks w) in
       let first-is = went-own w m is in
       let second-is = ticked-own w first.member first-is in
-      ap (λ (t : Turned). followed_by (followed_by t (goes_by_ticks v)) (asks_if_due own))
+      ap (λ (t : ActedMember). followed_by (followed_by t (goes_by_ticks v)) (asks_if_due own))
       (wrote-same shape (ahead_due m) (ahead_first m) is.shape_is refl is)
-      ∙ ap (λ (t : Turned). followed_by (behind first.packets t) (asks_if_due own))
+      ∙ ap (λ (t : ActedMember). followed_by (behind first.packets t) (asks_if_due own))
       (wrote-same shape (ticks_due first.member) (ticks_first first.member) is.shape_is
       (first-is.shape_is ∙ sym is.shape_is) first-is)
-      ∙ ap (λ (t : Turned). behind second.packets t) (due-same second.member second-is)
+      ∙ ap (λ (t : ActedMember). behind second.packets t) (due-same second.member second-is)
 
   pub acts-own : (m : MemberState) → IsOwn S c m.client → IsOwn S c (acts b m).member.client
   unfolding acts
   acts-own m is =
       let w = words_of m.client.shape b in
-      let first : Turned = goes_ahead w m in
-      let second : Turned = followed_by first (goes_by_ticks w) in
+      let first : ActedMember = goes_ahead w m in
+      let second : ActedMember = followed_by first (goes_by_ticks w) in
       due-own second.member (ticked-own w first.member (went-own w m is))

@@ -8,7 +8,7 @@ use Rattle.tk_client.specs.declared.say_error.SayError.{SayError}
 use Rattle.tk_member.specs.declared.fault.Fault.{Fault}
 use Rattle.tk_member.specs.declared.word.HostWord.{HostWord}
 use Rattle.tk_member.specs.declared.word.HostWord.TheVariants.{Say, Tick, Ahead, Has}
-use Rattle.tk_member.specs.Acting.{Turned}
+use Rattle.tk_member.specs.Acting.{ActedMember}
 use Rattle.tk_member.specs.Steps.{heard, served}
 use Rattle.tk_meeting.specs.Meeting.{Meeting, Saying, opening, changed, member_went}
 use Rattle.tk_meeting.specs.Events.{Event, Said, Ticked, WentAhead, Greeted, Up, Down}
@@ -24,7 +24,7 @@ use Rattle.tk_meeting.proofs.courses.Picks.{at-place}
 abbrev AllOwn : Script → Meeting → Type 0
 AllOwn S m = (c : ℕ) → c < S.shape.clients → IsOwn S c (m.members c).client
 
-went-own : (S : Script) (m : Meeting) (c : ℕ) (r : Result Turned Fault) → AllOwn S m → GoesOn S c r →
+went-own : (S : Script) (m : Meeting) (c : ℕ) (r : Result ActedMember Fault) → AllOwn S m → GoesOn S c r →
     AllOwn S (member_went m c r)
 went-own S m c (Err fault) all goes = all
 went-own S m c (Ok t) all goes =
@@ -42,7 +42,7 @@ module _ (S : Script) (b : WordBook) (books : ℕ → WordBook) (keys : HaveKeys
   still : (m : Meeting) → AllOwn S m → Alike m m
   still m all = record { same = refl; own = all }
 
-  steps : (m : Meeting) (c : ℕ) (mine group : Result Turned Fault) → AllOwn S m → StepsAlike S c mine group →
+  steps : (m : Meeting) (c : ℕ) (mine group : Result ActedMember Fault) → AllOwn S m → StepsAlike S c mine group →
       Alike (member_went m c mine) (member_went m c group)
   steps m c mine group all alike =
       record { same = ap (member_went m c) alike.same; own = went-own S m c group all alike.goes_on }

@@ -26,34 +26,34 @@ use Rattle.tk_member.specs.declared.fault.Fault.{Fault}
 use Rattle.tk_member.specs.declared.fault.Fault.TheVariants.{Peer, Refused, Older}
 use Rattle.tk_member.specs.declared.word.HostWord.{HostWord}
 use Rattle.tk_member.specs.declared.word.HostWord.TheVariants.{Say, Tick, Ahead, Has}
-use Rattle.tk_member.specs.Epochs.{Telling, with_epoch}
+use Rattle.tk_member.specs.Epochs.{ToldMarks, with_epoch}
 use Rattle.tk_member.specs.Members.{MemberState, no_replies}
-use Rattle.tk_member.specs.Acting.{Turned, behind}
+use Rattle.tk_member.specs.Acting.{ActedMember, behind}
 use Rattle.tk_member.specs.News.{news, refused_packet}
 use Rattle.tk_member.specs.Steps.{tells_and_acts, said, heard, settled, settled_by, with_reply, replied, told_epoch}
 use Rattle.tk_member.specs.Steps.{served, all_of, told_after, after_settling, counted_up}
-use Rattle.tk_meeting.specs.OwnBooks.{HasKeys}
+use Rattle.tk_meeting.specs.OwnBooks.{AgreesForClient}
 use Rattle.tk_meeting.proofs.own.Words.{IsUsed, pair-same, opened-same}
 use Rattle.tk_meeting.proofs.own.Reading.{Follows, IsFoundOrNone, epoch-follows, read-follows}
 use Rattle.tk_meeting.proofs.own.Clients.{text-own, written-used, IsOwn, OpensOwn}
 use Rattle.tk_meeting.proofs.own.Acts.{acts-same, acts-own}
 
 -- the client of a member that goes on uses its own logs alone
-abbrev pub GoesOn : Script → ℕ → Result Turned Fault → Type 0
+abbrev pub GoesOn : Script → ℕ → Result ActedMember Fault → Type 0
 GoesOn S c (Ok t) = IsOwn S c t.member.client
 GoesOn S c (Err fault) = Unit {0}
 
 -- by either book the same comes of a step, and the client stays one of its own logs
-pub record StepsAlike (S : Script) (c : ℕ) (mine group : Result Turned Fault) : Type 0 where
+pub record StepsAlike (S : Script) (c : ℕ) (mine group : Result ActedMember Fault) : Type 0 where
   pub same : mine ≡ group
   pub goes_on : GoesOn S c group
 
-module _ (S : Script) (b own : WordBook) (c : ℕ) (keys : HasKeys S b c own) where
+module _ (S : Script) (b own : WordBook) (c : ℕ) (keys : AgreesForClient S b c own) where
   both-act : (told : List PacketView) (m : MemberState) → IsOwn S c m.client →
       StepsAlike S c (tells_and_acts own told m) (tells_and_acts b told m)
   both-act told m is =
       record {
-        same = ap (λ (t : Turned). Ok (behind told t)) (acts-same S b own c keys m is);
+        same = ap (λ (t : ActedMember). Ok (behind told t)) (acts-same S b own c keys m is);
         goes_on = acts-own S b own c keys m is;
       }
 
@@ -188,7 +188,7 @@ module _ (S : Script) (b own : WordBook) (c : ℕ) (keys : HasKeys S b c own) wh
       by true = both-end Peer
       by false = settled-alike (with_reply m j reply) is (all_of (with_reply m j reply).replies)
 
-  epoch-alike : (m : MemberState) → IsOwn S c m.client → (told : Result (List Telling) Fault) →
+  epoch-alike : (m : MemberState) → IsOwn S c m.client → (told : Result (List ToldMarks) Fault) →
       StepsAlike S c (told_epoch own m told) (told_epoch b m told)
   epoch-alike m is (Err fault) = both-end fault
   epoch-alike m is (Ok told) = both-act [] (record m { told = told }) is

@@ -1,12 +1,11 @@
 -- The words that a client's own book has are those of the group's book, where the client uses them.
-use Rattle.std.proofs.Common.{◌≡◌, ap, ap₂, ℕ, ◌<◌, List}
-use Rattle.std.proofs.Common.{Option, Some, None}
+use Rattle.std.proofs.Common.{◌≡◌, ap, ap₂, ℕ, ◌<◌, List, Option, Some, None}
 use Rattle.tk_script.specs.declared.script.Script.{Script}
 use Rattle.tk_words.specs.Words.{WordBook, BookWords, words_of, sealed, opened}
 use Rattle.tk_seal.specs.Seal.{sealed_with, opened_with}
 use Rattle.tk_client.specs.declared.waiting.Waiting.{Waiting}
 use Rattle.tk_client.specs.Writes.{write_of, dummy}
-use Rattle.tk_meeting.specs.OwnBooks.{Uses, HasKeys}
+use Rattle.tk_meeting.specs.OwnBooks.{Uses, AgreesForClient}
 
 -- a log that a client uses
 pub record IsUsed (S : Script) (c log : ℕ) : Type 0 where
@@ -18,7 +17,7 @@ abbrev pub IsOwnTextOrNone : Script → ℕ → Option Waiting → Type 0
 IsOwnTextOrNone S c None = Unit {0}
 IsOwnTextOrNone S c (Some y) = IsUsed S c y.log
 
-module _ (S : Script) (b own : WordBook) (c : ℕ) (keys : HasKeys S b c own) where
+module _ (S : Script) (b own : WordBook) (c : ℕ) (keys : AgreesForClient S b c own) where
   abbrev pub w : BookWords
   w = words_of S.shape b
 

@@ -8,7 +8,7 @@ use Rattle.tk_packets.specs.Packets.{PacketView}
 use Rattle.tk_packets.specs.Lines.{Passing, taken}
 use Rattle.tk_member.specs.declared.fault.Fault.{Fault}
 use Rattle.tk_member.specs.Members.{MemberState, is_over}
-use Rattle.tk_member.specs.Acting.{Turned, unmoved, behind}
+use Rattle.tk_member.specs.Acting.{ActedMember, unmoved, behind}
 use Rattle.tk_member.specs.Steps.{step}
 use Rattle.tk_member.specs.Courses.{behind_if, after_packet, after_packets, stood_by, member_next, sends_next, exchanged}
 use Rattle.tk_meeting.specs.Programs.{first_member, ActsAsMember}
@@ -17,15 +17,15 @@ use Rattle.tk_meeting.proofs.programs.Standing.{IsTaken, AllTaken}
 
 -- ---- packets after which a member stands end it nowhere
 
-pub none-stands : (b : WordBook) (ps : List PacketView) (t : Turned) → fold_l (after_packet b) None ps ≡ Some t → ⊥
+pub none-stands : (b : WordBook) (ps : List PacketView) (t : ActedMember) → fold_l (after_packet b) None ps ≡ Some t → ⊥
 none-stands b [] t is = absurd (cc (is))
 none-stands b (p ∷ ps) t is = none-stands b ps t is
 
-all-taken : (b : WordBook) (u t : Turned) (ps : List PacketView) → fold_l (after_packet b) (Some u) ps ≡ Some t →
+all-taken : (b : WordBook) (u t : ActedMember) (ps : List PacketView) → fold_l (after_packet b) (Some u) ps ≡ Some t →
     AllTaken b u.member ps
 all-taken b u t [] is = tt
 all-taken b u t (p ∷ ps) is =
-    let by : (r : Result Turned Fault) → fold_l (after_packet b) (behind_if u r) ps ≡ Some t →
+    let by : (r : Result ActedMember Fault) → fold_l (after_packet b) (behind_if u r) ps ≡ Some t →
     IsTaken r × AllTaken b (stood_by u.member r) ps =
     λ r. elim r as (λ x. fold_l (after_packet b) (behind_if u x) ps ≡ Some t →
     IsTaken x × AllTaken b (stood_by u.member x) ps) [
@@ -44,7 +44,7 @@ all-taken b u t (p ∷ ps) is =
     in
     go (is_over u.member) is
 
-pub stands-taken : (b : WordBook) (m : MemberState) (t : Turned) (ps : List PacketView) →
+pub stands-taken : (b : WordBook) (m : MemberState) (t : ActedMember) (ps : List PacketView) →
     after_packets b m ps ≡ Some t → AllTaken b m ps
 unfolding after_packets
 stands-taken b m t ps is = all-taken b (unmoved m) t ps is

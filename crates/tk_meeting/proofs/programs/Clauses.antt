@@ -11,7 +11,7 @@ use Rattle.tk_member.specs.declared.fault.Fault.{Fault}
 use Rattle.tk_member.specs.declared.fault.Fault.TheVariants.{Memory, Read, Write, Cut, Long, Setup}
 use Rattle.tk_member.specs.declared.fault.Fault.TheVariants.{Peer, Differ, Refused, Older}
 use Rattle.tk_member.specs.Members.{MemberState}
-use Rattle.tk_member.specs.Acting.{Turned}
+use Rattle.tk_member.specs.Acting.{ActedMember}
 use Rattle.tk_member.specs.Courses.{Told, exchanged, IsCourse, EndsBetween, EndsAt, EndsWriting, EndsFor, Ends}
 use Rattle.tk_meeting.specs.Programs.{first_member, HasActed, MembersAct}
 
@@ -47,7 +47,7 @@ module _ (S : Script) (b : WordBook) (c : ℕ) (first : PacketView) (gone : Gone
             };
       }
 
-  course : (t : Turned) (left middle : Told) (new : Gone) → IsCourse b m t left middle begins new →
+  course : (t : ActedMember) (left middle : Told) (new : Gone) → IsCourse b m t left middle begins new →
       HasActed S b c first new.past
   course t left middle new is =
       let xs = exchanged b m is.takes.packets in

@@ -15,9 +15,8 @@ use Rattle.tk_serve.proofs.Offers.{after-is}
 use Rattle.tk_meeting.specs.Meeting.{Meeting, opening, for_peer, frames_for}
 use Rattle.tk_meeting.specs.Events.{Event, Said, Ticked, WentAhead, Greeted, Up, Down, happens, after_events, met, taken_of}
 use Rattle.tk_meeting.specs.Programs.{Doing, OfClient, OfServer, of_client, of_server, put_in, first_member}
-use Rattle.tk_meeting.specs.Programs.{IsFront, IsNext, IsFrameUp, IsFrameDown}
-use Rattle.tk_meeting.specs.Programs.{IsHonest, MayCome, ArePrograms}
-use Rattle.tk_meeting.specs.Programs.{Shows, IsSomeMeeting, ProgramsMeet}
+use Rattle.tk_meeting.specs.Programs.{IsFront, IsNextFrame, IsFrameUp, IsFrameDown, IsHonest, MayHappen, ArePrograms}
+use Rattle.tk_meeting.specs.Programs.{StandAsPrograms, IsSomeMeeting, ProgramsMeet}
 use Rattle.tk_meeting.proofs.courses.Picks.{itself}
 use Rattle.tk_meeting.proofs.telling.Growing.{after-append}
 use Rattle.tk_meeting.proofs.members.Packets.{peer-append, frames-append}
@@ -51,7 +50,7 @@ same-behind [] ys zs is = is
 same-behind (x ∷ xs) ys zs is = let more : xs ++ ys ≡ xs ++ zs = cc (is) in same-behind xs ys zs more
 
 -- the next of the frames that were put, some of which were taken, is the next on its way
-next-comes : (frame : List ℕ) (took put all way : List (List ℕ)) → IsNext frame took put → IsFront put all →
+next-comes : (frame : List ℕ) (took put all way : List (List ℕ)) → IsNextFrame frame took put → IsFront put all →
     took ++ way ≡ all → (rest : List (List ℕ)) × (way ≡ frame ∷ rest)
 next-comes frame took put all way next front whole =
     let rest = next.rest ++ front.rest in
@@ -226,7 +225,7 @@ module _ (S : Script) (books : ℕ → WordBook) where
         (server-steps S books (client_took before) (server_took before) m stands.at c j frame.low frame.one frame.most p
         frame.peer comes.0 comes.1))
 
-    stands-next : (e : Doing) → d ≡ e → MayCome S.shape before e → Stands (before ++ d ∷ [])
+    stands-next : (e : Doing) → d ≡ e → MayHappen S.shape before e → Stands (before ++ d ∷ [])
     stands-next (OfClient c (Took p)) is (low, may) = elim may [
       | inl word ↦ hears-word c p is low word.host word.word word.spelled word.honest
       | inr frame ↦ takes-frame c p is low frame
@@ -254,7 +253,7 @@ module _ (S : Script) (books : ℕ → WordBook) where
   -- ---- what a meeting shows then
 
   shows : (ds : List Doing) → ArePrograms S books ds → (stands : Stands ds) →
-      Shows S books ds (met S books stands.events)
+      StandAsPrograms S books ds (met S books stands.events)
   shows ds are stands =
       let at = stands.at in
       let client : (c : ℕ) → c < S.shape.clients →

@@ -7,7 +7,7 @@ use Rattle.tk_script.specs.declared.script.Script.{Script}
 use Rattle.tk_words.specs.Words.{WordBook}
 use Rattle.tk_packets.specs.Packets.{PacketView}
 use Rattle.tk_serve.specs.Seats.{empty_seats}
-use Rattle.tk_serve.specs.Steps.{Step, step, step_on}
+use Rattle.tk_serve.specs.Steps.{SeatsAndPackets, step, step_on}
 use Rattle.tk_serve.specs.Courses.{seats_next, answers_next}
 use Rattle.tk_meeting.specs.Meeting.{Meeting, changed, server_went, frames_for}
 use Rattle.tk_meeting.specs.Events.{Up, is_client, is_server, happens, comes_up}
@@ -81,7 +81,7 @@ module _ (S : Script) (books : ℕ → WordBook) (clients servers : ℕ → List
   abbrev now : ℕ → List PacketView
   now = one_more j p servers
 
-  abbrev seats_then : Step
+  abbrev seats_then : SeatsAndPackets
   seats_then = step S.shape (m.seats j) c p.bytes
 
   abbrev then : Meeting
@@ -97,7 +97,7 @@ module _ (S : Script) (books : ℕ → WordBook) (clients servers : ℕ → List
   seats-are i first last =
       pick (λ b. cond b seats_then.seats (m.seats i) ≡ seats_from S.shape (cond b (servers j ++ p ∷ []) (servers i)))
       (i == j)
-      (λ _. ap (λ (s : Step). s.seats) steps-on
+      (λ _. ap (λ (s : SeatsAndPackets). s.seats) steps-on
       ∙ sym (state-one (seats_next S.shape) (answers_next S.shape) (empty_seats S.shape) (servers j) p))
       (λ _. at.seats i first last)
 
@@ -115,7 +115,7 @@ module _ (S : Script) (books : ℕ → WordBook) (clients servers : ℕ → List
       here =
           sym (append_assoc (frames_for j (clients d)) (m.down j d) (frames_for (d + 1) seats_then.packets))
           ∙ ap₂ (λ (xs ys : List (List ℕ)). xs ++ ys) (at.down j d one most within)
-          (ap (λ (s : Step). frames_for (d + 1) s.packets) steps-on)
+          (ap (λ (s : SeatsAndPackets). frames_for (d + 1) s.packets) steps-on)
           ∙ sym (frames-append (d + 1) (served_of S (servers j))
           (answers_next S.shape (seats_from S.shape (servers j)) p))
           ∙ ap (frames_for (d + 1))

@@ -5,7 +5,7 @@ use Rattle.tk_words.specs.Words.{WordBook}
 use Rattle.tk_packets.specs.Packets.{PacketView}
 use Rattle.tk_member.specs.declared.fault.Fault.{Fault}
 use Rattle.tk_member.specs.Members.{MemberState}
-use Rattle.tk_member.specs.Acting.{Turned}
+use Rattle.tk_member.specs.Acting.{ActedMember}
 use Rattle.tk_member.specs.Steps.{step}
 use Rattle.tk_member.specs.Courses.{stood_by, member_next}
 use Rattle.tk_meeting.specs.Programs.{state_after}
@@ -15,7 +15,7 @@ use Rattle.tk_meeting.proofs.scripts.Lasting.{base_of, LastsIn, step-lasts}
 shape-stays : (b : WordBook) (m : MemberState) (p : PacketView) → (member_next b m p).client.shape ≡ m.client.shape
 shape-stays b m p = by (step b m p) (step-lasts b m p)
   where
-    by : (r : Result Turned Fault) → LastsIn (base_of m) r → (stood_by m r).client.shape ≡ m.client.shape
+    by : (r : Result ActedMember Fault) → LastsIn (base_of m) r → (stood_by m r).client.shape ≡ m.client.shape
     by (Ok t) lasts = ap (λ (x : Shape × List ℕ). x.0) lasts
     by (Err fault) lasts = refl
 

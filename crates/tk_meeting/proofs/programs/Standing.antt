@@ -8,7 +8,7 @@ use Rattle.tk_serve.specs.Seats.{empty_seats}
 use Rattle.tk_serve.specs.Courses.{seats_next, answers_next}
 use Rattle.tk_member.specs.declared.fault.Fault.{Fault}
 use Rattle.tk_member.specs.Members.{MemberState}
-use Rattle.tk_member.specs.Acting.{Turned}
+use Rattle.tk_member.specs.Acting.{ActedMember}
 use Rattle.tk_member.specs.Steps.{step}
 use Rattle.tk_member.specs.Courses.{member_next, sends_next}
 use Rattle.tk_meeting.specs.Meeting.{Meeting, for_peer, frames_for}
@@ -16,7 +16,7 @@ use Rattle.tk_meeting.specs.Programs.{first_member, member_after, seats_from, st
 use Rattle.tk_meeting.proofs.programs.Moments.{sent_after}
 
 -- a packet doesn't end a member
-abbrev pub IsTaken : Result Turned Fault → Type 0
+abbrev pub IsTaken : Result ActedMember Fault → Type 0
 IsTaken (Ok t) = Unit {0}
 IsTaken (Err fault) = ⊥
 

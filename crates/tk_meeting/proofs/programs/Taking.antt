@@ -8,7 +8,7 @@ use Rattle.tk_packets.specs.Packets.{PacketView}
 use Rattle.tk_serve.specs.Seats.{Seat}
 use Rattle.tk_member.specs.declared.fault.Fault.{Fault}
 use Rattle.tk_member.specs.Members.{MemberState}
-use Rattle.tk_member.specs.Acting.{Turned}
+use Rattle.tk_member.specs.Acting.{ActedMember}
 use Rattle.tk_member.specs.Steps.{step}
 use Rattle.tk_member.specs.Courses.{stood_by, sent_by, member_next, sends_next}
 use Rattle.tk_meeting.specs.Meeting.{Meeting, changed, member_went, for_peer, frames_for}
@@ -21,7 +21,7 @@ use Rattle.tk_meeting.proofs.programs.Standing.{IsAt, IsTaken, AllTaken, taken-l
 
 -- ---- what a step does to a meeting, whether the member goes on or ends
 
-pub record Went (m : Meeting) (c : ℕ) (r : Result Turned Fault) (n : Meeting) : Type 0 where
+pub record Went (m : Meeting) (c : ℕ) (r : Result ActedMember Fault) (n : Meeting) : Type 0 where
   pub members : (k : ℕ) → n.members k ≡ changed c (stood_by (m.members c) r) m.members k
   pub told : (k : ℕ) → n.told k ≡ changed c (m.told c ++ for_peer 0 (sent_by r)) m.told k
   pub up : (k j : ℕ) → n.up k j ≡ cond (k == c) (m.up c j ++ frames_for j (sent_by r)) (m.up k j)
@@ -30,7 +30,7 @@ pub record Went (m : Meeting) (c : ℕ) (r : Result Turned Fault) (n : Meeting) 
   pub apart : (k : ℕ) → (k == c) ≡ false → n.ended k ≡ m.ended k
   pub going : IsTaken r → n.ended ≡ m.ended
 
-pub went : (m : Meeting) (c : ℕ) (r : Result Turned Fault) → Went m c r (member_went m c r)
+pub went : (m : Meeting) (c : ℕ) (r : Result ActedMember Fault) → Went m c r (member_went m c r)
 went m c (Ok t) =
     record {
       members = λ k. refl;
@@ -83,7 +83,7 @@ module _ (S : Script) (books : ℕ → WordBook) (clients servers : ℕ → List
     pub down : (j d : ℕ) → 1 ≤ j → j ≤ S.shape.servers → d < S.shape.clients →
         frames_for j (now d) ++ left.down j d ≡ frames_for (d + 1) (served_of S (servers j))
 
-  module _ (left : Meeting) (like : IsLike left) (r : Result Turned Fault)
+  module _ (left : Meeting) (like : IsLike left) (r : Result ActedMember Fault)
       (steps : r ≡ step (books c) (left.members c) p) where
     abbrev then : Meeting
     then = member_went left c r
@@ -100,11 +100,11 @@ module _ (S : Script) (books : ℕ → WordBook) (clients servers : ℕ → List
     sent-more : sent_of S books c (clients c ++ p ∷ []) ≡ sent_of S books c (clients c) ++ sent_by r
     sent-more =
         sent-one (member_next (books c)) (sends_next (books c)) (first_member S c) (clients c) p
-        ∙ ap (λ (x : Result Turned Fault). sent_of S books c (clients c) ++ sent_by x) (sym by)
+        ∙ ap (λ (x : Result ActedMember Fault). sent_of S books c (clients c) ++ sent_by x) (sym by)
 
     stood-more : stood_by (left.members c) r ≡ member_after S books c (clients c ++ p ∷ [])
     stood-more =
-        ap₂ (λ (s : MemberState) (x : Result Turned Fault). stood_by s x) stands by
+        ap₂ (λ (s : MemberState) (x : Result ActedMember Fault). stood_by s x) stands by
         ∙ sym (state-one (member_next (books c)) (sends_next (books c)) (first_member S c) (clients c) p)
 
     members-are : (k : ℕ) → k < S.shape.clients → then.members k ≡ member_after S books k (now k)

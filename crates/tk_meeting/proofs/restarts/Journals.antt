@@ -13,7 +13,7 @@ use Rattle.tk_member.specs.declared.fault.Fault.{Fault}
 use Rattle.tk_member.specs.declared.fault.Fault.TheVariants.{Older, Peer}
 use Rattle.tk_member.specs.Words.{word_in}
 use Rattle.tk_member.specs.Members.{MemberState, is_over}
-use Rattle.tk_member.specs.Acting.{Turned, unmoved, behind, acts}
+use Rattle.tk_member.specs.Acting.{ActedMember, unmoved, behind, acts}
 use Rattle.tk_member.specs.Steps.{tells_and_acts, heard, served, step}
 use Rattle.tk_member.specs.Courses.{behind_if, after_packet, after_packets}
 use Rattle.tk_meeting.specs.Meeting.{frames_for}
@@ -50,20 +50,20 @@ shorter-front (x ∷ xs) (y ∷ ys) zs one two few =
 -- ---- packets one after the other
 
 module _ (b : WordBook) where
-  abbrev Goes : Turned → List PacketView → Turned → Type 0
+  abbrev Goes : ActedMember → List PacketView → ActedMember → Type 0
   Goes u ps t = fold_l (after_packet b) (Some u) ps ≡ Some t
 
   -- the first packet makes it stand so, and then it goes on
-  record Begins (u : Turned) (p : PacketView) (ps : List PacketView) (t : Turned) : Type 0 where
-    pub next : Turned
+  record Begins (u : ActedMember) (p : PacketView) (ps : List PacketView) (t : ActedMember) : Type 0 where
+    pub next : ActedMember
     pub steps : step b u.member p ≡ Ok next
     pub going : is_over u.member ≡ false
     pub goes : Goes (behind u.packets next) ps t
 
-  begins : (u : Turned) (p : PacketView) (ps : List PacketView) (t : Turned) → Goes u (p ∷ ps) t → Begins u p ps t
+  begins : (u : ActedMember) (p : PacketView) (ps : List PacketView) (t : ActedMember) → Goes u (p ∷ ps) t → Begins u p ps t
   begins u p ps t goes = by-over (is_over u.member) refl goes
     where
-      by-step : (r : Result Turned Fault) → step b u.member p ≡ r → is_over u.member ≡ false →
+      by-step : (r : Result ActedMember Fault) → step b u.member p ≡ r → is_over u.member ≡ false →
           fold_l (after_packet b) (behind_if u r) ps ≡ Some t → Begins u p ps t
       by-step (Ok v) is going it = record { next = v; steps = is; going = going; goes = it }
       by-step (Err e) is going it = absurd (none-stands b ps t it)
@@ -74,10 +74,10 @@ module _ (b : WordBook) where
       by-over false is it = by-step (step b u.member p) refl is it
 
   -- what it put stays in front
-  stays : (u t : Turned) (ps : List PacketView) → Goes u ps t → IsFront u.packets t.packets
+  stays : (u t : ActedMember) (ps : List PacketView) → Goes u ps t → IsFront u.packets t.packets
   stays u t [] goes =
       let same : u ≡ t = cc (goes) in
-      record { rest = []; whole = append-nil u.packets ∙ ap (λ (v : Turned). v.packets) same }
+      record { rest = []; whole = append-nil u.packets ∙ ap (λ (v : ActedMember). v.packets) same }
   stays u t (p ∷ ps) goes =
       let first = begins u p ps t goes in
       let next = behind u.packets first.next in
@@ -85,12 +85,12 @@ module _ (b : WordBook) where
       (stays next t ps first.goes)
 
   -- where it stands after the first packets
-  record Between (u : Turned) (ps qs : List PacketView) (t : Turned) : Type 0 where
-    pub at : Turned
+  record Between (u : ActedMember) (ps qs : List PacketView) (t : ActedMember) : Type 0 where
+    pub at : ActedMember
     pub first : Goes u ps at
     pub then : Goes at qs t
 
-  between : (u t : Turned) (ps qs : List PacketView) → Goes u (ps ++ qs) t → Between u ps qs t
+  between : (u t : ActedMember) (ps qs : List PacketView) → Goes u (ps ++ qs) t → Between u ps qs t
   between u t [] qs goes = record { at = u; first = refl; then = goes }
   between u t (p ∷ ps) qs goes =
       let first = begins u p (ps ++ qs) t goes in
@@ -105,12 +105,12 @@ module _ (b : WordBook) where
   -- ---- how many frames it put for a server
 
   module _ (j : ℕ) (low : 1 ≤ j) where
-    record Counted (u : Turned) : Type 0 where
+    record Counted (u : ActedMember) : Type 0 where
       pub rests : IsResting u.member
       pub most : j ≤ u.member.client.shape.servers
       pub counted : u.member.written + u.member.asked ≡ length (frames_for j u.packets)
 
-    counted-then : (u t : Turned) (ps : List PacketView) → Counted u → Goes u ps t → Counted t
+    counted-then : (u t : ActedMember) (ps : List PacketView) → Counted u → Goes u ps t → Counted t
     counted-then u t [] was goes =
         let same : u ≡ t = cc (goes) in subst Counted same was
     counted-then u t (p ∷ ps) was goes =
@@ -135,18 +135,18 @@ module _ (b : WordBook) where
       step b m p ≡ cond (nat_lt (m.written + m.asked) count) (Err Older) (tells_and_acts b [] m)
   unfolding step
   greeted-by m count p greets =
-      let serves : Result Turned Fault =
+      let serves : Result ActedMember Fault =
       cond (nat_le p.peer m.client.shape.servers) (served b m p.peer p.bytes) (Err Peer)
       in
       ap (λ k. cond k (heard b m (word_in p.bytes)) serves) (eq-eqb p.peer 0 greets.host)
       ∙ ap (heard b m) greets.spelled
 
   -- one that goes on when it is greeted wrote and asked as often, and changed nothing
-  record HasAll (m : MemberState) (count : ℕ) (v : Turned) : Type 0 where
+  record HasAll (m : MemberState) (count : ℕ) (v : ActedMember) : Type 0 where
     pub enough : count ≤ m.written + m.asked
     pub same : v ≡ unmoved m
 
-  has-all : (m : MemberState) (count : ℕ) (p : PacketView) (v : Turned) → IsResting m → Greets count p →
+  has-all : (m : MemberState) (count : ℕ) (p : PacketView) (v : ActedMember) → IsResting m → Greets count p →
       step b m p ≡ Ok v → HasAll m count v
   has-all m count p v rests greets is = elim (cases_lt (m.written + m.asked) count) [
     | inl more ↦
@@ -164,7 +164,7 @@ module _ (b : WordBook) where
         record { enough = few; same = sym acted ∙ ap (behind []) (rests-still b m rests) }
   ]
 
-  greeted-all : (u t : Turned) (greetings : List PacketView) (greeting : PacketView) (later : List PacketView)
+  greeted-all : (u t : ActedMember) (greetings : List PacketView) (greeting : PacketView) (later : List PacketView)
       (count : ℕ) → IsResting u.member → AllByRecursion IsGreeting greetings → Greets count greeting →
       Goes u (greetings ++ greeting ∷ later) t → count ≤ u.member.written + u.member.asked
   greeted-all u t [] greeting later count rests all greets goes =
@@ -174,7 +174,7 @@ module _ (b : WordBook) where
       let first = begins u g (gs ++ greeting ∷ later) t goes in
       let one = has-all u.member all.0.count g first.next rests all.0.greets first.steps in
       let next = behind u.packets first.next in
-      let same : next.member ≡ u.member = ap (λ (v : Turned). v.member) one.same in
+      let same : next.member ≡ u.member = ap (λ (v : ActedMember). v.member) one.same in
       subst (λ (m : MemberState). count ≤ m.written + m.asked) same
       (greeted-all next t gs greeting later count (subst IsResting (sym same) rests) all.1 greets first.goes)
 
@@ -206,7 +206,7 @@ go-on S b c j had again low most begun =
     in
     let count = counted.counted in
     let put = front-of_frames j now.at.packets begun.was.packets
-    (subst (λ (v : Turned). IsFront v.packets begun.was.packets) same
+    (subst (λ (v : ActedMember). IsFront v.packets begun.was.packets) same
     (stays b was.at begun.was begun.kept.rest was.then))
     in
     front-of_front had (frames_for j now.at.packets) (frames_for j again.packets)

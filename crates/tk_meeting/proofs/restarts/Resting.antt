@@ -15,12 +15,11 @@ use Rattle.tk_packets.specs.Packets.{PacketView}
 use Rattle.tk_member.specs.declared.fault.Fault.{Fault}
 use Rattle.tk_member.specs.declared.fault.Fault.TheVariants.{Peer}
 use Rattle.tk_member.specs.Words.{word_in}
-use Rattle.tk_member.specs.Epochs.{Telling, filter_of, marks_at, known}
+use Rattle.tk_member.specs.Epochs.{ToldMarks, filter_of, marks_at, known}
 use Rattle.tk_member.specs.Members.{MemberState}
-use Rattle.tk_member.specs.Acting.{Turned, unmoved, behind, followed_by, packets_from, write_packets, wrote, after_turn}
+use Rattle.tk_member.specs.Acting.{ActedMember, unmoved, behind, followed_by, packets_from, write_packets, wrote, after_turn}
 use Rattle.tk_member.specs.Acting.{turns_known, ahead_due, goes_ahead, ticks_due, goes_by_ticks, may_ask, asks, asks_if_due, acts, epoch_due}
-use Rattle.tk_member.specs.Steps.{tells_and_acts, heard}
-use Rattle.tk_member.specs.Steps.{served, step}
+use Rattle.tk_member.specs.Steps.{tells_and_acts, heard, served, step}
 use Rattle.tk_meeting.specs.Meeting.{frames_for}
 use Rattle.tk_meeting.specs.Shown.{Stand}
 use Rattle.tk_meeting.proofs.members.Packets.{frames-append, own-at, AreToHost, host-alone}
@@ -55,9 +54,9 @@ module _ (b : WordBook) (m : MemberState) (rests : IsResting m) where
   unfolding acts
   rests-still =
       let w = words_of m.client.shape b in
-      ap (λ (t : Turned). followed_by (followed_by t (goes_by_ticks w)) (asks_if_due b)) ahead-still
-      ∙ ap (λ (t : Turned). followed_by (behind [] t) (asks_if_due b)) ticks-still
-      ∙ ap (λ (t : Turned). behind [] t) read-still
+      ap (λ (t : ActedMember). followed_by (followed_by t (goes_by_ticks w)) (asks_if_due b)) ahead-still
+      ∙ ap (λ (t : ActedMember). followed_by (behind [] t) (asks_if_due b)) ticks-still
+      ∙ ap (λ (t : ActedMember). behind [] t) read-still
 
 -- ---- writing
 
@@ -68,7 +67,7 @@ none-left some left done now rest left_then done_then n r l d = omega (arith, n,
 
 known-same : (m l : MemberState) → l.client.shape ≡ m.client.shape → l.told ≡ m.told → turns_known l ≡ turns_known m
 known-same m l shape told =
-    ap₂ (λ (s : Shape) (t : List Telling). min (turn_count s) ((known s t + 1) * s.ticks)) shape told
+    ap₂ (λ (s : Shape) (t : List ToldMarks). min (turn_count s) ((known s t + 1) * s.ticks)) shape told
 
 -- ---- frames for one server
 
@@ -116,7 +115,7 @@ module _ (j : ℕ) (low : 1 ≤ j) where
   -- ---- acting
 
   -- it rests then, and put so many frames
-  pub record Puts (before : MemberState) (t : Turned) : Type 0 where
+  pub record Puts (before : MemberState) (t : ActedMember) : Type 0 where
     pub rests : IsResting t.member
     pub most : j ≤ t.member.client.shape.servers
     pub counted : t.member.written + t.member.asked
@@ -201,11 +200,11 @@ module _ (j : ℕ) (low : 1 ≤ j) where
   -- ---- any packet
 
   module _ (b : WordBook) (m : MemberState) (most : j ≤ m.client.shape.servers) where
-    abbrev pub PutsIf : Result Turned Fault → Type 0
+    abbrev pub PutsIf : Result ActedMember Fault → Type 0
     PutsIf (Ok t) = Puts m t
     PutsIf (Err fault) = Unit {0}
 
-    either : (k : Bool) (r t : Result Turned Fault) → PutsIf r → PutsIf t → PutsIf (cond k r t)
+    either : (k : Bool) (r t : Result ActedMember Fault) → PutsIf r → PutsIf t → PutsIf (cond k r t)
     either true r t this that = this
     either false r t this that = that
 
@@ -232,7 +231,7 @@ module _ (j : ℕ) (low : 1 ≤ j) where
           counted = omega (arith, counted, none, both, written, asked);
         }
 
-    goes-puts : (writing : Writing) (r : Result Turned Fault) (s : Result Stand Fault) →
+    goes-puts : (writing : Writing) (r : Result ActedMember Fault) (s : Result Stand Fault) →
         EndsOrReadies b writing m r s → PutsIf r
     goes-puts writing r s (inl e) = subst PutsIf (sym e.is) tt
     goes-puts writing r s (inr e) =
@@ -243,7 +242,7 @@ module _ (j : ℕ) (low : 1 ≤ j) where
     pub step-puts : (p : PacketView) → PutsIf (step b m p)
     unfolding step
     step-puts p =
-        let serves : Result Turned Fault =
+        let serves : Result ActedMember Fault =
         cond (nat_le p.peer m.client.shape.servers) (served b m p.peer p.bytes) (Err Peer)
         in
         either (p.peer == 0) (heard b m (word_in p.bytes)) serves

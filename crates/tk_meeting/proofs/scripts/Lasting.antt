@@ -16,7 +16,7 @@ use Rattle.tk_member.specs.declared.word.HostWord.{HostWord}
 use Rattle.tk_member.specs.declared.word.HostWord.TheVariants.{Say, Tick, Ahead, Has}
 use Rattle.tk_member.specs.Words.{word_in}
 use Rattle.tk_member.specs.Members.{MemberState}
-use Rattle.tk_member.specs.Acting.{Turned, after_turn, wrote, goes_ahead, goes_by_ticks, may_ask, asks, unmoved}
+use Rattle.tk_member.specs.Acting.{ActedMember, after_turn, wrote, goes_ahead, goes_by_ticks, may_ask, asks, unmoved}
 use Rattle.tk_member.specs.Acting.{asks_if_due, ahead_due, ticks_due, acts}
 use Rattle.tk_member.specs.Steps.{heard, served, step}
 use Rattle.tk_meeting.specs.Shown.{Stand, stand, word_shown, frame_shown}
@@ -40,7 +40,7 @@ wrote-lasts w (suc n) m = wrote-lasts w n (after_turn m)
 
 asks-lasts : (b : WordBook) (m : MemberState) → base_of (asks_if_due b m).member ≡ base_of m
 asks-lasts b m =
-    cond-has (λ (t : Turned). base_of t.member ≡ base_of m) (may_ask m) (asks b m) (unmoved m) refl refl
+    cond-has (λ (t : ActedMember). base_of t.member ≡ base_of m) (may_ask m) (asks b m) (unmoved m) refl refl
 
 acts-lasts : (b : WordBook) (m : MemberState) → base_of (acts b m).member ≡ base_of m
 unfolding acts
@@ -55,11 +55,11 @@ acts-lasts b m =
 -- ---- packets
 
 -- a member that is turned so has this shape and these logs still
-abbrev pub LastsIn : Shape × List ℕ → Result Turned Fault → Type 0
+abbrev pub LastsIn : Shape × List ℕ → Result ActedMember Fault → Type 0
 LastsIn x (Ok t) = base_of t.member ≡ x
 LastsIn x (Err fault) = Unit {0}
 
-goes-lasts : (b : WordBook) (writing : Writing) (m : MemberState) (r : Result Turned Fault) (s : Result Stand Fault) →
+goes-lasts : (b : WordBook) (writing : Writing) (m : MemberState) (r : Result ActedMember Fault) (s : Result Stand Fault) →
     logs_of writing.logs ≡ logs_of m.client.writing.logs → EndsOrReadies b writing m r s → LastsIn (base_of m) r
 goes-lasts b writing m r s same (inl e) = subst (LastsIn (base_of m)) (sym e.is) tt
 goes-lasts b writing m r s same (inr e) =

@@ -17,13 +17,11 @@ use Rattle.tk_report.specs.Queues.{writes_of}
 use Rattle.tk_member.specs.declared.fault.Fault.{Fault}
 use Rattle.tk_member.specs.declared.word.HostWord.{HostWord}
 use Rattle.tk_member.specs.declared.word.HostWord.TheVariants.{Say}
-use Rattle.tk_member.specs.Acting.{Turned}
+use Rattle.tk_member.specs.Acting.{ActedMember}
 use Rattle.tk_member.specs.Steps.{heard, served}
 use Rattle.tk_report.proofs.Offers.{unwritten-logs, each-append}
 use Rattle.tk_meeting.specs.Meeting.{Meeting, Saying, opening, changed, member_went}
-use Rattle.tk_meeting.specs.Events.{Event, noted, say_fault, hears}
-use Rattle.tk_meeting.specs.Events.{comes_up, comes_down}
-use Rattle.tk_meeting.specs.Events.{happens, after_events, met}
+use Rattle.tk_meeting.specs.Events.{Event, noted, say_fault, hears, comes_up, comes_down, happens, after_events, met}
 use Rattle.tk_meeting.proofs.own.Openings.{kept}
 use Rattle.tk_meeting.proofs.scripts.Lasting.{base_of, logs_of, LastsIn, heard-lasts, served-lasts}
 use Rattle.tk_meeting.proofs.telling.Ways.{event-has}
@@ -113,7 +111,7 @@ noted-sayable S m c y None is may =
 
 -- ---- a member goes on
 
-pub went-sayable : (S : Script) (m : Meeting) (c : ℕ) (r : Result Turned Fault) → IsSayable S m →
+pub went-sayable : (S : Script) (m : Meeting) (c : ℕ) (r : Result ActedMember Fault) → IsSayable S m →
     LastsIn (base_of (m.members c)) r → IsSayable S (member_went m c r)
 went-sayable S m c (Err fault) is lasts = record { bases = is.bases; each = is.each }
 went-sayable S m c (Ok t) is lasts =

@@ -8,7 +8,7 @@ use Rattle.tk_script.specs.declared.say.Say.{Say}
 use Rattle.tk_script.specs.Sent.{writer_of}
 use Rattle.tk_meeting.specs.Meeting.{Meeting, Saying}
 use Rattle.tk_meeting.specs.Events.{met}
-use Rattle.tk_meeting.specs.Laws.{saying_of, Tells}
+use Rattle.tk_meeting.specs.Laws.{saying_of, HasWhatWasSaid}
 use Rattle.tk_meeting.specs.Scripts.{MeetingsHaveScripts}
 use Rattle.tk_meeting.proofs.scripts.Sayable.{MaySay, IsSayable, met-sayable}
 use Rattle.tk_meeting.proofs.scripts.Listing.{says_from, IsFit, from-ordered, from-sound}
@@ -55,7 +55,7 @@ module _ (S : Script) (m : Meeting) (is : IsSayable S m) where
             };
       }
 
-  pub tells : Tells script_of m
+  pub tells : HasWhatWasSaid script_of m
   tells c g client in_turns =
       sym
       (ap (λ (ys : List Say). map saying_of (filter (λ y. writer_of S y.log == c) ys))

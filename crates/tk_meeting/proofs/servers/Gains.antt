@@ -11,7 +11,7 @@ use Rattle.tk_words.specs.Words.{WordBook}
 use Rattle.tk_packets.specs.Packets.{PacketView, packet}
 use Rattle.tk_serve.specs.Seats.{Seat}
 use Rattle.tk_serve.specs.Told.{told}
-use Rattle.tk_serve.specs.Steps.{Step, gain, packets_gained, all_gained}
+use Rattle.tk_serve.specs.Steps.{SeatsAndPackets, gain, packets_gained, all_gained}
 use Rattle.tk_serve.proofs.Offers.{flat_map-one}
 use Rattle.tk_meeting.specs.Meeting.{frames_for}
 use Rattle.tk_meeting.proofs.Canonical.{AreFronts, stream}
@@ -65,7 +65,7 @@ frames-gained shape old new d client =
 -- Of seats that were the first writes and reads of each client a step made the first of later numbers,
 -- and it told each client what comes next.
 pub record TakesFrame (S : Script) (b : WordBook) (j : ℕ) (writes reads later_writes later_reads : ℕ → ℕ)
-    (s : Step) : Type 0 where
+    (s : SeatsAndPackets) : Type 0 where
   pub fronts : AreFronts S b j later_writes later_reads s.seats
   pub tells : (d : ℕ) → d < S.shape.clients →
       stream S b d j (newest_by S.shape writes) (reads d) ++ frames_for (d + 1) s.packets

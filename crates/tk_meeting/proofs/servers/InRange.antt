@@ -20,9 +20,8 @@ use Rattle.tk_client.proofs.InRangeLaws.{frame-in_range}
 use Rattle.tk_report.specs.Queues.{waiting_of}
 use Rattle.tk_report.specs.Entries.{write_at}
 use Rattle.tk_report.specs.Exchange.{read_at, read_pair}
-use Rattle.tk_report.proofs.Offers.{write_at-client, write_at-turn, pair-low, length-written}
+use Rattle.tk_report.proofs.Offers.{write_at-client, write_at-turn, pair-low, length-written, some_buckets}
 use Rattle.tk_serve.proofs.Offers.{phase-before}
-use Rattle.tk_report.proofs.Offers.{some_buckets}
 use Rattle.tk_meeting.proofs.Canonical.{serial, write_in, read_from}
 use Rattle.tk_meeting.proofs.servers.Streams.{read-epoch}
 

@@ -22,7 +22,7 @@ use Rattle.tk_serve.specs.declared.refusal.Refusal.TheVariants as refusal
 use Rattle.tk_serve.specs.Seats.{Seat, seat_of, with_write, with_read}
 use Rattle.tk_serve.specs.Refusals.{unless, write_misplaced, read_misplaced, write_refusal, read_refusal}
 use Rattle.tk_serve.specs.Refusals.{is_read_kind, refusal_by, due_of}
-use Rattle.tk_serve.specs.Steps.{Step, step, with_frame}
+use Rattle.tk_serve.specs.Steps.{SeatsAndPackets, step, with_frame}
 use Rattle.tk_serve.proofs.Offers.{write-placed, read-placed_by, told_step, step-none}
 use Rattle.tk_meeting.specs.Meeting.{changed}
 use Rattle.tk_meeting.proofs.Canonical.{write_in, read_from, AreFronts}
@@ -124,7 +124,7 @@ module _ (S : Script) (b : WordBook) (j : ℕ) (writes reads : ℕ → ℕ) (sea
       ∙ sym (ap (λ (s : Seat). length s.writes) (fronts.each c client)
       ∙ length-map-range_with_len (write_in S b c) 0 (writes c)))
       in
-      subst (λ (s : Step). TakesFrame S b j writes reads (bumped c writes) reads s) (sym taken)
+      subst (λ (s : SeatsAndPackets). TakesFrame S b j writes reads (bumped c writes) reads s) (sym taken)
       (tells-next S b j writes reads (bumped c writes) reads seats (with_write seats c w) fronts
       (write-fronts S b j writes reads seats fronts c client due)
       (newest-grows S.shape writes (bumped c writes) (λ k low. bumped-above c writes k)) (λ d. omega arith))
@@ -143,6 +143,6 @@ module _ (S : Script) (b : WordBook) (j : ℕ) (writes reads : ℕ → ℕ) (sea
       ∙ length-map-range_with_len (read_from S b c j) 0 (reads c)))
       (read-epoch S b c j (reads c) client due ∙ ap (phases_over S.shape) (sym turn))
       in
-      subst (λ (s : Step). TakesFrame S b j writes reads writes (bumped c reads) s) (sym taken)
+      subst (λ (s : SeatsAndPackets). TakesFrame S b j writes reads writes (bumped c reads) s) (sym taken)
       (tells-next S b j writes reads writes (bumped c reads) seats (with_read seats c r) fronts
       (read-fronts S b j writes reads seats fronts c client due) (omega arith) (bumped-above c reads))

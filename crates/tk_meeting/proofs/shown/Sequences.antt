@@ -1,6 +1,5 @@
 -- Members to which packets come one after the other.
-use Rattle.std.proofs.Common.{◌≡◌, refl, ap, ap₂, sym, ◌∙◌, ℕ, Bool, true, false, cond, List, []}
-use Rattle.std.proofs.Common.{◌∷◌, map}
+use Rattle.std.proofs.Common.{◌≡◌, refl, ap, ap₂, sym, ◌∙◌, ℕ, Bool, true, false, cond, List, [], ◌∷◌, map}
 use Rattle.std.proofs.Common.{Option, Some, None}
 use Rattle.std.specs.Prelude.{◌==◌, ◌&&◌, Result, Ok, Err}
 use Rattle.std.specs.Option.{is_none}
@@ -11,14 +10,11 @@ use Rattle.tk_words.specs.Words.{WordBook}
 use Rattle.tk_packets.specs.Packets.{PacketView}
 use Rattle.tk_member.specs.declared.fault.Fault.{Fault}
 use Rattle.tk_member.specs.Members.{MemberState, is_over}
-use Rattle.tk_member.specs.Acting.{Turned, unmoved}
+use Rattle.tk_member.specs.Acting.{ActedMember, unmoved}
 use Rattle.tk_member.specs.Steps.{step}
 use Rattle.tk_member.specs.Courses.{behind_if, after_packet, after_packets}
-use Rattle.tk_meeting.specs.Shown.{Stand, stand, Came}
-use Rattle.tk_meeting.specs.Shown.{packet_shown, outcome, stand_after, MembersActAlike}
-use Rattle.tk_meeting.proofs.shown.Steps.{acting, none-shown}
-use Rattle.tk_meeting.proofs.shown.Steps.{step_so}
-use Rattle.tk_meeting.proofs.shown.Steps.{step-outcome}
+use Rattle.tk_meeting.specs.Shown.{Stand, stand, Came, packet_shown, outcome, stand_after, MembersActAlike}
+use Rattle.tk_meeting.proofs.shown.Steps.{acting, none-shown, step_so, step-outcome}
 use Rattle.tk_meeting.proofs.telling.Rising.{cond-has}
 use Rattle.tk_meeting.proofs.scripts.Lasting.{base_of, LastsIn, step-lasts}
 
@@ -43,29 +39,29 @@ over-shown m =
     let turns = turn_count m.client.shape in
     ap (λ (t : Bool). m.written == turns && m.asked == turns && t) (sym (none-shown m.client.read))
 
-kept-shown : (t : Turned) (r : Result Turned Fault) → stand_after (behind_if t r) ≡ kept (outcome r)
+kept-shown : (t : ActedMember) (r : Result ActedMember Fault) → stand_after (behind_if t r) ≡ kept (outcome r)
 unfolding kept
 kept-shown t (Ok u) = refl
 kept-shown t (Err fault) = refl
 
 -- one that takes more has this shape
-abbrev IsOfShape : Shape → Option Turned → Type 0
+abbrev IsOfShape : Shape → Option ActedMember → Type 0
 IsOfShape shape None = Unit {0}
 IsOfShape shape (Some t) = t.member.client.shape ≡ shape
 
-behind-of_shape : (shape : Shape) (t : Turned) (m : MemberState) (r : Result Turned Fault) → m.client.shape ≡ shape →
+behind-of_shape : (shape : Shape) (t : ActedMember) (m : MemberState) (r : Result ActedMember Fault) → m.client.shape ≡ shape →
     LastsIn (base_of m) r → IsOfShape shape (behind_if t r)
 behind-of_shape shape t m (Ok u) has lasts = ap (λ (x : Shape × List ℕ). x.0) lasts ∙ has
 behind-of_shape shape t m (Err fault) has lasts = tt
 
-packet-of_shape : (b : WordBook) (shape : Shape) (o : Option Turned) (p : PacketView) → IsOfShape shape o →
+packet-of_shape : (b : WordBook) (shape : Shape) (o : Option ActedMember) (p : PacketView) → IsOfShape shape o →
     IsOfShape shape (after_packet b o p)
 packet-of_shape b shape None p has = tt
 packet-of_shape b shape (Some t) p has =
     cond-has (IsOfShape shape) (is_over t.member) None (behind_if t (step b t.member p)) tt
     (behind-of_shape shape t t.member (step b t.member p) has (step-lasts b t.member p))
 
-packet-after : (b : WordBook) (shape : Shape) (o : Option Turned) (p : PacketView) → IsOfShape shape o →
+packet-after : (b : WordBook) (shape : Shape) (o : Option ActedMember) (p : PacketView) → IsOfShape shape o →
     stand_after (after_packet b o p) ≡ packet_so (stand_after o) (packet_shown shape p)
 unfolding packet_so
 packet-after b shape None p has = refl
@@ -76,13 +72,13 @@ packet-after b shape (Some t) p has =
     (kept-shown t (step b m p) ∙ ap kept (step-outcome b m p)
     ∙ ap (λ (k : Shape). kept (acting (step_so (stand m) (packet_shown k p)))) has)
   where
-    either : (over : Bool) (o : Option Turned) → stand_after (cond over None o) ≡ cond over None (stand_after o)
+    either : (over : Bool) (o : Option ActedMember) → stand_after (cond over None o) ≡ cond over None (stand_after o)
     either true o = refl
     either false o = refl
 
 -- ---- any number of packets
 
-packets-after : (b : WordBook) (shape : Shape) (o : Option Turned) (ps : List PacketView) → IsOfShape shape o →
+packets-after : (b : WordBook) (shape : Shape) (o : Option ActedMember) (ps : List PacketView) → IsOfShape shape o →
     stand_after (fold_l (after_packet b) o ps)
     ≡ fold_l packet_so (stand_after o) (map (packet_shown shape) ps)
 packets-after b shape o [] has = refl

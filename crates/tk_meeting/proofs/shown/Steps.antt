@@ -1,7 +1,6 @@
 -- How a member stands before it acts follows from how it stood, and from what shows of what came.
 use Rattle.std.proofs.Common.{◌≡◌, inl, inr, refl, ap, sym, subst, ◌∙◌, arith, ℕ, zero, suc, ◌+◌, ◌-◌, ◌*◌, Bool}
-use Rattle.std.proofs.Common.{true, false, cond}
-use Rattle.std.proofs.Common.{List, [], ◌∷◌, map, Option, Some, None}
+use Rattle.std.proofs.Common.{true, false, cond, List, [], ◌∷◌, map, Option, Some, None}
 use Rattle.std.specs.Prelude.{min, nat_le, nat_lt, ◌==◌, ◌&&◌, ◌||◌, replicate, slice_index, slice_index_or, slice_set}
 use Rattle.std.specs.Prelude.{◌⊎◌, Result, Ok, Err}
 use Rattle.std.specs.Option.{option_map, is_none, is_some}
@@ -21,9 +20,9 @@ use Rattle.tk_member.specs.declared.fault.Fault.TheVariants.{Peer, Refused, Olde
 use Rattle.tk_member.specs.declared.word.HostWord.{HostWord}
 use Rattle.tk_member.specs.declared.word.HostWord.TheVariants.{Say, Tick, Ahead, Has}
 use Rattle.tk_member.specs.Words.{word_in}
-use Rattle.tk_member.specs.Epochs.{Telling, known, with_epoch}
+use Rattle.tk_member.specs.Epochs.{ToldMarks, known, with_epoch}
 use Rattle.tk_member.specs.Members.{MemberState}
-use Rattle.tk_member.specs.Acting.{Turned, wrote, after_turn, ahead_due, goes_ahead, ticks_due, goes_by_ticks}
+use Rattle.tk_member.specs.Acting.{ActedMember, wrote, after_turn, ahead_due, goes_ahead, ticks_due, goes_by_ticks}
 use Rattle.tk_member.specs.Acting.{may_ask, asks, unmoved, asks_if_due, acts}
 use Rattle.tk_member.specs.News.{refused_packet}
 use Rattle.tk_member.specs.Steps.{tells_and_acts, counted_up, said, heard, all_of, after_settling, told_after, settled}
@@ -153,7 +152,7 @@ replied_so s j f =
     cond (is_none s.read || is_some (slice_index_or s.replies (j - 1) None)) (Err Peer)
     (settled_by_so now (all_of now.replies))
 
-unfoldable pub told_so : Stand → Result (List Telling) Fault → Result Stand Fault
+unfoldable pub told_so : Stand → Result (List ToldMarks) Fault → Result Stand Fault
 told_so s (Err fault) = Err fault
 told_so s (Ok told) = Ok (record s { told = told })
 
@@ -171,7 +170,7 @@ step_so s (OfServer j sent) = cond (nat_le j s.shape.servers) (served_so s j sen
 
 -- it goes on to act, with this to write after so many turns, and stands so; its read is that one still, or closed
 pub record Readies (b : WordBook) (writing : Writing) (written asked : ℕ) (read : Option OpenRead) (shape : Shape)
-    (number : ℕ) (result : Result Turned Fault) (ready : Result Stand Fault) : Type 0 where
+    (number : ℕ) (result : Result ActedMember Fault) (ready : Result Stand Fault) : Type 0 where
   pub first : MemberState
   pub told : List PacketView
   pub is : result ≡ tells_and_acts b told first
@@ -185,17 +184,17 @@ pub record Readies (b : WordBook) (writing : Writing) (written asked : ℕ) (rea
   pub to_host : AreToHost told
 
 -- it has ended
-pub record Ends (result : Result Turned Fault) (ready : Result Stand Fault) : Type 0 where
+pub record Ends (result : Result ActedMember Fault) (ready : Result Stand Fault) : Type 0 where
   pub fault : Fault
   pub is : result ≡ Err fault
   pub ready_is : ready ≡ Err fault
 
 -- as a member that was so before
-abbrev pub ReadiesFrom : WordBook → Writing → MemberState → Result Turned Fault → Result Stand Fault → Type 0
+abbrev pub ReadiesFrom : WordBook → Writing → MemberState → Result ActedMember Fault → Result Stand Fault → Type 0
 ReadiesFrom b writing m result ready =
     Readies b writing m.written m.asked m.client.read m.client.shape m.client.number result ready
 
-abbrev pub EndsOrReadies : WordBook → Writing → MemberState → Result Turned Fault → Result Stand Fault → Type 0
+abbrev pub EndsOrReadies : WordBook → Writing → MemberState → Result ActedMember Fault → Result Stand Fault → Type 0
 EndsOrReadies b writing m result ready = Ends result ready ⊎ ReadiesFrom b writing m result ready
 
 -- a member that acts as it is, whose read was this one
@@ -224,13 +223,13 @@ as-is b told m to_host = as-read b told m m.client.read to_host (inl refl)
 
 -- by a test it ends or not
 unless-ends : (b : WordBook) (writing : Writing) (m : MemberState) (t : Bool) (fault : Fault)
-    (r : Result Turned Fault) (s : Result Stand Fault) → EndsOrReadies b writing m r s →
+    (r : Result ActedMember Fault) (s : Result Stand Fault) → EndsOrReadies b writing m r s →
     EndsOrReadies b writing m (cond t (Err fault) r) (cond t (Err fault) s)
 unless-ends b writing m true fault r s goes = inl (record { fault = fault; is = refl; ready_is = refl })
 unless-ends b writing m false fault r s goes = goes
 
 -- by a test one of two
-pub either-goes : (b : WordBook) (writing : Writing) (m : MemberState) (t : Bool) (r r' : Result Turned Fault)
+pub either-goes : (b : WordBook) (writing : Writing) (m : MemberState) (t : Bool) (r r' : Result ActedMember Fault)
     (s s' : Result Stand Fault) → EndsOrReadies b writing m r s → EndsOrReadies b writing m r' s' →
     EndsOrReadies b writing m (cond t r r') (cond t s s')
 either-goes b writing m true r r' s s' goes goes' = goes
@@ -335,7 +334,7 @@ replied-readies b m j reply =
     (settled_by_so (stand now) (option_map (map f) (all_of now.replies)))
     (settled_by-readies b now (all_of now.replies)))
 
-told-readies : (b : WordBook) (m : MemberState) (r : Result (List Telling) Fault) →
+told-readies : (b : WordBook) (m : MemberState) (r : Result (List ToldMarks) Fault) →
     EndsOrReadies b m.client.writing m (told_epoch b m r) (told_so (stand m) r)
 unfolding told_so
 told-readies b m (Err fault) = inl (record { fault = fault; is = refl; ready_is = refl })
@@ -366,7 +365,7 @@ served-readies b m j frame = first (slice_index frame 0 == 3)
 
 -- ---- once it has acted
 
-pub acted-outcome : (b : WordBook) (writing : Writing) (m : MemberState) (r : Result Turned Fault)
+pub acted-outcome : (b : WordBook) (writing : Writing) (m : MemberState) (r : Result ActedMember Fault)
     (s : Result Stand Fault) → EndsOrReadies b writing m r s → outcome r ≡ acting s
 acted-outcome b writing m r s (inl e) = ap outcome e.is ∙ sym (ap acting e.ready_is)
 acted-outcome b writing m r s (inr e) =

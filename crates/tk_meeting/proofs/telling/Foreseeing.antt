@@ -5,7 +5,7 @@ use Rattle.tk_script.specs.declared.script.Script.{Script}
 use Rattle.tk_words.specs.Words.{WordBook}
 use Rattle.tk_meeting.specs.Meeting.{Meeting, Saying, opening}
 use Rattle.tk_meeting.specs.Events.{Event, after_events, met}
-use Rattle.tk_meeting.specs.Laws.{sayings, Tells}
+use Rattle.tk_meeting.specs.Laws.{sayings, HasWhatWasSaid}
 use Rattle.tk_meeting.proofs.telling.Growing.{Grows, grows-events, after-append}
 
 -- Of client c, which writes turn g next: the texts of the turns that it wrote are those of the script;
@@ -20,7 +20,7 @@ pub record Foresees (S : Script) (m : Meeting) : Type 0 where
   pub each : (c : ℕ) → c < S.shape.clients → ForeseesOf S c (m.members c).written (m.said c)
 
 -- At any time this much of the script is said, where the script has all texts, also those that are still to come.
-pub foresees-by : (S : Script) (now last : Meeting) → Grows (opening S) now → Grows now last → Tells S last →
+pub foresees-by : (S : Script) (now last : Meeting) → Grows (opening S) now → Grows now last → HasWhatWasSaid S last →
     Foresees S now
 foresees-by S now last first next all =
     record {
@@ -33,9 +33,9 @@ foresees-by S now last first next all =
     }
 
 pub foresees : (S : Script) (books : ℕ → WordBook) (events more : List Event) →
-    Tells S (met S books (events ++ more)) → Foresees S (met S books events)
+    HasWhatWasSaid S (met S books (events ++ more)) → Foresees S (met S books events)
 foresees S books events more tells =
     let now : Meeting = met S books events in
     foresees-by S now (after_events S.shape books now more) (grows-events S.shape books (opening S) events)
     (grows-events S.shape books now more)
-    (subst (Tells S) (after-append S.shape books (opening S) events more) tells)
+    (subst (HasWhatWasSaid S) (after-append S.shape books (opening S) events more) tells)

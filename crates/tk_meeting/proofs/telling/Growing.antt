@@ -9,12 +9,10 @@ use Rattle.tk_client.specs.declared.say_error.SayError.{SayError}
 use Rattle.tk_member.specs.declared.fault.Fault.{Fault}
 use Rattle.tk_member.specs.declared.word.HostWord.{HostWord}
 use Rattle.tk_member.specs.declared.word.HostWord.TheVariants.{Say}
-use Rattle.tk_member.specs.Acting.{Turned}
+use Rattle.tk_member.specs.Acting.{ActedMember}
 use Rattle.tk_member.specs.Steps.{heard, served}
 use Rattle.tk_meeting.specs.Meeting.{Meeting, Saying, changed, member_went}
-use Rattle.tk_meeting.specs.Events.{Event, noted, say_fault, hears}
-use Rattle.tk_meeting.specs.Events.{comes_up, comes_down}
-use Rattle.tk_meeting.specs.Events.{happens, after_events}
+use Rattle.tk_meeting.specs.Events.{Event, noted, say_fault, hears, comes_up, comes_down, happens, after_events}
 use Rattle.tk_meeting.proofs.telling.Rising.{RisesIn, heard-rises, served-rises}
 use Rattle.tk_meeting.proofs.telling.Ways.{event-has}
 use Rattle.tk_meeting.proofs.courses.Picks.{at-place}
@@ -117,7 +115,7 @@ grows-noted c y None m d =
 
 -- ---- a member goes on
 
-pub grows-went : (m : Meeting) (c : ℕ) (r : Result Turned Fault) → RisesIn (m.members c).written r →
+pub grows-went : (m : Meeting) (c : ℕ) (r : Result ActedMember Fault) → RisesIn (m.members c).written r →
     Grows m (member_went m c r)
 grows-went m c (Ok t) h d =
     grows_of-none (m.members d).written (changed c t.member m.members d).written (m.said d)

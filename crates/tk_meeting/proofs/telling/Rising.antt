@@ -6,7 +6,7 @@ use Rattle.tk_client.specs.Writing.{Writing}
 use Rattle.tk_member.specs.declared.fault.Fault.{Fault}
 use Rattle.tk_member.specs.declared.word.HostWord.{HostWord}
 use Rattle.tk_member.specs.Members.{MemberState}
-use Rattle.tk_member.specs.Acting.{Turned, acts}
+use Rattle.tk_member.specs.Acting.{ActedMember, acts}
 use Rattle.tk_member.specs.Steps.{heard, served}
 use Rattle.tk_meeting.specs.Shown.{Stand, stand, word_shown, frame_shown}
 use Rattle.tk_meeting.proofs.shown.Steps.{ahead_of, ticks_of, acts-written, EndsOrReadies, heard_so, served_so}
@@ -29,11 +29,11 @@ acts-rises b m =
     no-less m.written (acts b m).member.written (ahead_of (stand m)) (ticks_of (stand m)) (acts-written b m)
 
 -- a member that is turned so wrote in n turns or in more
-abbrev pub RisesIn : ℕ → Result Turned Fault → Type 0
+abbrev pub RisesIn : ℕ → Result ActedMember Fault → Type 0
 RisesIn n (Ok t) = n ≤ t.member.written
 RisesIn n (Err fault) = Unit {0}
 
-pub goes-rises : (b : WordBook) (writing : Writing) (m : MemberState) (r : Result Turned Fault)
+pub goes-rises : (b : WordBook) (writing : Writing) (m : MemberState) (r : Result ActedMember Fault)
     (s : Result Stand Fault) → EndsOrReadies b writing m r s → RisesIn m.written r
 goes-rises b writing m r s (inl e) = subst (RisesIn m.written) (sym e.is) tt
 goes-rises b writing m r s (inr e) =

@@ -5,7 +5,7 @@ use Rattle.tk_words.specs.Words.{words_of}
 use Rattle.tk_client.specs.Writing.{first_waiting}
 use Rattle.tk_client.specs.Writes.{write_of}
 use Rattle.embed.specs.Faults.{IsReadFault}
-use Rattle.embed.specs.Servers.{AreServers}
+use Rattle.embed.specs.Servers.{AllStandFor}
 use Rattle.embed.specs.Turns.{record_of, with_turn, after_read, after_turn}
 use Rattle.embed.proofs.TurnLaws.{turns-phases, next-mark}
 use Rattle.embed.proofs.turn.take_turn.Goals as goal
@@ -37,7 +37,7 @@ returns-clause-client g c = λ E are.
     (c.in_ok-write.ensures.servers E are) low
     in
     c.in_ok-read.ensures.client all
-    (subst (λ (x : ClientState). AreServers x.shape all c.mark.new.servers) (sym wrote) have)
+    (subst (λ (x : ClientState). AllStandFor x.shape all c.mark.new.servers) (sym wrote) have)
     ∙ ap (after_read book turn all) wrote
 
 pub returns-in_err-write-clause-fault : goal.returns-in_err-write-clause-fault

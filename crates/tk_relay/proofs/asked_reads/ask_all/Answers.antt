@@ -9,7 +9,7 @@ use Rattle.tk_lists.proofs.Offers.{length-next}
 use Rattle.tk_report.proofs.Offers.{split-none, split-next, split-all}
 use Rattle.tk_relay.specs.Bundles.{AreOneRead}
 use Rattle.tk_relay.specs.Pads.{Padding, ArePads}
-use Rattle.tk_relay.specs.Reads.{IsSent}
+use Rattle.tk_relay.specs.Reads.{IsSplitRead}
 use Rattle.tk_relay.specs.Relayed.{frames_read}
 use Rattle.tk_relay.specs.Running.{IsRelayed}
 use Rattle.tk_relay.proofs.AskedTurns.{one-read, reads-in_range}
@@ -157,8 +157,8 @@ asking-preserved g c =
           ∙ padding-at S.shape seeds turn c.args.pads.now are i c.index-pads-i.result low
           in
           let sent =
-          subst (λ (p : Padding). IsSent S.shape (frames_read S book H turn i) p.pads read) own
-          (subst (λ (frames : List ReadFrame). IsSent S.shape frames c.index-pads-i.result.pads read)
+          subst (λ (p : Padding). IsSplitRead S.shape (frames_read S book H turn i) p.pads read) own
+          (subst (λ (frames : List ReadFrame). IsSplitRead S.shape frames c.index-pads-i.result.pads read)
           (c.as_slice.ensures.value ∙ c.in_ok-frames.ensures.frames) c.in_ok-send.ensures)
           in
           each-next (λ k r. IsRelayed S book seeds H turn 0 k r) c.asking.reads.items

@@ -2,7 +2,7 @@
 use Rattle.std.proofs.Common.{◌∙◌, ap, arith, refl, sym, subst}
 use Rattle.std.specs.Prelude.{slice_index_or}
 use Rattle.tk_lists.proofs.Offers.{changed-none, changed-next}
-use Rattle.tk_cluster.specs.Passes.{Passing, Learns, Reads}
+use Rattle.tk_cluster.specs.Passes.{Passing, Learns, ReadsOnly}
 use Rattle.tk_relay.proofs.order.learn_all.Goals as goal
 
 pub loop-pass-init : goal.loop-pass-init
@@ -10,7 +10,7 @@ loop-pass-init g c =
     let told = c.args.told.now in
     record {
       told = refl;
-      learned = changed-none (Reads (λ a b. Learns a told b)) c.args.passes.now;
+      learned = changed-none (ReadsOnly (λ a b. Learns a told b)) c.args.passes.now;
     }
 
 pub learn-requires : goal.learn-requires
@@ -31,9 +31,9 @@ loop-pass-preserved g c =
     record {
       told = learns.told ∙ so_far.told;
       learned =
-          changed-next (Reads (λ a b. Learns a told b)) i c.args.passes.now
+          changed-next (ReadsOnly (λ a b. Learns a told b)) i c.args.passes.now
           c.loop-pass.passes c.learn.new.pass c.pass-item.result c.loop-pass-test.true
-          (subst (λ k. Reads (λ x y. Learns x k y) a c.learn.new.pass) so_far.told
+          (subst (λ k. ReadsOnly (λ x y. Learns x k y) a c.learn.new.pass) so_far.told
           learns.ok)
           so_far.learned;
     }

@@ -1,7 +1,7 @@
 -- The pass of the write's client orders it, or the publisher the mark.
 use Rattle.std.proofs.Common.{subst}
 use Rattle.std.specs.Prelude.{OnOk}
-use Rattle.tk_cluster.specs.Passes.{Learns, Reads}
+use Rattle.tk_cluster.specs.Passes.{Learns, ReadsOnly}
 use Rattle.tk_relay.specs.Ordered.{EachChanged}
 use Rattle.tk_relay.proofs.OrderedLaws.{may-write, write-ordered, mark-ordered}
 use Rattle.tk_relay.proofs.order.order.Goals as goal
@@ -25,5 +25,5 @@ returns-in_ok-told-in-Mark g c = λ E have next.
     let told = c.in_ok-told-in-Mark.ensures in
     mark-ordered c.learn_all.result g.B.Naming.shape E c.in-Mark.field-0 c.args.placed.now xs ys
     c.args.publisher.now c.publish.new.publisher have next c.in-Mark.is told.published
-    (subst (λ k. OnOk c.learn_all.result (EachChanged (Reads (λ a b. Learns a k b)) xs ys)) told.told
+    (subst (λ k. OnOk c.learn_all.result (EachChanged (ReadsOnly (λ a b. Learns a k b)) xs ys)) told.told
     c.learn_all.ensures)

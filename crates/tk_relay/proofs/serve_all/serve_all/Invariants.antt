@@ -5,16 +5,16 @@ use Rattle.tk_shape.specs.declared.shape.Shape.{Shape}
 use Rattle.tk_frames.specs.declared.entry.Placed.{Placed}
 use Rattle.tk_frames.specs.Order.{before}
 use Rattle.tk_table.specs.Table.{layout, blocks_of}
-use Rattle.tk_cluster.specs.Sets.{Stands}
-use Rattle.tk_relay.specs.Reads.{IsWhole, AreServed}
+use Rattle.tk_cluster.specs.Sets.{StandsAtMark}
+use Rattle.tk_relay.specs.Reads.{HasAllParts, AreServed}
 use Rattle.tk_relay.proofs.serve_all.serve_all.Given as goal
 
 abbrev pub invariant-loop-server : goal.invariant-loop-server
 invariant-loop-server l =
     record {
       counted : length l.reads ≡ length l.fn.reads;
-      whole : All (IsWhole l.set.shape) l.reads;
-      served : (shape : Shape) (E : List Placed) → Stands shape E l.set.number l.set →
+      whole : All (HasAllParts l.set.shape) l.reads;
+      served : (shape : Shape) (E : List Placed) → StandsAtMark shape E l.set.number l.set →
           AreServed shape (blocks_of (layout shape (before E l.set.number))) l.pads 1 (l.server - 1)
           l.fn.reads l.reads;
     }

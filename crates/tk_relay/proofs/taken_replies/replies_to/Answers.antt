@@ -6,13 +6,13 @@ use Rattle.tk_relay.specs.declared.part.Part.{Part}
 use Rattle.tk_relay.specs.Halves.{HasHalves}
 use Rattle.tk_relay.specs.Parts.{halves_of}
 use Rattle.tk_relay.specs.Replies.{replies_from}
-use Rattle.tk_relay.specs.Serving.{AreAlike, gathered_part}
+use Rattle.tk_relay.specs.Serving.{AreOfOneRead, gathered_part}
 use Rattle.tk_relay.proofs.Gathered.{sized-alike, gathered-as}
 use Rattle.tk_relay.proofs.taken_replies.replies_to.Goals as goal
 
 pub gather-requires-clause-alike : goal.gather-requires-clause-alike
 gather-requires-clause-alike c =
-    subst AreAlike (sym c.as_slice.ensures.value)
+    subst AreOfOneRead (sym c.as_slice.ensures.value)
     (sized-alike (width c.args.shape.now) c.args.read.now.replies.items c.requires.sized)
 
 pub replies_for-requires-clause-sized : goal.replies_for-requires-clause-sized

@@ -6,7 +6,7 @@ use Rattle.tk_shape.specs.declared.shape.Shape.{Shape}
 use Rattle.tk_words.specs.Words.{IsBook, words_of}
 use Rattle.tk_report.specs.Turns.{placed_before}
 use Rattle.tk_relay.specs.Pads.{Padding}
-use Rattle.tk_relay.specs.Reads.{IsWhole}
+use Rattle.tk_relay.specs.Reads.{HasAllParts}
 use Rattle.tk_relay.specs.Running.{AreRelayed}
 use Rattle.tk_relay.proofs.Paddings.{paddings-counted, paddings-shape}
 use Rattle.tk_relay.proofs.RelayedReads.{all-whole, turn-served}
@@ -51,9 +51,9 @@ serve_all-requires-clause-whole g c =
     subst (λ (shape : Shape). IsBook shape book) c.args.plan.now.one_shape
     (laws.serves c.args.plan.now.draws.now)
     in
-    subst (λ (shape : Shape). All (IsWhole shape) c.as_mut_slice.result.now)
+    subst (λ (shape : Shape). All (HasAllParts shape) c.as_mut_slice.result.now)
     (sym c.requires.set.same)
-    (subst (All (IsWhole S.shape)) (sym c.as_mut_slice.ensures.value)
+    (subst (All (HasAllParts S.shape)) (sym c.as_mut_slice.ensures.value)
     (all-whole serves c.args.plan.now.legal c.requires.turn_in
     (c.in_ok-reads.ensures.reads c.args.seeds.now (c.as_slice-pads.ensures.value ∙ c.in_ok-keyed.ensures))))
 

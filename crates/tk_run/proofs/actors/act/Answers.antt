@@ -5,9 +5,9 @@ use Rattle.tk_schedule.specs.Schedule.{is_closing}
 use Rattle.tk_board.specs.Boards.{Known}
 use Rattle.tk_cluster.specs.declared.set.EpochSet.{EpochSet}
 use Rattle.tk_cluster.specs.Clusters.{Each}
-use Rattle.tk_cluster.specs.Passes.{Passing, Reads, Learns}
+use Rattle.tk_cluster.specs.Passes.{Passing, ReadsOnly, Learns}
 use Rattle.tk_cluster.specs.Tellings.{Published}
-use Rattle.tk_run.specs.Acting.{IsReady, WroteAndPinned, Heralds}
+use Rattle.tk_run.specs.Acting.{MayWriteAndPin, WroteAndPinned, Heralds}
 use Rattle.tk_run.specs.Ran.{AllLearn}
 use Rattle.tk_run.specs.Ticks.{AllBy, Done}
 use Rattle.tk_run.proofs.ActLaws.{all_by, all_free, still_on, nothing_told}
@@ -15,7 +15,7 @@ use Rattle.tk_run.proofs.actors.act.Goals as goal
 
 pub serve_with-requires-clause-able : goal.serve_with-requires-clause-able
 serve_with-requires-clause-able g c κs within =
-    all_by (IsReady g.B.Naming.shape c.args.cue.now.most) c.args.passes.now c.requires.ready
+    all_by (MayWriteAndPin g.B.Naming.shape c.args.cue.now.most) c.args.passes.now c.requires.ready
 
 pub serve_with-requires-clause-fits : goal.serve_with-requires-clause-fits
 serve_with-requires-clause-fits g c κs within = all_free c.args.desks.now
@@ -60,7 +60,7 @@ returns-in-Some g c =
       tells = subst (λ (b : Bool). MatchBool b (Published shape p q) (q ≡ p)) (sym closing) heard.1;
       learns = subst (λ (b : Bool). MatchBool b (AllLearn q acted learned) (learned ≡ acted))
           (sym closing)
-          (subst (λ (k : Known EpochSet). Each (Reads (λ r s. Learns r k s)) acted learned) heard.2
+          (subst (λ (k : Known EpochSet). Each (ReadsOnly (λ r s. Learns r k s)) acted learned) heard.2
           c.in_ok-learn_all.ensures.ok);
       met = c.meet.ensures;
       shows = c.stands.ensures.shows;

@@ -11,7 +11,7 @@ use Rattle.tk_table.specs.Shown.{is_shown}
 use Rattle.tk_client.specs.Asked.{asked, shown_by}
 use Rattle.tk_client.specs.Client.{ClientState, target_over}
 use Rattle.tk_cluster.specs.declared.set.EpochSet.{EpochSet}
-use Rattle.tk_cluster.specs.Sets.{Stands}
+use Rattle.tk_cluster.specs.Sets.{StandsAtMark}
 use Rattle.tk_run.specs.Rows.{Frame}
 use Rattle.tk_run.specs.Turns.{placed_before}
 use Rattle.tk_report.proofs.Offers.{all-made}
@@ -48,9 +48,9 @@ returns g c =
       due = λ S H V may.
           let words = words_of S.shape book in
           let E = placed_before S words H (talk.turn + 1) in
-          let here : Stands S.shape E c.as_ref-set.result.now.number c.as_ref-set.result.now =
-          subst (λ (s : EpochSet). Stands S.shape E s.number s) (sym same)
-          (subst (λ e. Stands S.shape E e set) (sym may.stands.number) may.stands)
+          let here : StandsAtMark S.shape E c.as_ref-set.result.now.number c.as_ref-set.result.now =
+          subst (λ (s : EpochSet). StandsAtMark S.shape E s.number s) (sym same)
+          (subst (λ e. StandsAtMark S.shape E e set) (sym may.stands.number) may.stands)
           in
           let due : epoch ≡ epoch_at H talk.turn n = number ∙ may.stands.number in
           let over : (hits : List ℕ) → all_marked marks hits

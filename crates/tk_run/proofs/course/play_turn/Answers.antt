@@ -15,7 +15,7 @@ use Rattle.tk_run.proofs.course.play_turn.Goals as goal
 pub talk_all-requires-after_bounds : goal.talk_all-requires-after_bounds
 talk_all-requires-after_bounds g c κs within =
     let S = c.args.stage.now.script.now in
-    let written = c.in_ok-slips.ensures.written in
+    let written = c.in_ok-deeds.ensures.written in
     let H = filled S.shape c.write_turn.new.course.turns.items in
     let goes = some_goes_on written.ran (omega (arith, written.counted, c.requires.turn_in)) in
     (S, H, sym c.args.stage.now.one_shape, written.reads H goes)
@@ -23,7 +23,7 @@ talk_all-requires-after_bounds g c κs within =
 pub sights_from-requires-clause-talked : goal.sights_from-requires-clause-talked
 sights_from-requires-clause-talked g c κs within =
     let S = c.args.stage.now.script.now in
-    let written = c.in_ok-slips.ensures.written in
+    let written = c.in_ok-deeds.ensures.written in
     let H = filled S.shape c.write_turn.new.course.turns.items in
     let goes = some_goes_on written.ran (omega (arith, written.counted, c.requires.turn_in)) in
     subst (λ (ts : List Talk). All (HasTalked S.shape.servers) ts) (sym c.as_slice-2.ensures.value)
@@ -32,7 +32,7 @@ sights_from-requires-clause-talked g c κs within =
 pub returns-clause-course : goal.returns-clause-course
 returns-clause-course g c =
     let S = c.args.stage.now.script.now in
-    let written = c.in_ok-slips.ensures.written in
+    let written = c.in_ok-deeds.ensures.written in
     always c.sights_from.result
     (read_course (record c.write_turn.new.course.group { clients = c.talk_all.new.clients }) written refl
     (λ H goes. c.in_ok-talks.ensures.clients S H (written.reads H goes)))
@@ -42,7 +42,7 @@ returns-clause-sights g c =
     let S = c.args.stage.now.script.now in
     let book = g.D.Draws.book c.args.stage.now.draws.now in
     let V = over_ranges S book c.args.stage.now.crew.shards (g.A.Sums.sum c.args.stage.now.sums.now) in
-    let written = c.in_ok-slips.ensures.written in
+    let written = c.in_ok-deeds.ensures.written in
     let bytes = c.as_slice.result.now in
     let talks = c.as_slice-2.result.now in
     IfOk-weaker c.sights_from.result

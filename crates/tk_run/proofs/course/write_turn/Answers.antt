@@ -13,7 +13,7 @@ use Rattle.tk_report.specs.Serving.{reader_under}
 use Rattle.tk_report.specs.declared.group.Group.{Group}
 use Rattle.tk_run.specs.declared.actors.Desk.{Desk}
 use Rattle.tk_report.specs.Clients.{AreClients}
-use Rattle.tk_run.specs.Acting.{Acted, AreFrames, frames_on, slips_on}
+use Rattle.tk_run.specs.Acting.{Acted, AreFrames, frames_on, deeds_on}
 use Rattle.tk_run.specs.Ran.{turn_of}
 use Rattle.tk_run.specs.Ranging.{over_ranges}
 use Rattle.tk_run.specs.Courses.{HasWritten, GoesOn, entries_behind}
@@ -30,13 +30,13 @@ module _ (g : given.Over) (c : goal.In_ok-frames g) where
   Knows frames now =
       Came c.args.stage.now.script.now (g.D.Draws.book c.args.stage.now.draws.now) c.args.turn
       c.args.course.now.turns.items c.act_in.new.course.passes.items
-      c.act_in.new.course.herald.publisher c.in_ok-frames.slips.items frames now
+      c.act_in.new.course.herald.publisher c.in_ok-frames.deeds.items frames now
 
   -- the turn that came about
   abbrev now : TurnOrder
   now =
       let shape = c.args.stage.now.script.now.shape in
-      turn_of shape c.args.turn (entries_behind shape c.args.turn) c.in_ok-frames.slips.items
+      turn_of shape c.args.turn (entries_behind shape c.args.turn) c.in_ok-frames.deeds.items
 
   came_now : Knows c.in_ok-frames.frames.items now
   came_now =
@@ -49,12 +49,12 @@ module _ (g : given.Over) (c : goal.In_ok-frames g) where
       in
       subst (λ (fs : List (List ℕ)). Knows fs now)
       (ap frames_on (sym desks) ∙ sym c.in_ok-frames.ensures.frames)
-      (came S (g.D.Draws.book c.args.stage.now.draws.now) c.in_ok-frames.slips.items c.requires.course
+      (came S (g.D.Draws.book c.args.stage.now.draws.now) c.in_ok-frames.deeds.items c.requires.course
       c.requires.turn_in (c.one_spelling.ensures.writes S.shape)
       (subst (λ (ds : List Desk). Acted S.shape c.args.turn old.passes.items old.herald.publisher ds
       es new.passes.items new.herald.publisher) c.as_mut_slice.ensures.value
       c.in_ok-act_in.ensures.acted)
-      c.in_ok-desks.ensures.frames (ap slips_on (sym desks) ∙ c.in_ok-frames.ensures.slips))
+      c.in_ok-desks.ensures.frames (ap deeds_on (sym desks) ∙ c.in_ok-frames.ensures.deeds))
 
 -- as it is noted
 noted : (g : given.Over) (c : goal.In_ok-frames g) (d : TurnOrder) → d ≡ now g c →
@@ -63,7 +63,7 @@ noted g c d is = subst (Knows g c c.in_ok-frames.frames.items) (sym is) (came_no
 
 now_is : (g : given.Over) (c : goal.In_ok-now g) → let shape = c.args.stage.now.script.now.shape in
     c.in_ok-now.now
-    ≡ turn_of shape c.args.turn (entries_behind shape c.args.turn) c.in_ok-frames.slips.items
+    ≡ turn_of shape c.args.turn (entries_behind shape c.args.turn) c.in_ok-frames.deeds.items
 now_is g c =
     let shape = c.args.stage.now.script.now.shape in
     c.in_ok-now.ensures
@@ -150,7 +150,7 @@ returns-clause-written g c =
     subst (AreFrames S.shape write) (sym c.as_slice-2.ensures.value) noted_now.frames_are
     in
     subst (λ (turns : List TurnOrder). HasWritten S book V turn turns new.group new.passes.items
-    new.herald.publisher c.in_ok-frames.slips.items c.in_ok-entries.entries.items)
+    new.herald.publisher c.in_ok-frames.deeds.items c.in_ok-entries.entries.items)
     (sym (c.in_ok-push.ensures.items
     ∙ ap (λ (turns : List TurnOrder). turns ++ c.in_ok-now.now ∷ []) c.in_ok-act_in.ensures.turns))
     (noted_now.written V new.group c.in_ok-entries.entries.items

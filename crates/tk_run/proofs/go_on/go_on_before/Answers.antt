@@ -4,7 +4,7 @@ use Rattle.std.proofs.lemmas.List.{with_items_is}
 use Rattle.std.proofs.lemmas.Result.{IfErr-weaker, on_ok_weaker}
 use Rattle.tk_run.specs.declared.resume_error.ResumeError.TheVariants as resume
 use Rattle.tk_run.specs.Keeping.{OneRefuses}
-use Rattle.tk_run.specs.Servers.{IsServer, AreReady, AreServers, alike, nothing_seen}
+use Rattle.tk_run.specs.Servers.{IsServerAt, AreReady, AreServers, alike, nothing_seen}
 use Rattle.tk_io.proofs.Offers.{always}
 use Rattle.tk_run.proofs.ErrorLaws.{no-memory}
 use Rattle.tk_run.proofs.go_on.go_on_before.Goals as goal
@@ -18,8 +18,8 @@ pub returns-clause-kept : goal.returns-clause-kept
 returns-clause-kept g c due E seen are =
     let shape = c.args.shape.now in
     let first = c.index.result.now in
-    let is : IsServer shape E (seen 1) first =
-    subst (IsServer shape E (seen 1)) (sym c.index.ensures) (are.each 0 first c.requires.0)
+    let is : IsServerAt shape E (seen 1) first =
+    subst (IsServerAt shape E (seen 1)) (sym c.index.ensures) (are.each 0 first c.requires.0)
     in
     always c.go_on_all.result
     (c.in_ok-keep.ensures.ok
@@ -44,8 +44,8 @@ returns-clause-refused g c due E are =
     let shape = c.args.shape.now in
     let gives = g.K.Keeper.gives c.keep.new.self in
     let first = c.index.result.now in
-    let is : IsServer shape E [] first =
-    subst (IsServer shape E []) (sym c.index.ensures) (are.each 0 first c.requires.0)
+    let is : IsServerAt shape E [] first =
+    subst (IsServerAt shape E []) (sym c.index.ensures) (are.each 0 first c.requires.0)
     in
     let kept = c.in_ok-keep.ensures.ok
     ∙ ap (λ (bytes : List ℕ). g.K.Keeper.kept c.args.keeper.now ++ bytes ∷ [])
@@ -78,8 +78,8 @@ returns-clause-stand g c due E given are gave =
     let counted : length servers ≡ list.len =
     omega (arith, c.go_on_all.auto.servers, c.as_mut_slice.ensures.len)
     in
-    let is : IsServer shape E [] first =
-    subst (IsServer shape E []) (sym c.index.ensures) (are.each 0 first c.requires.0)
+    let is : IsServerAt shape E [] first =
+    subst (IsServerAt shape E []) (sym c.index.ensures) (are.each 0 first c.requires.0)
     in
     on_ok_weaker c.go_on_all.result
     (λ stand. subst (AreServers shape given nothing_seen) (sym (with_items_is list servers counted))

@@ -5,7 +5,7 @@ use Rattle.std.specs.Prelude.{slice_index_or}
 use Rattle.tk_shape.specs.declared.shape.Shape.{Shape}
 use Rattle.tk_cluster.specs.declared.set.EpochSet.{EpochSet}
 use Rattle.tk_cluster.specs.Refusals.{IsAsked}
-use Rattle.tk_cluster.specs.Sets.{Stands}
+use Rattle.tk_cluster.specs.Sets.{StandsAtMark}
 use Rattle.tk_run.specs.declared.talk.Reading.{Reading}
 use Rattle.tk_run.specs.Answering.{MayReply, set_of, epoch_of}
 use Rattle.tk_run.specs.Ranging.{bytes_made}
@@ -80,8 +80,8 @@ rows-preserved g c =
           (subst (MayReply shape c.args.server (drop n clients)) (sym behind)
           (reply-rest n (omega (arith, c.in_a_row.ensures.within, may.counted)) may));
       stand = λ shape E all.
-          subst (All (λ (r : Reading). Stands shape E (epoch_of r) (set_of r))) (sym others)
-          (All-drop (λ (r : Reading). Stands shape E (epoch_of r) (set_of r)) n clients
+          subst (All (λ (r : Reading). StandsAtMark shape E (epoch_of r) (set_of r))) (sym others)
+          (All-drop (λ (r : Reading). StandsAtMark shape E (epoch_of r) (set_of r)) n clients
           (so_far.stand shape E all));
       replied = λ shape E all.
           let d = c.index-clients-0.result in
@@ -90,8 +90,8 @@ rows-preserved g c =
           let some : 0 < length clients =
           omega (arith, c.in_a_row.ensures.some, c.in_a_row.ensures.within)
           in
-          let stands : Stands shape E c.as_ref-set.result.now.number c.as_ref-set.result.now =
-          subst (λ (s : EpochSet). Stands shape E s.number s) (sym same)
+          let stands : StandsAtMark shape E c.as_ref-set.result.now.number c.as_ref-set.result.now =
+          subst (λ (s : EpochSet). StandsAtMark shape E s.number s) (sym same)
           (so_far.stand shape E all 0 d some)
           in
           rows-next (bytes_made (g.A.Sums.sum c.args.sums.now) c.args.crew.shards shape E) c.args.frames.now frames c.rows.replies.items

@@ -7,18 +7,18 @@ use Rattle.tk_run.proofs.talk.paired.Goals as goal
 pub pairing-preserved : goal.pairing-preserved
 pairing-preserved c =
     let so_far = c.pairing.invariant in
-    let slips = c.args.slips.now in
-    let slip = c.in-Some-get.slip.now in
+    let deeds = c.args.deeds.now in
+    let deed = c.in-Some-get.deed.now in
     let place : c.len.result ≡ length c.pairing.yielded =
     omega (arith, c.len.ensures, so_far.counted, c.pairing.readings.ok.0)
     in
     let found = c.in-Some-get.ensures.lookup in
-    let low : length c.pairing.yielded < length slips = omega (arith, found.3.0, place) in
-    let at : slip ≡ slice_index_or slips (length c.pairing.yielded) slip =
-    found.1 ∙ ap (λ (n : ℕ). slice_index_or slips n slip) place
+    let low : length c.pairing.yielded < length deeds = omega (arith, found.3.0, place) in
+    let at : deed ≡ slice_index_or deeds (length c.pairing.yielded) deed =
+    found.1 ∙ ap (λ (n : ℕ). slice_index_or deeds n deed) place
     in
-    paired-next c.args.turn slips c.pairing.yielded c.pairing.readings.items c.push.new.self.items
-    slip c.in-Some.client
+    paired-next c.args.turn deeds c.pairing.yielded c.pairing.readings.items c.push.new.self.items
+    deed c.in-Some.client
     (record {
       client = c.in-Some.client;
       talk = record {

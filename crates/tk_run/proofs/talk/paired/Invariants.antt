@@ -3,4 +3,4 @@ use Rattle.tk_run.proofs.TalkAll.{Paired}
 use Rattle.tk_run.proofs.talk.paired.Given as goal
 
 abbrev pub invariant-pairing : goal.invariant-pairing
-invariant-pairing l = Paired l.turn l.slips l.yielded l.readings.items
+invariant-pairing l = Paired l.turn l.deeds l.yielded l.readings.items

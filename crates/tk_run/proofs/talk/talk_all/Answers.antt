@@ -9,10 +9,10 @@ use Rattle.tk_run.specs.declared.pinned_write.PinnedWrite.{PinnedWrite}
 use Rattle.tk_report.specs.Clients.{AreClients}
 use Rattle.tk_run.specs.Turns.{placed_before}
 use Rattle.tk_run.specs.Courses.{MayRead, AreBlank, AreTalks}
-use Rattle.tk_run.specs.Ranged.{Summing, IsSized}
+use Rattle.tk_run.specs.Ranged.{Summing, MakesBlocks}
 use Rattle.tk_run.specs.Ranging.{over_ranges}
 use Rattle.tk_run.specs.Under.{client_under}
-use Rattle.tk_run.specs.Reading.{MayReadOn, MayTake, readers, talks_of}
+use Rattle.tk_run.specs.Reading.{MayReadOn, MayTakeReplies, readers, talks_of}
 use Rattle.tk_run.proofs.TalkAll.{Begins, one-shape}
 use Rattle.tk_run.proofs.TalkSteps.{Stage, stage-same, stage-moved, begun, asking, replied, ended, all-begun}
 use Rattle.tk_run.proofs.TalkSteps.{all-answerable, all-stand, all-takeable, all-talked}
@@ -34,7 +34,7 @@ module _ (g : given.Over) (c : goal.After-as_mut_slice-all g) where
   sum = g.A.Sums.sum c.args.round.now.sums.now
 
   begins : {S : Script} {H : History} → let V = over_ranges S book shards sum H in
-      MayRead S book H V c.args.round.now.turn c.args.clients.now.items c.args.slips.items →
+      MayRead S book H V c.args.round.now.turn c.args.clients.now.items c.args.deeds.items →
       Stage S.shape.clients (Begins S book H V c.args.round.now.turn) c.as_mut_slice-all.result.now
   begins may =
       let readings = c.in_ok-readings.readings.items in
@@ -52,7 +52,7 @@ module _ (g : given.Over) (c : goal.After-as_mut_slice-all g) where
       subst (λ (s : Shape). IsBook s book) (sym same) (laws.serves c.args.round.now.draws.now)
 
   -- the sums are as long as blocks
-  sized : IsSized sum
+  sized : MakesBlocks sum
   sized =
       let world = g.world in
       let laws = g.met.A.Sums world.𝓛 world.𝓜 world.𝓡 ((λ s x. x), (λ x. x), (λ x. x), λ x. x) in
@@ -104,7 +104,7 @@ take_all-requires-after_bounds g c κs within =
     (asking n make c.ask_all.new.readings c.ask_all.auto.readings c.in_ok-ask_all.ensures
     (begins g at c.requires.3))
     in
-    subst (λ (shape : Shape). All (MayTake shape) c.answer_all.new.readings) c.requires.2
+    subst (λ (shape : Shape). All (MayTakeReplies shape) c.answer_all.new.readings) c.requires.2
     (all-takeable n make
     (replied n make c.answer_all.new.readings c.answer_all.auto.readings c.in_ok-answer_all.ensures ask))
 
@@ -115,7 +115,7 @@ returns g c =
     let b = g.D.Draws.book c.args.round.now.draws.now in
     let t = c.args.round.now.turn in
     let clients = c.args.clients.now.items in
-    let slips = c.args.slips.items in
+    let deeds = c.args.deeds.items in
     let at = (goal.at.returns g c).After-as_mut_slice-all in
     let whole =
     with_items_is c.in_ok-readings.readings c.by_client.new.readings
@@ -132,11 +132,11 @@ returns g c =
     let n = shards g at in
     let make = sum g at in
     let done = λ (S : Script) (H : History)
-    (may : MayRead S b H (over_ranges S b n make H) t clients slips).
+    (may : MayRead S b H (over_ranges S b n make H) t clients deeds).
     let T = c.requires.0 in
     let K = c.requires.1 in
     let same =
-    one-shape S T b H K (over_ranges S b n make H) (over_ranges T b n make K) t clients slips slips may
+    one-shape S T b H K (over_ranges S b n make H) (over_ranges T b n make K) t clients deeds deeds may
     c.requires.3
     in
     let ask = stage-moved c.by_epoch.ensures.same

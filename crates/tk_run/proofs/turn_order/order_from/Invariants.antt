@@ -12,6 +12,6 @@ invariant-placing l =
     let count = l.shape.clients + marks_due l.shape l.turn in
     record {
       counted : length l.order.items ≡ count;
-      placed : l.order.items ≡ placed_clients (entries_behind l.shape l.turn) 0 (take l.i l.slips)
+      placed : l.order.items ≡ placed_clients (entries_behind l.shape l.turn) 0 (take l.i l.deeds)
           (replicate count Publish);
     }

@@ -6,9 +6,9 @@ use Rattle.tk_report.specs.Serving.{Serving}
 use Rattle.tk_report.specs.Turns.{placed_before}
 use Rattle.tk_report.proofs.Offers.{IsSplit}
 use Rattle.tk_run.specs.Rows.{AreRows}
-use Rattle.tk_run.specs.Servers.{AreServers, IsReady, IsServer}
+use Rattle.tk_run.specs.Servers.{AreServers, MayWriteAndPin, IsServerAt}
 use Rattle.tk_run.specs.Turns.{entries_seen}
-use Rattle.tk_run.specs.Under.{Serves, posed, replied_under, turn_under}
+use Rattle.tk_run.specs.Under.{ServesAs, posed, replied_under, turn_under}
 use Rattle.tk_run.proofs.turn_reads.answer_all.Given as goal
 
 abbrev pub invariant-answering : goal.invariant-answering
@@ -21,15 +21,15 @@ invariant-answering g l =
     record {
       counted : length l.servers ≡ length l.fn.servers;
       each : length l.rows.items ≡ S.shape.clients;
-      ready : IsSplit l.i (λ k s. IsReady S.shape E s) (λ k s. IsReady S.shape E s) l.servers;
-      rows : (V : Serving) (Es : ℕ → List Placed) → Serves S book H V l.turn Es →
+      ready : IsSplit l.i (λ k s. MayWriteAndPin S.shape E s) (λ k s. MayWriteAndPin S.shape E s) l.servers;
+      rows : (V : Serving) (Es : ℕ → List Placed) → ServesAs S book H V l.turn Es →
           AreRows S.shape.servers (posed S book H V l.turn S.shape.clients) l.asked →
           AreServers S.shape Es (entries_seen S words H l.turn) l.fn.servers →
           AreRows S.shape.clients (replied_under S book H V l.turn l.i) l.rows.items;
-      servers : (V : Serving) (Es : ℕ → List Placed) → Serves S book H V l.turn Es →
+      servers : (V : Serving) (Es : ℕ → List Placed) → ServesAs S book H V l.turn Es →
           AreRows S.shape.servers (posed S book H V l.turn S.shape.clients) l.asked →
           AreServers S.shape Es (entries_seen S words H l.turn) l.fn.servers →
           IsSplit l.i
-          (λ k s. IsServer S.shape (Es (k + 1)) (turn_under S book H V l.turn (k + 1)) s)
-          (λ k s. IsServer S.shape (Es (k + 1)) (entries_seen S words H l.turn (k + 1)) s) l.servers;
+          (λ k s. IsServerAt S.shape (Es (k + 1)) (turn_under S book H V l.turn (k + 1)) s)
+          (λ k s. IsServerAt S.shape (Es (k + 1)) (entries_seen S words H l.turn (k + 1)) s) l.servers;
     }

@@ -2,7 +2,7 @@
 use Rattle.std.proofs.Common.{◌∙◌, ◌+◌, ℕ, List, subst}
 use Rattle.tk_shape.specs.declared.shape.Shape.{Shape}
 use Rattle.tk_words.specs.Words.{IsBook, words_of}
-use Rattle.tk_run.specs.Servers.{IsServer}
+use Rattle.tk_run.specs.Servers.{IsServerAt}
 use Rattle.tk_run.specs.Turns.{entries_seen}
 use Rattle.tk_run.specs.Under.{reads_for}
 use Rattle.tk_run.proofs.UnderLaws.{posed-are, replies-by_client, seen-answered}
@@ -50,6 +50,6 @@ returns-clause-server g c V Es tells posed is =
     posed-are S book H V turn place c.args.asked.now serves c.args.plan.now.legal
     c.requires.turn_in c.requires.server_in posed
     in
-    subst (λ (bytes : List ℕ). IsServer S.shape E bytes c.answer.new.self)
+    subst (λ (bytes : List ℕ). IsServerAt S.shape E bytes c.answer.new.self)
     (seen-answered S book H V turn Es tells (place + 1))
     (c.in_ok-replies.ensures.server S.shape E saw reads is asked)

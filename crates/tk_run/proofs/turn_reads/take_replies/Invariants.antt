@@ -6,7 +6,7 @@ use Rattle.tk_report.specs.Clients.{AreClients}
 use Rattle.tk_report.specs.Serving.{Serving}
 use Rattle.tk_report.proofs.Offers.{IsSplit}
 use Rattle.tk_run.specs.Rows.{AreRows}
-use Rattle.tk_run.specs.Under.{IsAsking, IsIdle, Serves, asked_under, client_under, replied_under}
+use Rattle.tk_run.specs.Under.{AskedInTurn, IsIdle, ServesAs, asked_under, client_under, replied_under}
 use Rattle.tk_run.proofs.turn_reads.take_replies.Given as goal
 
 abbrev pub invariant-taking : goal.invariant-taking
@@ -16,8 +16,8 @@ invariant-taking g l =
     let H = l.plan.history.now in
     record {
       counted : length l.clients ≡ length l.fn.clients;
-      clients : IsSplit l.i (λ k s. IsIdle S (l.turn + 1) k s) (λ k s. IsAsking S H l.turn k s) l.clients;
-      under : (V : Serving) (Es : ℕ → List Placed) → Serves S book H V l.turn Es →
+      clients : IsSplit l.i (λ k s. IsIdle S (l.turn + 1) k s) (λ k s. AskedInTurn S H l.turn k s) l.clients;
+      under : (V : Serving) (Es : ℕ → List Placed) → ServesAs S book H V l.turn Es →
           ((j : ℕ) → 1 ≤ j → j ≤ S.shape.servers → IsOrder S.shape (Es j)) →
           AreRows S.shape.clients (replied_under S book H V l.turn S.shape.servers) l.replies →
           AreClients S.shape.clients (asked_under S book H V l.turn) l.fn.clients →

@@ -2,7 +2,7 @@
 use Rattle.std.proofs.Common.{◌+◌, ◌⊎◌, ◌∙◌, refl, sym, subst, arith}
 use Rattle.tk_serve.specs.Seats.{empty_seats}
 use Rattle.tk_serve.specs.Steps.{seats_after}
-use Rattle.tk_serve.specs.Stands.{Stands}
+use Rattle.tk_serve.specs.Stands.{HasApplied}
 use Rattle.tk_serve.specs.Setup.{longest_frame}
 use Rattle.tk_serve.specs.Courses.{IsGoing, StopsBehind}
 use Rattle.tk_serve.specs.Nexts.{TakesNext, TakesNextFront}
@@ -29,7 +29,7 @@ returns-in-Err-clause-front g c =
     let going : IsGoing shape inv.runs.frames =
     tested-not c.is_over.result (c.is_over.ensures shape seats inv.runs.stands) c.if-is_over.false
     in
-    let own = subst (λ sh. Stands sh seats s) (sym inv.same) inv.runs.stands in
+    let own = subst (λ sh. HasApplied sh seats s) (sym inv.same) inv.runs.stands in
     let middle = g.L.Line.left c.packets.line in
     let rest = g.L.Line.left c.serve_next.new.line in
     let now = g.L.Line.gone c.packets.line in
@@ -49,7 +49,7 @@ packets-preserved g c =
     let going : IsGoing shape inv.runs.frames =
     tested-not c.is_over.result (c.is_over.ensures shape seats inv.runs.stands) c.if-is_over.false
     in
-    let own = subst (λ sh. Stands sh seats s) (sym inv.same) inv.runs.stands in
+    let own = subst (λ sh. HasApplied sh seats s) (sym inv.same) inv.runs.stands in
     let middle = g.L.Line.left c.packets.line in
     let rest = g.L.Line.left c.serve_next.new.line in
     let now = g.L.Line.gone c.packets.line in

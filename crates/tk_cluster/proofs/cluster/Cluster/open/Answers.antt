@@ -8,7 +8,7 @@ use Rattle.tk_shape.specs.declared.shape.Shape.{Shape}
 use Rattle.tk_order.specs.Seats.{Seated, seated}
 use Rattle.tk_board.specs.Boards.{Known}
 use Rattle.tk_cluster.specs.declared.set.EpochSet.{EpochSet}
-use Rattle.tk_cluster.specs.Sets.{Stands}
+use Rattle.tk_cluster.specs.Sets.{StandsAtMark}
 use Rattle.tk_cluster.specs.Passes.{fresh, seats_for}
 use Rattle.tk_cluster.proofs.Opening.{opened_is, same_boards, same_lists}
 use Rattle.tk_cluster.proofs.cluster.Cluster.open.Goals as goal
@@ -55,7 +55,7 @@ new-publisher-requires-clause-first g c =
     let first = arc_value c.in_ok-first.first in (
       first,
       c.in_ok-board.ensures.list,
-      subst (λ (x : Seated). Stands shape x.seen 0 first) seat c.in_ok-first.ensures.stands,
+      subst (λ (x : Seated). StandsAtMark shape x.seen 0 first) seat c.in_ok-first.ensures.stands,
     )
 
 pub returns : goal.returns
@@ -76,7 +76,7 @@ returns g c =
       first = first;
       shown = ap (λ (k : Known EpochSet). k.list) p.1 ∙ o.list;
       stands =
-          subst (λ (x : Seated). Stands shape x.seen 0 first) seat c.in_ok-first.ensures.stands;
+          subst (λ (x : Seated). StandsAtMark shape x.seen 0 first) seat c.in_ok-first.ensures.stands;
       all =
           c.in-Ok.ensures c.in_ok-board.board.board
           (same_boards c.in_ok-board.readers.items c.in_ok-board.board o.readers)

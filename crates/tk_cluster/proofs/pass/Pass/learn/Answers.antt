@@ -3,7 +3,7 @@ use Rattle.std.proofs.Common.{◌∙◌, ◌<◌, ◌≤◌, subst, sym, ap, ari
 use Rattle.std.specs.Arc.{arc_value}
 use Rattle.tk_board.specs.Boards.{IsLast}
 use Rattle.tk_cluster.specs.declared.set.EpochSet.{EpochSet}
-use Rattle.tk_cluster.specs.Passes.{Passing, Reads, Learns}
+use Rattle.tk_cluster.specs.Passes.{Passing, ReadsOnly, Learns}
 use Rattle.tk_cluster.proofs.Passing.{passing, reading, reads_on, still, learns_old, learns_new}
 use Rattle.tk_cluster.proofs.Passing.{holds_told}
 use Rattle.tk_cluster.proofs.pass.Pass.learn.Goals as goal
@@ -37,7 +37,7 @@ returns-then-number-clause-ok g c =
       c.number.ensures ∙ ap (λ (x : EpochSet). x.number) c.deref.ensures,
       c.number-2.ensures ∙ ap (λ (x : EpochSet). x.number) c.deref-2.ensures,
     ) in
-    subst (λ (a : Passing). Reads (λ a b. Learns a told b) a
+    subst (λ (a : Passing). ReadsOnly (λ a b. Learns a told b) a
     (passing s.client s.seat.seen (reading c.learn.new.self newest s.pinned.items)))
     c.self.view_is
     (reads_on (λ a b. Learns a told b) s.client s.seat.seen
@@ -61,7 +61,7 @@ returns-else-number-clause-ok g c =
       c.number.ensures ∙ ap (λ (x : EpochSet). x.number) c.deref.ensures,
       c.number-2.ensures ∙ ap (λ (x : EpochSet). x.number) c.deref-2.ensures,
     ) in
-    subst (λ (a : Passing). Reads (λ a b. Learns a told b) a
+    subst (λ (a : Passing). ReadsOnly (λ a b. Learns a told b) a
     (passing s.client s.seat.seen (reading c.learn.new.self held s.pinned.items)))
     c.self.view_is
     (reads_on (λ a b. Learns a told b) s.client s.seat.seen

@@ -2,7 +2,7 @@
 use Rattle.std.proofs.Common.{◌≡◌, ◌∙◌, ◌≤◌, ◌++◌, ◌∷◌, [], List, subst, sym, ap, arith}
 use Rattle.std.specs.Arc.{arc_value}
 use Rattle.tk_cluster.specs.declared.set.EpochSet.{EpochSet}
-use Rattle.tk_cluster.specs.Passes.{Passing, Reads, Pins, Knows}
+use Rattle.tk_cluster.specs.Passes.{Passing, ReadsOnly, Pins, Knows}
 use Rattle.tk_cluster.proofs.Passing.{passing, reading, reads_on, on_err, still, renewed, knows, pins_held, pins_newest}
 use Rattle.tk_cluster.proofs.pass.Pass.pin.Goals as goal
 
@@ -10,7 +10,7 @@ pub returns-in_err-answer-clause-err : goal.returns-in_err-answer-clause-err
 returns-in_err-answer-clause-err g c =
     let s = c.self.inside in
     on_err c.from_residual-in_err-answer.result
-    (subst (λ (a : Passing). Reads Knows a
+    (subst (λ (a : Passing). ReadsOnly Knows a
     (passing s.client s.seat.seen
     (reading c.look.new.self (arc_value s.held) c.reserve.new.self.items))) c.self.view_is
     (reads_on Knows s.client s.seat.seen (reading s.reader (arc_value s.held) s.pinned.items)
@@ -33,7 +33,7 @@ returns-then-number-most-clause-ok g c =
     c.number-number.ensures ∙ ap (λ (x : EpochSet). x.number) c.deref.ensures in
     let answer = arc_value c.in_ok-answer.answer in
     let after = reading c.look.new.self newest c.push_reserved.new.self.items in
-    subst (λ (a : Passing). Reads (λ a b. Pins a c.args.most answer b) a
+    subst (λ (a : Passing). ReadsOnly (λ a b. Pins a c.args.most answer b) a
     (passing s.client s.seat.seen after)) c.self.view_is
     (reads_on (λ a b. Pins a c.args.most answer b) s.client s.seat.seen
     (reading s.reader (arc_value s.held) s.pinned.items) after
@@ -56,7 +56,7 @@ pub returns-in_err-answer-2-clause-err : goal.returns-in_err-answer-2-clause-err
 returns-in_err-answer-2-clause-err g c =
     let s = c.self.inside in
     on_err c.from_residual-in_err-answer-2.result
-    (subst (λ (a : Passing). Reads Knows a
+    (subst (λ (a : Passing). ReadsOnly Knows a
     (passing s.client s.seat.seen
     (reading c.look.new.self (arc_value s.held) c.reserve.new.self.items))) c.self.view_is
     (reads_on Knows s.client s.seat.seen (reading s.reader (arc_value s.held) s.pinned.items)
@@ -81,7 +81,7 @@ returns-clause-ok g c =
     c.number.ensures ∙ ap (λ (x : EpochSet). x.number) c.deref-2.ensures in
     let answer = arc_value c.in_ok-answer-2.answer in
     let after = reading c.look.new.self held c.push_reserved-2.new.self.items in
-    subst (λ (a : Passing). Reads (λ a b. Pins a c.args.most answer b) a
+    subst (λ (a : Passing). ReadsOnly (λ a b. Pins a c.args.most answer b) a
     (passing s.client s.seat.seen after)) c.self.view_is
     (reads_on (λ a b. Pins a c.args.most answer b) s.client s.seat.seen
     (reading s.reader (arc_value s.held) s.pinned.items) after

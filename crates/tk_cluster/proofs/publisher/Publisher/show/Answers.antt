@@ -2,7 +2,7 @@
 use Rattle.std.proofs.Common.{◌≡◌, ◌+◌, length, subst, sym}
 use Rattle.std.specs.Arc.{arc_value}
 use Rattle.tk_order.specs.Legality.{of}
-use Rattle.tk_cluster.specs.Sets.{Stands}
+use Rattle.tk_cluster.specs.Sets.{StandsAtMark}
 use Rattle.tk_cluster.specs.Tellings.{Telling, Published}
 use Rattle.tk_cluster.proofs.Telling.{telling, one_left, shown_on, published}
 use Rattle.tk_cluster.proofs.publisher.Publisher.show.Goals as goal
@@ -17,7 +17,7 @@ invariant_of-self-2 g c =
     c.requires.due) in
     shown_on shape s.seat s.board s.marked s.ordered s.shown c.self.invariant c.show.new.self
     (arc_value c.args.set) left
-    (subst (λ (p : Telling). Stands shape p.seen (length p.shown) (arc_value c.args.set))
+    (subst (λ (p : Telling). StandsAtMark shape p.seen (length p.shown) (arc_value c.args.set))
     (sym c.self.view_is) c.requires.stands) c.in-Ok.ensures.ok.1
 
 pub returns-clause-published : goal.returns-clause-published
@@ -32,5 +32,5 @@ returns-clause-published g c =
     c.self.view_is
     (published shape s.seat s.board s.marked s.ordered s.shown c.self.invariant c.show.new.self
     (arc_value c.args.set) c.in-Ok.ensures.ok.0 left
-    (subst (λ (p : Telling). Stands shape p.seen (length p.shown) (arc_value c.args.set))
+    (subst (λ (p : Telling). StandsAtMark shape p.seen (length p.shown) (arc_value c.args.set))
     (sym c.self.view_is) c.requires.stands) c.in-Ok.ensures.ok.1)

@@ -5,7 +5,7 @@ use Rattle.std.proofs.lemmas.List.{take_more}
 use Rattle.tk_replica.specs.declared.asker.Asker.{Asker}
 use Rattle.tk_cluster.specs.Refusals.{answer_refusal, first_unanswered, IsManyRefusal, SpellsRead}
 use Rattle.tk_replica.specs.Replies.{asker_of}
-use Rattle.tk_cluster.specs.Many.{Names, AreReads}
+use Rattle.tk_cluster.specs.Many.{NamesEpoch, AreReads}
 use Rattle.tk_cluster.proofs.Together.{first-push, refused-at, reads-push}
 use Rattle.tk_cluster.proofs.set.EpochSet.reads.Goals as goal
 
@@ -31,7 +31,7 @@ loop-frame-preserved c =
     c.in_ok-push.ensures.items ∙ ap (λ (a : Asker). askers ++ a ∷ []) c.of.ensures
     in
     let both : now ≡ vectors ++ read.first ∷ read.second ∷ [] = c.in_ok-push_vectors.ensures in
-    let one : Names s.shape s.number frame read =
+    let one : NamesEpoch s.shape s.number frame read =
     record {
       spells =
           subst (λ (b : List ℕ). SpellsRead s.shape b read) bytes c.in_ok-read.ensures.spells;

@@ -5,7 +5,7 @@ use Rattle.std.proofs.lemmas.Result.{IfOk-weaker}
 use Rattle.tk_shape.specs.declared.shape.Shape.{Shape}
 use Rattle.tk_packets.specs.Frames.{marks_len}
 use Rattle.tk_member.specs.Epochs.{Marks, known, marks_at, filter_of}
-use Rattle.tk_member.specs.Keeping.{EpochsState, told_so_far, AreTold}
+use Rattle.tk_member.specs.Keeping.{EpochsState, told_so_far, AreToldByServers}
 use Rattle.tk_packets.proofs.Offers.{marks-whole}
 use Rattle.tk_member.proofs.Tellings.{marks-known}
 use Rattle.tk_member.proofs.epochs.Epochs.filter.Goals as goal
@@ -21,7 +21,7 @@ filter_of-requires c =
 
 -- the marks of a known epoch are there
 there : (shape : Shape) (last : List ℕ) (none : Marks) (marks : List Marks) (e : ℕ) (d : Marks)
-    (kept : EpochsState) → AreTold shape last none marks →
+    (kept : EpochsState) → AreToldByServers shape last none marks →
     record { shape = shape; told = told_so_far marks last } ≡ kept → e ≤ known kept.shape kept.told →
     (e ≡ 0 → ⊥) →
     (e - 1 < length marks) × (marks_at shape (told_so_far marks last) e ≡ get_or marks (e - 1) d)

@@ -5,7 +5,7 @@ use Rattle.tk_shape.specs.declared.shape.Shape.{Shape}
 use Rattle.tk_packets.specs.Packets.{PacketView}
 use Rattle.tk_member.specs.declared.fault.Fault.{Fault}
 use Rattle.tk_member.specs.Members.{MemberState}
-use Rattle.tk_member.specs.Acting.{Turned}
+use Rattle.tk_member.specs.Acting.{ActedMember}
 use Rattle.tk_member.specs.Words.{word_in}
 use Rattle.tk_member.specs.Steps.{step, heard, served, IsTurned, IsEnded}
 use Rattle.tk_member.proofs.StepLaws.{step-host, step-server, step-none}
@@ -31,7 +31,7 @@ returns-then-peer-eq0-clause-sent g c =
     ∙ ap (heard b m)
     (ap word_in (sym c.bytes-bytes.ensures) ∙ sym c.in_ok-word.ensures ∙ c.in-Some.is)
     in
-    subst (λ (r : Result Turned Fault). IfOk c.hear.result
+    subst (λ (r : Result ActedMember Fault). IfOk c.hear.result
     (λ (sent : Vec PacketView Global). IsTurned r c.hear.new.self sent.items)) (sym is)
     c.hear.ensures.sent
 
@@ -45,7 +45,7 @@ returns-then-peer-eq0-clause-ended g c =
     ∙ ap (heard b m)
     (ap word_in (sym c.bytes-bytes.ensures) ∙ sym c.in_ok-word.ensures ∙ c.in-Some.is)
     in
-    subst (λ (r : Result Turned Fault). IfErr c.hear.result (IsEnded r)) (sym is) c.hear.ensures.ended
+    subst (λ (r : Result ActedMember Fault). IfErr c.hear.result (IsEnded r)) (sym is) c.hear.ensures.ended
 
 -- a server's packet
 of-server : (b : _) (m : MemberState) (p : PacketView) (peer : ℕ) (shape : Shape) (frame : _) →
@@ -67,7 +67,7 @@ returns-then-peer-shape-clause-sent g c =
     c.shape.result.now c.bytes-bytes.result.now c.peer-peer.ensures c.bytes-bytes.ensures shape
     c.if-peer-eq0.false c.if-peer-shape.true
     in
-    subst (λ (r : Result Turned Fault). IfOk c.serve.result
+    subst (λ (r : Result ActedMember Fault). IfOk c.serve.result
     (λ (sent : Vec PacketView Global). IsTurned r c.serve.new.self sent.items)) (sym is)
     c.serve.ensures.sent
 
@@ -80,7 +80,7 @@ returns-then-peer-shape-clause-ended g c =
     c.shape.result.now c.bytes-bytes.result.now c.peer-peer.ensures c.bytes-bytes.ensures shape
     c.if-peer-eq0.false c.if-peer-shape.true
     in
-    subst (λ (r : Result Turned Fault). IfErr c.serve.result (IsEnded r)) (sym is)
+    subst (λ (r : Result ActedMember Fault). IfErr c.serve.result (IsEnded r)) (sym is)
     c.serve.ensures.ended
 
 pub returns-clause-ended : goal.returns-clause-ended

@@ -7,7 +7,7 @@ pub returns : goal.returns
 returns g c good =
     record {
       frame = refl;
-      slip = record { position = c.in-Ok.position; set = c.in-Ok-pin.set };
+      deed = record { position = c.in-Ok.position; set = c.in-Ok-pin.set };
       lies = refl;
       mid = c.write.new.pass;
       wrote = subst (λ (bytes : List ℕ). WroteBytes g.B.Naming.shape bytes c.args.self.now

@@ -8,7 +8,7 @@ use Rattle.tk_shape.specs.declared.shape.Shape.{Shape}
 use Rattle.tk_replica.specs.Epochs.{IsEpochOf}
 use Rattle.tk_serve.specs.Seats.{placed_to}
 use Rattle.tk_serve.specs.Desks.{DeskView, desk_answered}
-use Rattle.tk_serve.specs.Answering.{MayAnswer, news_for}
+use Rattle.tk_serve.specs.Answering.{IsAnswerable, news_for}
 use Rattle.tk_serve.proofs.StandsLaws.{desks-clients, stands-next_epoch}
 use Rattle.tk_serve.proofs.TellLaws.{last-is, tell-small, tell-reads, tell-told}
 use Rattle.tk_serve.proofs.server.Server.tell_all.Goals as goal
@@ -38,7 +38,7 @@ tell_desks-requires-clause-reads c =
     let may = c.requires in
     let s = c.args.self.now in
     let same : c.as_mut_slice.result.now ≡ s.desks.items = search rules in
-    subst (λ ds. All (λ (d : DeskView). All (MayAnswer c.epoch-epoch.result.now) (take s.shape.ticks d.asking)) ds)
+    subst (λ ds. All (λ (d : DeskView). All (IsAnswerable c.epoch-epoch.result.now) (take s.shape.ticks d.asking)) ds)
     (sym same)
     (tell-reads may.shape_of may.seats_of may.turn_of may.epoch_of s may.stands may.one_more c.epoch-epoch.result.now
     (c.epoch-epoch.ensures.same ∙ ((may.stands).state_is).same))
