@@ -2,8 +2,7 @@
 use Rattle.std.specs.Prelude.{Option}
 use Rattle.tk_client.specs.declared.say_error.SayError.{SayError}
 use Rattle.embed.specs.declared.fault.Fault.{Fault}
-use Rattle.embed.specs.declared.fault.Fault.TheVariants.{Shape, Say, Frame, NotNext, Pin, Serve}
-use Rattle.embed.specs.declared.fault.Fault.TheVariants.{Take, Output, Memory}
+use Rattle.embed.specs.declared.fault.Fault.TheVariants.{Shape, Say, Frame, NotNext, Pin, Serve, Take, Output, Memory}
 use Rattle.embed.specs.Faults.{IsReadFault, IsTalkFault}
 
 pub reads-talk : (wrong : Option SayError) (fault : Fault) → IsReadFault fault → IsTalkFault wrong fault

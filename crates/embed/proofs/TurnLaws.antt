@@ -1,6 +1,5 @@
 -- The entries of a turn are in range, and each is the next one.
-use Rattle.std.proofs.Common.{◌≡◌, ℕ, ◌+◌, ◌*◌, ◌<◌, ◌≤◌, ap, arith, refl, List, [], ◌∷◌, ◌++◌}
-use Rattle.std.proofs.Common.{length-append}
+use Rattle.std.proofs.Common.{◌≡◌, ℕ, ◌+◌, ◌*◌, ◌<◌, ◌≤◌, ap, arith, refl, List, [], ◌∷◌, ◌++◌, length-append}
 use Rattle.std.proofs.lemmas.Nat.{mul-le}
 use Rattle.tk_shape.specs.declared.shape.Shape.{Shape}
 use Rattle.tk_shape.specs.Lengths.{turn_count}

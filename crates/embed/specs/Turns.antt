@@ -13,8 +13,7 @@ use Rattle.tk_client.specs.Writing.{first_waiting, after_write, with_text}
 use Rattle.tk_client.specs.Writes.{write_of}
 use Rattle.tk_client.specs.Asked.{asked}
 use Rattle.tk_client.specs.declared.target.Target.{Target}
-use Rattle.tk_client.specs.Client.{ClientState, new_client, target_over, opened}
-use Rattle.tk_client.specs.Client.{after_replies}
+use Rattle.tk_client.specs.Client.{ClientState, new_client, target_over, opened, after_replies}
 
 -- ---- what is written
 

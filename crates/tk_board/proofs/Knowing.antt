@@ -7,8 +7,7 @@ use Rattle.atomic_table.specs.Seated.{TableId}
 use Rattle.atomic_table.specs.declared.shared.Seat.{Seat}
 use Rattle.tk_board.specs.declared.rule.View.{View}
 use Rattle.tk_board.specs.Rules.{Sat, drafting}
-use Rattle.tk_board.specs.Boards.{Known, AllFit, AllBegin, GoesOn}
-use Rattle.tk_board.specs.Boards.{Book, book, IsLedger}
+use Rattle.tk_board.specs.Boards.{Known, AllFit, AllBegin, GoesOn, Book, book, IsLedger}
 use Rattle.tk_lists.proofs.Offers.{prefix_self, prefix_whole}
 
 -- no longer list was told, so the one that was seen stays

@@ -1,8 +1,7 @@
 -- Each step keeps the rule.
 use Rattle.std.proofs.Common.{◌≡◌, ◌≢◌, ℕ, zero, suc, ◌+◌, ◌<◌, ◌==◌, Bool, true, false}
 use Rattle.std.proofs.Common.{Option, Some, List, [], ◌∷◌, ◌++◌, length, set}
-use Rattle.std.proofs.Common.{refl, ap, sym, ◌∙◌, subst, arith, ◌⊎◌, inl, inr}
-use Rattle.std.proofs.Common.{⊎_elim}
+use Rattle.std.proofs.Common.{refl, ap, sym, ◌∙◌, subst, arith, ◌⊎◌, inl, inr, ⊎_elim}
 use Rattle.std.specs.Prelude.{slice_index}
 use Rattle.std.proofs.lemmas.List.{get_or-set_same, length-set, set-get_or}
 use Rattle.std.proofs.lemmas.Bool.Decides.{nat_tests}

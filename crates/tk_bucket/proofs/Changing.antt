@@ -14,10 +14,8 @@ use Rattle.tk_bucket.specs.declared.held.Held.{Held}
 use Rattle.tk_bucket.specs.Sizes.{IsSizes, bucket_len}
 use Rattle.tk_bucket.specs.Table.{Slot, bucket_at, with_slot}
 use Rattle.tk_bucket.specs.Packing.{IsWhole, table_of, table_in, bucket_in}
-use Rattle.tk_bucket.specs.Paging.{IsPerPage, Paging, shared_count, one_if}
-use Rattle.tk_bucket.specs.Paging.{with_owned, with_changed}
-use Rattle.tk_bucket.specs.Holding.{IsHeld, held_bytes, is_shared, page_len}
-use Rattle.tk_bucket.specs.Holding.{table_in_pages, paging_of}
+use Rattle.tk_bucket.specs.Paging.{IsPerPage, Paging, shared_count, one_if, with_owned, with_changed}
+use Rattle.tk_bucket.specs.Holding.{IsHeld, held_bytes, is_shared, page_len, table_in_pages, paging_of}
 use Rattle.tk_bucket.proofs.Rows.{AllSized-get, get_row, set_row}
 
 -- each page's table has as many buckets

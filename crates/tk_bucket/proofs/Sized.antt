@@ -11,8 +11,7 @@ use Rattle.tk_bucket.specs.Packing.{table_of}
 use Rattle.tk_bucket.specs.Holding.{IsHeld, held_bytes, page_len, table_in_pages, contents_of}
 use Rattle.tk_bucket.proofs.Rows.{length_rows}
 use Rattle.tk_bucket.proofs.Tables.{sized_table}
-use Rattle.tk_bucket.proofs.Changing.{Lies, page_rows, page_below, bucket_below, page_whole}
-use Rattle.tk_bucket.proofs.Changing.{bucket_there}
+use Rattle.tk_bucket.proofs.Changing.{Lies, page_rows, page_below, bucket_below, page_whole, bucket_there}
 
 get_or_any : (xs : List Held) (i : ℕ) (d e : Held) → i < length xs → get_or xs i d ≡ get_or xs i e
 get_or_any [] i d e h = absurd (omega arith)

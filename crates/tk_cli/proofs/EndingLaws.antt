@@ -1,6 +1,5 @@
 -- How a request ends.
-use Rattle.std.proofs.Common.{◌≡◌, ◌∙◌, ◌↔◌, refl, ap, subst, inl, inr, ℕ, List, take}
-use Rattle.std.proofs.Common.{Option, Some}
+use Rattle.std.proofs.Common.{◌≡◌, ◌∙◌, ◌↔◌, refl, ap, subst, inl, inr, ℕ, List, take, Option, Some}
 use Rattle.tk_io.specs.Content.{gained}
 use Rattle.tk_schedule.specs.declared.history.History.{History}
 use Rattle.tk_script.specs.declared.input.Input.{Input}

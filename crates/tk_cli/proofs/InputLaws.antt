@@ -1,6 +1,5 @@
 -- The input of a request, and what refuses it.
-use Rattle.std.proofs.Common.{◌≡◌, ◌∙◌, ◌==◌, ◌≢◌, refl, ap, sym, subst, ℕ, List, cond}
-use Rattle.std.proofs.Common.{Option, Some, arith}
+use Rattle.std.proofs.Common.{◌≡◌, ◌∙◌, ◌==◌, ◌≢◌, refl, ap, sym, subst, ℕ, List, cond, Option, Some, arith}
 use Rattle.std.specs.Prelude.{None, Result, Ok, Err, IfOk, IfErr}
 use Rattle.std.proofs.lemmas.Bool.Decides.{nat_tests}
 use Rattle.tk_io.specs.Content.{TakesUpTo}

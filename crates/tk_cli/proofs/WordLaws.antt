@@ -1,6 +1,5 @@
 -- How a request ends whose input is read.
-use Rattle.std.proofs.Common.{◌≡◌, ◌≢◌, ◌∙◌, ◌≤◌, refl, sym, ap, subst, ℕ, List, Option, Some}
-use Rattle.std.proofs.Common.{Ok, Err, [], arith}
+use Rattle.std.proofs.Common.{◌≡◌, ◌≢◌, ◌∙◌, ◌≤◌, refl, sym, ap, subst, ℕ, List, Option, Some, Ok, Err, [], arith}
 use Rattle.std.specs.Prelude.{None, Result, IfOk, IfErr}
 use Rattle.tk_io.specs.Content.{TakesUpTo, Rose, before_taking}
 use Rattle.tk_schedule.specs.declared.history.History.{History}
@@ -25,8 +24,7 @@ use Rattle.tk_cli.specs.Puts.{PutsText, PutsNothing, PutsSome}
 use Rattle.tk_cli.specs.Texts.{IsTextOf}
 use Rattle.tk_cli.specs.Inputs.{IsDoneWith, HasScript, ReadsWhole, Stops, HasBookOfKeys, tape_refusal, phase_refusal}
 use Rattle.tk_cli.specs.Outside.{Outside, outside, IsUnwritten, IsUntapped, NoCountFalls}
-use Rattle.tk_cli.specs.Endings.{LeavesSource, LeavesTaps, HandsNothing}
-use Rattle.tk_cli.specs.Endings.{IsAnswered, StopsInTaps, EndsWith}
+use Rattle.tk_cli.specs.Endings.{LeavesSource, LeavesTaps, HandsNothing, IsAnswered, StopsInTaps, EndsWith}
 use Rattle.tk_cli.specs.Endings.{HowEnds, Ends, WritesText}
 use Rattle.tk_cli.proofs.InputLaws.{not_over, over-as, err_same, ok_long, whole-not_refused, run-stops, epoch-refuses}
 use Rattle.tk_cli.proofs.EndingLaws.{IsPlain, stopped, run_stopped, made-ends}

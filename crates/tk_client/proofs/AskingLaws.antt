@@ -17,8 +17,7 @@ use Rattle.tk_kernel.proofs.Offers.{pieces-append, all_pieces-append, all_pieces
 use Rattle.tk_kernel.proofs.Offers.{concat-all_pieces, AllSized-all_pieces}
 use Rattle.tk_bits.specs.Shares.{last_share, completed, shares, share_at}
 use Rattle.tk_bits.proofs.Offers.{vector-at, seed-at}
-use Rattle.tk_words.specs.Words.{WordBook, words_of, BothBuckets, joined}
-use Rattle.tk_words.specs.Words.{fresh_seeds, fresh_vectors, shows_vectors}
+use Rattle.tk_words.specs.Words.{WordBook, words_of, BothBuckets, joined, fresh_seeds, fresh_vectors, shows_vectors}
 use Rattle.tk_frames.specs.declared.read_frame.ReadFrame.{ReadFrame}
 use Rattle.tk_frames.specs.Spelling.{read_frame}
 use Rattle.tk_frames.specs.declared.seeds.Seeds.{Seeds}

@@ -1,14 +1,12 @@
 -- What a client keeps through a read.
-use Rattle.std.proofs.Common.{◌≡◌, refl, sym, subst, cond, true, false}
-use Rattle.std.proofs.Common.{ℕ, ◌+◌, ◌<◌}
+use Rattle.std.proofs.Common.{◌≡◌, refl, sym, subst, cond, true, false, ℕ, ◌+◌, ◌<◌}
 use Rattle.std.proofs.Common.{Option, Some, None, List, length, map}
 use Rattle.std.specs.Prelude.{◌==◌}
 use Rattle.std.proofs.lemmas.List.{length-map}
 use Rattle.std.proofs.lemmas.List.Elements.{All-map, All-set}
 use Rattle.tk_shape.specs.declared.shape.Shape.{Shape}
 use Rattle.tk_client.specs.declared.open_read.OpenRead.{OpenRead}
-use Rattle.tk_client.specs.Reader.{Follow, Reader, Target, new_follow, untried}
-use Rattle.tk_client.specs.Reader.{follow_after, follow_at}
+use Rattle.tk_client.specs.Reader.{Follow, Reader, Target, new_follow, untried, follow_after, follow_at}
 use Rattle.tk_client.specs.Reader.{at_epoch, after_read}
 use Rattle.tk_client.specs.Searching.{AreBelow, IsTargetOrNone}
 use Rattle.tk_client.specs.Client.{IsOpenOrNone}

@@ -1,8 +1,6 @@
 -- Which number of a log is wanted.
-use Rattle.std.proofs.Common.{◌≡◌, refl, ap, sym, ◌∙◌, arith}
-use Rattle.std.proofs.Common.{ℕ, suc, ◌+◌, ◌-◌, ◌<◌, ◌≤◌, nat_lt}
-use Rattle.std.proofs.Common.{Bool, true, false, cond, ◌&&◌, Some, None}
-use Rattle.std.proofs.Common.{List, [], ◌∷◌, length}
+use Rattle.std.proofs.Common.{◌≡◌, refl, ap, sym, ◌∙◌, arith, ℕ, suc, ◌+◌, ◌-◌, ◌<◌, ◌≤◌, nat_lt}
+use Rattle.std.proofs.Common.{Bool, true, false, cond, ◌&&◌, Some, None, List, [], ◌∷◌, length}
 use Rattle.std.specs.Prelude.{◌==◌, find}
 use Rattle.std.specs.List.{range_with_len}
 use Rattle.std.proofs.lemmas.Bool.{cond-true, cond-false, le-ltb}

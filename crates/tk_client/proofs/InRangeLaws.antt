@@ -1,13 +1,11 @@
 -- What a client asks over a book that serves its shape is in range.
 use Rattle.std.proofs.Common.{◌≡◌, refl, ap, ap₂, sym, ◌∙◌, arith, Bool, true, false, cond}
 use Rattle.std.proofs.Common.{ℕ, zero, suc, ◌+◌, ◌-◌, ◌*◌, ◌%◌, ◌<◌, ◌≤◌, ltb-true}
-use Rattle.std.proofs.Common.{List, [], ◌∷◌, ◌++◌, length, map, drop}
-use Rattle.std.proofs.Common.{length-append, length-drop, Option}
+use Rattle.std.proofs.Common.{List, [], ◌∷◌, ◌++◌, length, map, drop, length-append, length-drop, Option}
 use Rattle.std.specs.Prelude.{slice_index_or, Some, None, nat_lt, ◌==◌, ◌&&◌}
 use Rattle.std.specs.List.{AllByRecursion, range_with_len}
 use Rattle.std.proofs.lemmas.Bool.{eqb-true, and_parts}
-use Rattle.std.proofs.lemmas.List.{length-map, length-take-le, take_at, drop_at}
-use Rattle.std.proofs.lemmas.List.{get_or_append_left}
+use Rattle.std.proofs.lemmas.List.{length-map, length-take-le, take_at, drop_at, get_or_append_left}
 use Rattle.std.proofs.lemmas.Nat.{mod_below}
 use Rattle.tk_shape.specs.declared.shape.Shape.{Shape}
 use Rattle.tk_shape.specs.Lengths.{turn_count, seed_len, vector_len, piece_len, read_cell_len}
@@ -20,16 +18,14 @@ use Rattle.tk_bits.proofs.Offers.{length-last_share, vector-at, seed-at}
 use Rattle.tk_words.specs.Words.{WordBook, keyed, drawn, words_of, IsBook, BothBuckets}
 use Rattle.tk_words.specs.Words.{cut_for_both, for_each, keyed_for_both, cell_pieces}
 use Rattle.tk_words.specs.Words.{piece_seed, piece_vector, shows_vectors}
-use Rattle.tk_words.specs.Words.{pair_of, fresh_pair, fresh_seeds, fresh_vectors, seed_at}
-use Rattle.tk_words.specs.Words.{read_cell, read_part}
+use Rattle.tk_words.specs.Words.{pair_of, fresh_pair, fresh_seeds, fresh_vectors, seed_at, read_cell, read_part}
 use Rattle.tk_words.specs.CellLaws.{place_within, length-piece, length-read_part}
 use Rattle.tk_frames.specs.declared.read_frame.ReadFrame.{ReadFrame}
 use Rattle.tk_frames.specs.declared.seeds.Seeds.TheVariants.{Plain, Seeded, Shown}
 use Rattle.tk_frames.specs.Ranges.{IsRead, AreTwoSeeds, AreSeeds, Expand, AreTold}
 use Rattle.tk_client.specs.Reader.{Target}
 use Rattle.tk_client.specs.Asked.{pair_for, frame_with, frame_for, asked, AreForBoth}
-use Rattle.tk_client.specs.Laws.{AskedAreInRange, PairsAreInRange, VectorsAreWhole}
-use Rattle.tk_client.specs.Laws.{SeedsAreWhole}
+use Rattle.tk_client.specs.Laws.{AskedAreInRange, PairsAreInRange, VectorsAreWhole, SeedsAreWhole}
 
 -- ---- the buckets
 

@@ -1,6 +1,5 @@
 -- The sum of replies grows reply by reply.
-use Rattle.std.proofs.Common.{◌≡◌, refl, ap, sym, ◌∙◌, arith}
-use Rattle.std.proofs.Common.{ℕ, zero, suc, ◌+◌, ◌<◌}
+use Rattle.std.proofs.Common.{◌≡◌, refl, ap, sym, ◌∙◌, arith, ℕ, zero, suc, ◌+◌, ◌<◌}
 use Rattle.std.proofs.Common.{List, [], ◌∷◌, ◌++◌, length, map, get_or, take, drop, replicate}
 use Rattle.std.proofs.lemmas.List.{map_more, length-take-le, length-drop}
 use Rattle.tk_shape.specs.declared.shape.Shape.{Shape}

@@ -1,6 +1,5 @@
 -- The logs of a reader: where a search of them begins and ends, and what a new epoch makes of them.
-use Rattle.std.proofs.Common.{◌≡◌, refl, ap, sym, ◌∙◌, arith}
-use Rattle.std.proofs.Common.{ℕ, zero, suc, ◌+◌, ◌-◌, ◌%◌, ◌<◌, ◌≤◌}
+use Rattle.std.proofs.Common.{◌≡◌, refl, ap, sym, ◌∙◌, arith, ℕ, zero, suc, ◌+◌, ◌-◌, ◌%◌, ◌<◌, ◌≤◌}
 use Rattle.std.proofs.Common.{Bool, true, false, cond, Option, Some, None}
 use Rattle.std.proofs.Common.{List, [], ◌∷◌, ◌++◌, length, map, filter, set, get_or}
 use Rattle.std.specs.Prelude.{◌==◌, not, find, slice_set}
@@ -10,12 +9,10 @@ use Rattle.std.proofs.lemmas.Bool.{eqb-true}
 use Rattle.std.proofs.lemmas.List.{map-set, length-map}
 use Rattle.tk_shape.specs.declared.shape.Shape.{Shape}
 use Rattle.tk_frames.specs.Lists.{first_some}
-use Rattle.tk_client.specs.Reader.{Follow, untried, follow_after, Reader, at_epoch}
-use Rattle.tk_client.specs.Reader.{Target, target, after_read}
+use Rattle.tk_client.specs.Reader.{Follow, untried, follow_after, Reader, at_epoch, Target, target, after_read}
 use Rattle.tk_client.specs.declared.got.Got.{Got}
-use Rattle.tk_client.specs.Reader.{follow_in, target_in}
+use Rattle.tk_client.specs.Reader.{follow_in, target_in, first_got, got_in}
 use Rattle.tk_client.specs.Searching.{follows_anew}
-use Rattle.tk_client.specs.Reader.{first_got, got_in}
 
 -- ---- the first that is given
 

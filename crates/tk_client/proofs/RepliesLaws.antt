@@ -1,6 +1,5 @@
 -- Replies that are read one after the other.
-use Rattle.std.proofs.Common.{◌≡◌, refl, ap, ap₂, sym, ◌∙◌, arith, inl, inr}
-use Rattle.std.proofs.Common.{ℕ, zero, suc, ◌+◌, ◌<◌, Option, None}
+use Rattle.std.proofs.Common.{◌≡◌, refl, ap, ap₂, sym, ◌∙◌, arith, inl, inr, ℕ, zero, suc, ◌+◌, ◌<◌, Option, None}
 use Rattle.std.proofs.Common.{List, [], ◌∷◌, length, map, get_or, take, drop}
 use Rattle.std.specs.List.{AllByRecursion}
 use Rattle.std.specs.Option.{option_or}
@@ -11,8 +10,7 @@ use Rattle.tk_frames.specs.Spelling.{reply_frame}
 use Rattle.tk_frames.specs.Ranges.{IsReply}
 use Rattle.tk_frames.proofs.Offers.{reply-again}
 use Rattle.tk_client.specs.declared.take_error.TakeError.{TakeError}
-use Rattle.tk_client.specs.Replies.{frames_in, unread, first_unread, IsRefusedForOrMemory}
-use Rattle.tk_client.specs.Replies.{AreWholeReplies}
+use Rattle.tk_client.specs.Replies.{frames_in, unread, first_unread, IsRefusedForOrMemory, AreWholeReplies}
 
 -- the first of faults, one reply further
 pub first_unread-here : (shape : Shape) (replies : List (List ℕ)) (i : ℕ) (server : ℕ)

@@ -11,9 +11,7 @@ use Rattle.tk_shape.specs.declared.shape.Shape.{Shape}
 use Rattle.tk_shape.specs.Lengths.{slot_len, width}
 use Rattle.tk_kernel.specs.Pieces.{pieces, all_pieces}
 use Rattle.tk_kernel.proofs.Offers.{all_pieces-append, all_pieces_short}
-use Rattle.tk_frames.specs.Slots.{Slot}
-use Rattle.tk_frames.specs.Slots.{slot_from, slots_in, Accepted, accepted, earlier_of, earliest}
-use Rattle.tk_frames.specs.Slots.{text_among}
+use Rattle.tk_frames.specs.Slots.{Slot, slot_from, slots_in, Accepted, accepted, earlier_of, earliest, text_among}
 use Rattle.tk_client.specs.Taken.{earlier_of_both}
 
 -- ---- the earlier of several

@@ -1,13 +1,11 @@
 -- What a client asks of every server in a turn.
-use Rattle.std.specs.Prelude.{◌≡◌, ℕ, ◌-◌, ◌==◌, nat_lt, ◌&&◌, Bool, cond, List, ◌++◌, length, map}
-use Rattle.std.specs.Prelude.{Option, Some, None}
+use Rattle.std.specs.Prelude.{◌≡◌, ℕ, ◌-◌, ◌==◌, nat_lt, ◌&&◌, Bool, cond, List, ◌++◌, length, map, Option, Some, None}
 use Rattle.std.specs.List.{range_with_len}
 use Rattle.tk_shape.specs.declared.shape.Shape.{Shape}
 use Rattle.tk_shape.specs.Lengths.{vector_len}
 use Rattle.tk_kernel.specs.Pieces.{AllSized}
 use Rattle.tk_bits.specs.Shares.{Share, shares, share_at}
-use Rattle.tk_words.specs.Words.{WordBook, BookWords, BothBuckets, words_of}
-use Rattle.tk_words.specs.Words.{fresh_seeds, fresh_vectors, shows_vectors}
+use Rattle.tk_words.specs.Words.{WordBook, BookWords, BothBuckets, words_of, fresh_seeds, fresh_vectors, shows_vectors}
 use Rattle.tk_frames.specs.declared.read_frame.ReadFrame.{ReadFrame}
 use Rattle.tk_frames.specs.declared.seeds.Seeds.{Seeds}
 use Rattle.tk_frames.specs.declared.seeds.Seeds.TheVariants.{Plain, Seeded, Shown}

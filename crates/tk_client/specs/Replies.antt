@@ -1,6 +1,5 @@
 -- What the replies to a read give, and which replies give nothing.
-use Rattle.std.specs.Prelude.{◌≡◌, ◌≢◌, ◌⊎◌, ◌+◌, ◌==◌, ℕ, cond, List, [], ◌∷◌, length, map}
-use Rattle.std.specs.Prelude.{Option, Some, None}
+use Rattle.std.specs.Prelude.{◌≡◌, ◌≢◌, ◌⊎◌, ◌+◌, ◌==◌, ℕ, cond, List, [], ◌∷◌, length, map, Option, Some, None}
 use Rattle.std.specs.List.{AllByRecursion}
 use Rattle.std.specs.Option.{option_or, option_map}
 use Rattle.tk_shape.specs.declared.shape.Shape.{Shape}

@@ -1,13 +1,11 @@
 -- Which texts may be said, and why others may not.
-use Rattle.std.specs.Prelude.{◌≡◌, ℕ, ◌+◌, ◌-◌, nat_lt, ◌==◌, Bool, List, length, Option, Some}
-use Rattle.std.specs.Prelude.{None, if◌then◌else◌}
+use Rattle.std.specs.Prelude.{◌≡◌, ℕ, ◌+◌, ◌-◌, nat_lt, ◌==◌, Bool, List, length, Option, Some, None, if◌then◌else◌}
 use Rattle.std.specs.List.{list_any}
 use Rattle.tk_shape.specs.declared.shape.Shape.{Shape}
 use Rattle.tk_seal.specs.Texts.{is_allowed, allowed_front}
 use Rattle.tk_client.specs.declared.written.Written.{Written}
 use Rattle.tk_client.specs.declared.say_error.SayError.{SayError}
-use Rattle.tk_client.specs.declared.say_error.SayError.TheVariants.{NotWriter, TooLong, Text}
-use Rattle.tk_client.specs.declared.say_error.SayError.TheVariants.{Memory}
+use Rattle.tk_client.specs.declared.say_error.SayError.TheVariants.{NotWriter, TooLong, Text, Memory}
 
 -- one of these logs
 abbrev pub is_written : ℕ → List Written → Bool

@@ -1,7 +1,5 @@
 -- How a reader looks for what it reads next.
-use Rattle.std.specs.Prelude.{◌<◌, ◌≤◌, ℕ, nat_lt, Bool, ◌&&◌, cond, All}
-use Rattle.std.specs.Prelude.{List, map}
-use Rattle.std.specs.Prelude.{Option, Some, None}
+use Rattle.std.specs.Prelude.{◌<◌, ◌≤◌, ℕ, nat_lt, Bool, ◌&&◌, cond, All, List, map, Option, Some, None}
 use Rattle.tk_shape.specs.declared.shape.Shape.{Shape}
 use Rattle.tk_shape.specs.Lengths.{turn_count}
 use Rattle.tk_client.specs.Reader.{Follow, Target, untried}

@@ -1,6 +1,5 @@
 -- What a set replies.
-use Rattle.std.proofs.Common.{◌≡◌, ℕ, ap, ap₂, sym, ◌∙◌}
-use Rattle.std.proofs.Common.{List}
+use Rattle.std.proofs.Common.{◌≡◌, ℕ, ap, ap₂, sym, ◌∙◌, List}
 use Rattle.tk_shape.specs.declared.shape.Shape.{Shape}
 use Rattle.tk_shape.specs.Lengths.{width}
 use Rattle.tk_kernel.specs.Chosen.{chosen_sum}
@@ -14,8 +13,7 @@ use Rattle.tk_table.specs.Table.{layout, blocks_of}
 use Rattle.tk_table.specs.Replies.{reply_to}
 use Rattle.tk_replica.specs.declared.epoch.Epoch.{Epoch}
 use Rattle.tk_replica.specs.Epochs.{IsEpochOf}
-use Rattle.tk_replica.specs.Replies.{asker_of, asker_reply, frame_over, reply_for, reply_due}
-use Rattle.tk_replica.specs.Replies.{reply_bytes}
+use Rattle.tk_replica.specs.Replies.{asker_of, asker_reply, frame_over, reply_for, reply_due, reply_bytes}
 use Rattle.tk_cluster.specs.Refusals.{SpellsRead}
 
 -- the sums over the blocks that the writes before the mark of an epoch leave make the reply to a

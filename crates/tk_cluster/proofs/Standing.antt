@@ -1,6 +1,5 @@
 -- What sets stand for when more entries come.
-use Rattle.std.proofs.Common.{◌≡◌, ◌⊎◌, inl, inr, ⊎_elim, ℕ, zero, suc, ◌≤◌, refl, ap}
-use Rattle.std.proofs.Common.{sym, ◌∙◌, subst, arith}
+use Rattle.std.proofs.Common.{◌≡◌, ◌⊎◌, inl, inr, ⊎_elim, ℕ, zero, suc, ◌≤◌, refl, ap, sym, ◌∙◌, subst, arith}
 use Rattle.std.proofs.Common.{List, [], ◌∷◌, ◌++◌, length, take, Some, slice_get}
 use Rattle.std.proofs.lemmas.List.{take-append-le}
 use mathlib.Core.List.{IsPrefix}
@@ -8,8 +7,7 @@ use Rattle.tk_shape.specs.declared.shape.Shape.{Shape}
 use Rattle.tk_frames.specs.declared.entry.Placed.{Placed}
 use Rattle.tk_frames.specs.Order.{Record}
 use Rattle.tk_frames.specs.InOrder.{mark_count, IsOrder}
-use Rattle.tk_frames.proofs.Offers.{before-more, order-front}
-use Rattle.tk_frames.proofs.Offers.{marks-append}
+use Rattle.tk_frames.proofs.Offers.{before-more, order-front, marks-append}
 use Rattle.tk_replica.specs.declared.epoch.Epoch.{Epoch}
 use Rattle.tk_replica.specs.Epochs.{EpochStandsFor, IsEpochOf}
 use Rattle.tk_replica.specs.Following.{marks_among}

@@ -1,7 +1,6 @@
 -- What each call does to the publisher.
 use Rattle.std.proofs.Common.{◌≡◌, inl, inr, ⊎_elim, ℕ, zero, suc, ◌+◌, ◌≤◌, refl, ap}
-use Rattle.std.proofs.Common.{sym, ◌∙◌, subst, arith, length-append}
-use Rattle.std.proofs.Common.{List, [], ◌∷◌, ◌++◌, length, take, Some}
+use Rattle.std.proofs.Common.{sym, ◌∙◌, subst, arith, length-append, List, [], ◌∷◌, ◌++◌, length, take, Some}
 use mathlib.Core.List.{IsPrefix}
 use Rattle.tk_shape.specs.declared.shape.Shape.{Shape}
 use Rattle.tk_frames.specs.declared.entry.Placed.{Placed}

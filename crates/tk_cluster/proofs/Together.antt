@@ -1,7 +1,6 @@
 -- Frames that are answered together.
 use Rattle.std.proofs.Common.{◌*◌, ◌≡◌, ℕ, zero, suc, ◌<◌, inl, inr, refl, ap, ap₂, sym, ◌∙◌, arith}
-use Rattle.std.proofs.Common.{subst, List, [], ◌∷◌, ◌++◌, length, take, map, Option, Some, None}
-use Rattle.std.proofs.Common.{◌≢◌, Bool, cond}
+use Rattle.std.proofs.Common.{subst, List, [], ◌∷◌, ◌++◌, length, take, map, Option, Some, None, ◌≢◌, Bool, cond}
 use Rattle.std.proofs.lemmas.Bool.{eq-eqb, ne_eqb}
 use Rattle.std.specs.Prelude.{slice_index_or}
 use Rattle.std.specs.Option.{option_or}
@@ -22,8 +21,7 @@ use Rattle.tk_frames.specs.Lists.{first_some}
 use Rattle.tk_frames.specs.Order.{before}
 use Rattle.tk_table.specs.Table.{layout, blocks_of}
 use Rattle.tk_replica.specs.declared.asker.Asker.{Asker}
-use Rattle.tk_replica.specs.Replies.{reply_bytes}
-use Rattle.tk_replica.specs.Replies.{asker_of, both_vectors, frames_with}
+use Rattle.tk_replica.specs.Replies.{reply_bytes, asker_of, both_vectors, frames_with}
 use Rattle.tk_replica.proofs.Offers.{both-push}
 use Rattle.tk_cluster.specs.declared.error.AnswerError.{AnswerError}
 use Rattle.tk_cluster.specs.declared.error.AnswerError.TheVariants.{Epoch as OtherEpoch}

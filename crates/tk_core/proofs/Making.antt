@@ -1,11 +1,8 @@
 -- What the events of an order make.
-use Rattle.std.proofs.Common.{◌≡◌, ℕ, zero, suc, ◌+◌, ◌-◌, ◌<◌, ◌≤◌, refl, ap, ap₂, sym, ◌∙◌, subst}
-use Rattle.std.proofs.Common.{arith}
-use Rattle.std.proofs.Common.{List, [], ◌∷◌, ◌++◌, length, cond, true, false, Bool, set, replicate}
-use Rattle.std.proofs.Common.{flat_map}
+use Rattle.std.proofs.Common.{◌≡◌, ℕ, zero, suc, ◌+◌, ◌-◌, ◌<◌, ◌≤◌, refl, ap, ap₂, sym, ◌∙◌, subst, arith}
+use Rattle.std.proofs.Common.{List, [], ◌∷◌, ◌++◌, length, cond, true, false, Bool, set, replicate, flat_map}
 use Rattle.std.proofs.Common.{append_assoc, append-nil, length-append, nat_lt, lt-ltb, eq-eqb}
-use Rattle.std.specs.Prelude.{slice_index, slice_index_or, find, position, option_map, Option, Some}
-use Rattle.std.specs.Prelude.{None, not, ◌||◌}
+use Rattle.std.specs.Prelude.{slice_index, slice_index_or, find, position, option_map, Option, Some, None, not, ◌||◌}
 use Rattle.std.specs.List.{range_with_len, prefix_len}
 use Rattle.std.proofs.Math.Seq.{get_or-append_seam}
 use Rattle.std.proofs.lemmas.Bool.{le-ltb}
@@ -15,16 +12,13 @@ use Rattle.tk_frames.specs.declared.entry.Entry.{Entry}
 use Rattle.tk_frames.specs.declared.entry.Entry.TheVariants.{Write as Writes, Mark as Marks}
 use Rattle.tk_frames.specs.Order.{has_mark, is_mark, is_mark_of, is_mark_numbered}
 use Rattle.tk_table.specs.Table.{layout, blocks_of}
-use Rattle.tk_frames.specs.InOrder.{mark_count, HasNumber, number_after, IsNext, IsOrderFrom}
-use Rattle.tk_frames.specs.InOrder.{IsOrder}
+use Rattle.tk_frames.specs.InOrder.{mark_count, HasNumber, number_after, IsNext, IsOrderFrom, IsOrder}
 use Rattle.tk_frames.proofs.Offers.{marks-push, order-push, order-front, has-no_mark, before-more}
 use Rattle.tk_core.specs.declared.event.Event.{Event}
 use Rattle.tk_core.specs.declared.event.Event.TheVariants.{Apply, Show, Read}
 use Rattle.tk_core.specs.declared.reply.Reply.TheVariants as replies
-use Rattle.tk_core.specs.Machine.{Machine, Step, stays, world_step, machine_after}
-use Rattle.tk_core.specs.Machine.{show_next, show_mark}
-use Rattle.tk_core.specs.Events.{applies, entry_events, done_after, events_from}
-use Rattle.tk_core.specs.Events.{last_mark_from}
+use Rattle.tk_core.specs.Machine.{Machine, Step, stays, world_step, machine_after, show_next, show_mark}
+use Rattle.tk_core.specs.Events.{applies, entry_events, done_after, events_from, last_mark_from}
 use Rattle.tk_core.specs.Laws.{ServersReadAlike, EventsMakeOrders, EpochsAreRead}
 use Rattle.tk_core.proofs.Lists.{after-append}
 

@@ -1,11 +1,8 @@
 -- The next epoch is shown, and what is below the one before it is let go.
-use Rattle.std.proofs.Common.{◌≡◌, ◌≢◌, ℕ, zero, suc, ◌+◌, ◌<◌, ◌≤◌, inl, inr, refl, ap, ap₂}
-use Rattle.std.proofs.Common.{sym, ◌∙◌}
+use Rattle.std.proofs.Common.{◌≡◌, ◌≢◌, ℕ, zero, suc, ◌+◌, ◌<◌, ◌≤◌, inl, inr, refl, ap, ap₂, sym, ◌∙◌}
 use Rattle.std.proofs.Common.{subst, arith, List, [], ◌∷◌, length, take, drop, set, cond}
-use Rattle.std.proofs.Common.{length-set, get_or-set_same, get_or-set_other}
-use Rattle.std.proofs.Common.{take-append-drop, lt-ltb}
-use Rattle.std.specs.Prelude.{slice_index_or, position, Some, None, nat_lt}
-use Rattle.std.specs.Prelude.{Bool, true, false, not}
+use Rattle.std.proofs.Common.{length-set, get_or-set_same, get_or-set_other, take-append-drop, lt-ltb}
+use Rattle.std.specs.Prelude.{slice_index_or, position, Some, None, nat_lt, Bool, true, false, not}
 use Rattle.std.specs.List.{prefix_len}
 use Rattle.std.proofs.lemmas.Bool.{cases_lt, ltb-false}
 use Rattle.std.proofs.lemmas.List.{get_or_default}
@@ -15,8 +12,7 @@ use Rattle.tk_replica.specs.Replica.{ReplicaView}
 use Rattle.tk_frames.proofs.Offers.{marks-append}
 use Rattle.tk_replica.proofs.Offers.{stands-released}
 use Rattle.tk_core.specs.Machine.{next_mark}
-use Rattle.tk_core.specs.World.{WorldView, machine_of, applied_in, Follows, IsWorld, released}
-use Rattle.tk_core.specs.World.{AreHolding, AreReleased}
+use Rattle.tk_core.specs.World.{WorldView, machine_of, applied_in, Follows, IsWorld, released, AreHolding, AreReleased}
 use Rattle.tk_core.proofs.Marked.{mark-counted}
 
 -- ---- one replica after the other

@@ -1,11 +1,8 @@
 -- Each step is the machine's.
-use Rattle.std.proofs.Common.{◌≡◌, ℕ, zero, suc, ◌+◌, ◌-◌, ◌<◌, ◌≤◌, refl, ap, ap₂, sym}
-use Rattle.std.proofs.Common.{◌∙◌}
-use Rattle.std.proofs.Common.{subst, arith, List, [], ◌∷◌, ◌++◌, length, take, drop, map, set, cond}
-use Rattle.std.proofs.Common.{true, false}
+use Rattle.std.proofs.Common.{◌≡◌, ℕ, zero, suc, ◌+◌, ◌-◌, ◌<◌, ◌≤◌, refl, ap, ap₂, sym, ◌∙◌}
+use Rattle.std.proofs.Common.{subst, arith, List, [], ◌∷◌, ◌++◌, length, take, drop, map, set, cond, true, false}
 use Rattle.std.proofs.Common.{take-append-drop, nat_lt, lt-ltb}
-use Rattle.std.specs.Prelude.{slice_index_or, slice_index, position, option_map, Option, Some, None}
-use Rattle.std.specs.Prelude.{Bool, not, find}
+use Rattle.std.specs.Prelude.{slice_index_or, slice_index, position, option_map, Option, Some, None, Bool, not, find}
 use Rattle.std.specs.List.{concat, prefix_len, position_or_len}
 use Rattle.std.proofs.Math.Seq.{take-append_seam}
 use Rattle.std.proofs.lemmas.Bool.{ltb-true, le-ltb}
@@ -27,10 +24,8 @@ use Rattle.tk_frames.proofs.Offers.{order-entry, before-more}
 use Rattle.tk_replica.proofs.Offers.{entry-next}
 use Rattle.tk_core.specs.declared.event.Event.TheVariants as events
 use Rattle.tk_core.specs.declared.reply.Reply.TheVariants as replies
-use Rattle.tk_core.specs.Machine.{stays, with_entry, world_step, applied_by, next_mark}
-use Rattle.tk_core.specs.Machine.{show_next, show_mark}
-use Rattle.tk_core.specs.World.{WorldView, machine_of, applied_in, Follows, IsWorld, IsServer}
-use Rattle.tk_core.specs.World.{AreReleased}
+use Rattle.tk_core.specs.Machine.{stays, with_entry, world_step, applied_by, next_mark, show_next, show_mark}
+use Rattle.tk_core.specs.World.{WorldView, machine_of, applied_in, Follows, IsWorld, IsServer, AreReleased}
 use Rattle.tk_core.proofs.Worlds.{follows-next, world-applied}
 use Rattle.tk_core.proofs.Released.{applied-released}
 

@@ -1,8 +1,6 @@
 -- The pure machine: an order, what each server has applied of it, and the epoch that is shown.
-use Rattle.std.specs.Prelude.{ℕ, ◌+◌, ◌-◌, nat_lt, cond, List, [], ◌∷◌, ◌++◌, length, find}
-use Rattle.std.specs.Prelude.{replicate}
-use Rattle.std.specs.Prelude.{position, slice_index, slice_set, slice_index_or, Option, Some, None}
-use Rattle.std.specs.Prelude.{option_map}
+use Rattle.std.specs.Prelude.{ℕ, ◌+◌, ◌-◌, nat_lt, cond, List, [], ◌∷◌, ◌++◌, length, find, replicate}
+use Rattle.std.specs.Prelude.{position, slice_index, slice_set, slice_index_or, Option, Some, None, option_map}
 use Rattle.tk_shape.specs.declared.shape.Shape.{Shape}
 use Rattle.tk_frames.specs.declared.entry.Placed.{Placed}
 use Rattle.tk_frames.specs.declared.entry.Entry.TheVariants as entries

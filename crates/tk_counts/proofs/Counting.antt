@@ -1,7 +1,6 @@
 -- Sums over lists in which each element stands once, and so over all lists of a length.
 use Rattle.std.proofs.Common.{◌≡◌, ℕ, zero, suc, ◌+◌, ◌*◌, ◌^◌, ◌<◌, ◌≤◌, Bool, true, false, cond}
-use Rattle.std.proofs.Common.{List, [], ◌∷◌, length, map, refl, ap, ap₂, sym, ◌∙◌, arith}
-use Rattle.std.proofs.Common.{subst, eqb-true}
+use Rattle.std.proofs.Common.{List, [], ◌∷◌, length, map, refl, ap, ap₂, sym, ◌∙◌, arith, subst, eqb-true}
 use Rattle.std.specs.Prelude.{◌&&◌, ◌==◌, count_by, flat_map}
 use Rattle.std.specs.Bool.{Decides}
 use Rattle.std.specs.List.{All, range_with_len, sum_by}

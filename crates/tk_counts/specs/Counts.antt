@@ -1,6 +1,5 @@
 -- All lists of a length of numbers below a bound, and counts over them.
-use Rattle.std.specs.Prelude.{◌≡◌, ℕ, zero, suc, ◌<◌, Bool, List, [], ◌∷◌, length, map, flat_map}
-use Rattle.std.specs.Prelude.{count_by, All}
+use Rattle.std.specs.Prelude.{◌≡◌, ℕ, zero, suc, ◌<◌, Bool, List, [], ◌∷◌, length, map, flat_map, count_by, All}
 use Rattle.std.specs.List.{range_with_len}
 
 -- each of these lists with each number below a bound in front of it

@@ -1,6 +1,5 @@
 -- What each element of a list has.
-use Rattle.std.proofs.Common.{List, [], ◌∷◌, ◌++◌, Bool, true, false, cond}
-use Rattle.std.proofs.Common.{filter}
+use Rattle.std.proofs.Common.{List, [], ◌∷◌, ◌++◌, Bool, true, false, cond, filter}
 use Rattle.std.specs.List.{AllByRecursion}
 
 pub each-both : {X : Type 0} (P Q : X → Type 0) (xs : List X) → AllByRecursion P xs →

@@ -1,7 +1,6 @@
 -- Which marks stand in an order, where they stand, and what stands before them.
 use Rattle.std.proofs.Common.{◌≡◌, ℕ, zero, suc, ◌+◌, ◌<◌, ◌≤◌, inl, inr, refl, ap, sym, ◌∙◌}
-use Rattle.std.proofs.Common.{arith, List, [], ◌∷◌, ◌++◌, Bool, true, false, ◌||◌, cond}
-use Rattle.std.proofs.Common.{eq-eqb, ne_eqb}
+use Rattle.std.proofs.Common.{arith, List, [], ◌∷◌, ◌++◌, Bool, true, false, ◌||◌, cond, eq-eqb, ne_eqb}
 use Rattle.std.specs.Prelude.{◌==◌}
 use Rattle.std.proofs.lemmas.Bool.{cases_lt}
 use Rattle.std.proofs.Math.Bool.{or-true}
@@ -9,10 +8,8 @@ use Rattle.tk_shape.specs.declared.shape.Shape.{Shape}
 use Rattle.tk_frames.specs.declared.entry.Placed.{Placed}
 use Rattle.tk_frames.specs.declared.entry.Entry.{Entry}
 use Rattle.tk_frames.specs.declared.entry.Entry.TheVariants.{Write, Mark}
-use Rattle.tk_frames.specs.Order.{records, before, has_mark}
-use Rattle.tk_frames.specs.Order.{is_mark, is_mark_numbered, is_mark_of}
-use Rattle.tk_frames.specs.InOrder.{mark_count, mark_position, HasNumber, number_after}
-use Rattle.tk_frames.specs.InOrder.{IsOrderFrom, IsOrder}
+use Rattle.tk_frames.specs.Order.{records, before, has_mark, is_mark, is_mark_numbered, is_mark_of}
+use Rattle.tk_frames.specs.InOrder.{mark_count, mark_position, HasNumber, number_after, IsOrderFrom, IsOrder}
 use Rattle.tk_frames.proofs.Marks.{before-none, before-settled, before-marked}
 use Rattle.tk_frames.proofs.MarkCounts.{marks-cons}
 

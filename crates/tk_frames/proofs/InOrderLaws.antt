@@ -1,11 +1,9 @@
 -- Entries in order.
-use Rattle.std.proofs.Common.{◌≡◌, ℕ, zero, suc, ◌+◌, ◌<◌, sym, ◌∙◌, subst, arith}
-use Rattle.std.proofs.Common.{List, [], ◌∷◌, ◌++◌, length, take}
+use Rattle.std.proofs.Common.{◌≡◌, ℕ, zero, suc, ◌+◌, ◌<◌, sym, ◌∙◌, subst, arith, List, [], ◌∷◌, ◌++◌, length, take}
 use Rattle.std.specs.Prelude.{slice_index_or}
 use Rattle.tk_shape.specs.declared.shape.Shape.{Shape}
 use Rattle.tk_frames.specs.declared.entry.Placed.{Placed}
-use Rattle.tk_frames.specs.InOrder.{mark_count, HasNumber, number_after}
-use Rattle.tk_frames.specs.InOrder.{IsNextAt, IsOrderFrom, IsOrder, IsNext}
+use Rattle.tk_frames.specs.InOrder.{mark_count, HasNumber, number_after, IsNextAt, IsOrderFrom, IsOrder, IsNext}
 use Rattle.tk_frames.proofs.MarkCounts.{due-next}
 
 pub order-none : (shape : Shape) → IsOrder shape []

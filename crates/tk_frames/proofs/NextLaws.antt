@@ -8,8 +8,7 @@ use Rattle.tk_frames.specs.declared.entry.Entry.{Entry}
 use Rattle.tk_frames.specs.declared.entry.Entry.TheVariants.{Write, Mark}
 use Rattle.tk_frames.specs.Order.{records}
 use Rattle.tk_frames.specs.Ranges.{IsEntry, IsWrite}
-use Rattle.tk_frames.specs.InOrder.{mark_count, HasNumber, number_after}
-use Rattle.tk_frames.specs.InOrder.{IsOrderFrom, IsOrder, IsNext}
+use Rattle.tk_frames.specs.InOrder.{mark_count, HasNumber, number_after, IsOrderFrom, IsOrder, IsNext}
 use Rattle.tk_frames.proofs.MarkCounts.{length-writes_and_marks, due-next}
 
 number-most : (shape : Shape) (due count : ℕ) (x : Entry) → IsEntry shape x → HasNumber due x →

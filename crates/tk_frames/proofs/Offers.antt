@@ -1,8 +1,8 @@
 -- What the proofs of other crates may cite.
 
 -- A read and a reply are read from their spelling.
-pub use Rattle.tk_frames.proofs.ReadLaws.{read-again}
-pub use Rattle.tk_frames.proofs.Frames.{reply-again}
+pub use Rattle.tk_frames.proofs.ReadLaws.{read-again, read_passes, read_found, length-read_frame}
+pub use Rattle.tk_frames.proofs.Frames.{reply-again, write_passes, write_found, write-again, length-write_frame}
 -- What passes the checks of a frame that names who asks, and what is read from its spelling.
 pub use Rattle.tk_frames.proofs.Asked.{AskerFits, asker-again, StandAsked, asked_stands, asked_passes}
 -- How many turns a shape has at most.
@@ -15,8 +15,7 @@ pub use Rattle.tk_frames.proofs.Records.{record_of, records-append, records-writ
 pub use Rattle.tk_frames.proofs.MarkCounts.{marks-cons, marks-append, marks-push, marks-write, marks-mark}
 pub use Rattle.tk_frames.proofs.MarkCounts.{length-writes_and_marks, due-next}
 -- Entries in order: none, one more, a front, the rest, and each one.
-pub use Rattle.tk_frames.proofs.InOrderLaws.{order-none, order-push, order-front}
-pub use Rattle.tk_frames.proofs.InOrderLaws.{order-rest, order-entry}
+pub use Rattle.tk_frames.proofs.InOrderLaws.{order-none, order-push, order-front, order-rest, order-entry}
 pub use Rattle.tk_frames.proofs.InOrderLaws.{from-push, from-front, from-entry}
 -- How many marks an order has, and the write or mark that may stand next in it.
 pub use Rattle.tk_frames.proofs.NextLaws.{marks-most, next-write, next-mark}
@@ -34,6 +33,5 @@ pub use Rattle.tk_frames.proofs.BigEndian.{IsBytes, IsBytes-drop, IsBytes-take, 
 -- Numbers joined from their bytes, and again their bytes.
 pub use Rattle.tk_frames.proofs.BigEndian.{number-join, long-join, numbers-join, length-numbers}
 pub use Rattle.tk_frames.proofs.BigEndian.{numbers-again, length-be32s}
+
 -- What passes the checks of a write and of a read, what is found in their spelling, and how long it is.
-pub use Rattle.tk_frames.proofs.Frames.{write_passes, write_found, write-again, length-write_frame}
-pub use Rattle.tk_frames.proofs.ReadLaws.{read_passes, read_found, length-read_frame}

@@ -1,22 +1,19 @@
 -- The laws of privacy, whatever an adversary does that has all servers but one.
-use Rattle.std.proofs.Common.{◌≡◌, ℕ, ◌≤◌, ◌<◌, Bool, true, cond, List, length, ap, sym}
-use Rattle.std.proofs.Common.{◌∙◌, subst, Some, None}
+use Rattle.std.proofs.Common.{◌≡◌, ℕ, ◌≤◌, ◌<◌, Bool, true, cond, List, length, ap, sym, ◌∙◌, subst, Some, None}
 use Rattle.std.specs.Prelude.{nat_lt, ◌&&◌}
 use Rattle.std.proofs.lemmas.Bool.{and_parts, ltb-true}
 use Rattle.tk_shape.specs.declared.shape.Shape.{Shape}
 use Rattle.tk_shape.specs.Lengths.{turn_count, tape_len}
 use Rattle.tk_script.specs.declared.script.Script.{Script}
 use Rattle.tk_script.specs.Sent.{sent_as, writer_of}
-use Rattle.tk_words.specs.Words.{BookWords, drawn, words_of}
-use Rattle.tk_words.specs.Words.{keyed_cell, cell_pair, cell_hits, cell_pad, cell_tag}
+use Rattle.tk_words.specs.Words.{BookWords, drawn, words_of, keyed_cell, cell_pair, cell_hits, cell_pad, cell_tag}
 use Rattle.tk_words.specs.Words.{pair_of, hits_of, pad_of, tag_of}
 use Rattle.tk_client.specs.Asked.{frame_for}
 use Rattle.tk_privacy.specs.Privacy.{Pairs, normal_for, regained, unnormal_for, hidden_keyed_cell}
 use Rattle.tk_privacy.proofs.Offers as privacy
 use Rattle.tk_hostile.specs.Attack.{Adversary, KeyWords, Keys, Seen, keys_of, attacked, under_attack}
 use Rattle.tk_hostile.specs.Wrong.{read_regained}
-use Rattle.tk_hostile.specs.Attack.{attack_regained, attack_normal, attack_unnormal, attack_mirror}
-use Rattle.tk_hostile.specs.Attack.{seen_by}
+use Rattle.tk_hostile.specs.Attack.{attack_regained, attack_normal, attack_unnormal, attack_mirror, seen_by}
 use Rattle.tk_hostile.specs.Laws.{AreAttacked, SameSeen, OneToOneAttacked, ChosenAlike}
 use Rattle.tk_hostile.proofs.Regained.{read-back, read-again}
 use Rattle.tk_hostile.proofs.Attacks.{cond-same, pairs-same}

@@ -10,8 +10,7 @@ use Rattle.tk_shape.specs.declared.shape.Shape.{Shape}
 use Rattle.tk_shape.specs.Lengths.{turn_count}
 use Rattle.tk_words.specs.CellLaws.{place_within}
 use Rattle.tk_hostile.specs.declared.sums.Sums.{Sums}
-use Rattle.tk_hostile.specs.Given.{given_count, is_in, place_of, sums_or_zeros, zero_sums, listed}
-use Rattle.tk_hostile.specs.Given.{with_sums}
+use Rattle.tk_hostile.specs.Given.{given_count, is_in, place_of, sums_or_zeros, zero_sums, listed, with_sums}
 
 -- ---- places in rows of rows
 

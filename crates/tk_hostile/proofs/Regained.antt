@@ -24,8 +24,7 @@ use Rattle.tk_privacy.specs.Privacy.{Pairs, normal_for, regained, unnormal_for, 
 use Rattle.tk_privacy.proofs.Offers as privacy
 use Rattle.tk_hostile.specs.Choice.{Choice, own_sums, sums_by, reply_by, replies_by}
 use Rattle.tk_hostile.specs.Wrong.{Asking, reader_next, reader_asking, pair_asking, asks, wrong_pair}
-use Rattle.tk_hostile.specs.Wrong.{wrong_normal, read_from, read_regained, asks_regained}
-use Rattle.tk_hostile.specs.Wrong.{pair_regained, wrong_unnormal}
+use Rattle.tk_hostile.specs.Wrong.{wrong_normal, read_from, read_regained, asks_regained, pair_regained, wrong_unnormal}
 
 -- ---- frames that are replied to alike
 

@@ -1,7 +1,6 @@
 -- What is seen under attack is made of the cells of the changed tape, and names no script.
 use Rattle.std.proofs.Common.{◌≡◌, refl, ap, sym, ◌∙◌, arith}
-use Rattle.std.proofs.Common.{ℕ, zero, suc, ◌+◌, ◌≤◌, ◌==◌, Bool, true, false, cond, List, []}
-use Rattle.std.proofs.Common.{length, map}
+use Rattle.std.proofs.Common.{ℕ, zero, suc, ◌+◌, ◌≤◌, ◌==◌, Bool, true, false, cond, List, [], length, map}
 use Rattle.std.proofs.lemmas.Bool.{eqb-true}
 use Rattle.tk_shape.specs.declared.shape.Shape.{Shape}
 use Rattle.tk_shape.specs.Lengths.{tape_len}
@@ -17,8 +16,7 @@ use Rattle.tk_privacy.specs.Counts.{all_but}
 use Rattle.tk_privacy.proofs.Offers.{write-seen, read-seen, others-same}
 use Rattle.tk_hostile.specs.Attack.{Adversary, Acting, Attacked, Keys, Move, Writes, Reads, Seen}
 use Rattle.tk_hostile.specs.Attack.{Wrote, Asked, keys_of, seen_more, unattacked, ask_of, after_ask}
-use Rattle.tk_hostile.specs.Attack.{after_write, is_due, moved, attacked, under_attack}
-use Rattle.tk_hostile.specs.Attack.{seen_by, attack_normal}
+use Rattle.tk_hostile.specs.Attack.{after_write, is_due, moved, attacked, under_attack, seen_by, attack_normal}
 use Rattle.tk_hostile.proofs.Attacks.{cond-same, IsDue, due-from, asks, pair-kept}
 
 -- ---- what a tape shows

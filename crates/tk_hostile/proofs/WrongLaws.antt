@@ -10,8 +10,7 @@ use Rattle.tk_privacy.specs.Laws.{AreMirrored}
 use Rattle.tk_privacy.specs.Privacy.{cells_view, regained}
 use Rattle.tk_privacy.proofs.Offers as privacy
 use Rattle.tk_hostile.specs.Choice.{Choice}
-use Rattle.tk_hostile.specs.Wrong.{wrong_pair, pair_regained, wrong_view, wrong_normal}
-use Rattle.tk_hostile.specs.Wrong.{wrong_unnormal, wrong_mirror}
+use Rattle.tk_hostile.specs.Wrong.{wrong_pair, pair_regained, wrong_view, wrong_normal, wrong_unnormal, wrong_mirror}
 use Rattle.tk_hostile.specs.Laws.{SameView, OneToOne}
 use Rattle.tk_hostile.proofs.Regained.{unnormal-normal, normal-unnormal}
 

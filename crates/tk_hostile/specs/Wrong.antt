@@ -17,8 +17,7 @@ use Rattle.tk_client.specs.Replies.{answer_in}
 use Rattle.tk_client.specs.Client.{ClientState}
 use Rattle.tk_report.specs.Clients.{AreClients, client_knowing}
 use Rattle.tk_report.specs.Report.{follows_of, read_over, target_for}
-use Rattle.tk_privacy.specs.Privacy.{Pairs, read_for, view_for, shown_read_cell, normal_for}
-use Rattle.tk_privacy.specs.Privacy.{regained, unnormal_for}
+use Rattle.tk_privacy.specs.Privacy.{Pairs, read_for, view_for, shown_read_cell, normal_for, regained, unnormal_for}
 use Rattle.tk_hostile.specs.Choice.{Choice, replies_by}
 
 -- ---- reads

@@ -5,7 +5,6 @@ pub use Rattle.tk_kernel.proofs.Sums.{length-xor_bytes, length-zeros, length-xor
 pub use Rattle.tk_kernel.proofs.Cuts.{pieces-append, concat-pieces, drop-pieces, take-pieces}
 pub use Rattle.tk_kernel.proofs.Passes.{pieces-add}
 pub use Rattle.tk_kernel.proofs.Cuts.{length-pieces, get_or-pieces, AllSized-pieces, AllSized-all_pieces}
-pub use Rattle.tk_kernel.proofs.Cuts.{all_pieces-append, all_pieces_short}
-pub use Rattle.tk_kernel.proofs.Cuts.{concat-all_pieces, all_pieces-concat}
+pub use Rattle.tk_kernel.proofs.Cuts.{all_pieces-append, all_pieces_short, concat-all_pieces, all_pieces-concat}
 pub use Rattle.tk_kernel.proofs.Chosen.{AllSized-chosen_from, chosen_from-append}
 pub use Rattle.tk_kernel.proofs.Sized.{AllSized-set, AllSized-append, AllSized-map, length-concat}

@@ -1,7 +1,6 @@
 -- What is said depends on whether the number is even.
 use Rattle.std.proofs.Common.{◌≡◌, ℕ, zero, suc, ◌+◌, ◌%◌, ◌<◌, ◌==◌, Bool, cond}
-use Rattle.std.proofs.Common.{List, [], ◌∷◌, ◌++◌, map, filter, flat_map, ap, ap₂, refl, subst}
-use Rattle.std.proofs.Common.{arith}
+use Rattle.std.proofs.Common.{List, [], ◌∷◌, ◌++◌, map, filter, flat_map, ap, ap₂, refl, subst, arith}
 use Rattle.std.specs.List.{range_with_len}
 use Rattle.tk_script.specs.declared.say.Say.{Say}
 use Rattle.tk_make.specs.Making.{is_said, made_say, said_in_tick, said_in_phase, made_says}

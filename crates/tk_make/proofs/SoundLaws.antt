@@ -1,6 +1,5 @@
 -- What is made is a script.
-use Rattle.std.proofs.Common.{◌≡◌, ◌∙◌, ℕ, ◌+◌, ◌==◌, Bool, true, ◌&&◌, List, length, ap, ap₂, sym}
-use Rattle.std.proofs.Common.{refl}
+use Rattle.std.proofs.Common.{◌≡◌, ◌∙◌, ℕ, ◌+◌, ◌==◌, Bool, true, ◌&&◌, List, length, ap, ap₂, sym, refl}
 use Rattle.std.specs.Prelude.{nat_le, nat_lt, slice_index, Some}
 use Rattle.std.specs.List.{list_all}
 use Rattle.std.specs.Fmt.{digits}
@@ -12,8 +11,7 @@ use Rattle.tk_seal.specs.Texts.{is_allowed}
 use Rattle.tk_script.specs.declared.keys.Keys.{Keys}
 use Rattle.tk_script.specs.declared.role.Role.{Role}
 use Rattle.tk_script.specs.declared.say.Say.{Say}
-use Rattle.tk_script.specs.SoundScript.{is_role, is_ascending, is_say, are_in_order, has_keys}
-use Rattle.tk_script.specs.SoundScript.{IsScript}
+use Rattle.tk_script.specs.SoundScript.{is_role, is_ascending, is_say, are_in_order, has_keys, IsScript}
 use Rattle.tk_make.specs.Making.{made_numbers, made_keys, made_roles, made_says}
 use Rattle.tk_make.proofs.ByTurns.{for-each}
 

@@ -5,8 +5,7 @@ use Rattle.std.proofs.Common.{◌-◌, take, drop, length-drop}
 use Rattle.std.specs.Prelude.{Result, Ok, Err, ◌==◌, ◌&&◌, slice_index}
 use Rattle.std.specs.Str.{bytes_eq}
 use Rattle.std.proofs.Math.ListN.{set}
-use Rattle.std.proofs.lemmas.List.{length-set}
-use Rattle.std.proofs.lemmas.List.{get_or-set_same, get_or-set_other}
+use Rattle.std.proofs.lemmas.List.{length-set, get_or-set_same, get_or-set_other, take_rest}
 use Rattle.std.proofs.lemmas.List.Elements.{All-set, All-append, All-cons, All-nil}
 use Rattle.std.proofs.lemmas.Bool.{cases_lt, cases_eq, lt-ltb, le-ltb, eqb-true}
 use Rattle.tk_shape.specs.declared.shape.Shape.{Shape}
@@ -16,7 +15,6 @@ use Rattle.tk_frames.specs.Fields.{number_at}
 use Rattle.tk_packets.specs.Frames.{marks_len}
 use Rattle.tk_member.specs.Epochs.{Marks, is_epoch_frame}
 use Rattle.tk_packets.proofs.Offers.{marks-whole}
-use Rattle.std.proofs.lemmas.List.{take_rest}
 use Rattle.tk_member.specs.Keeping.{AreToldByServers, kept_with}
 
 -- the marks are there already

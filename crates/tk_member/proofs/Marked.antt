@@ -1,7 +1,6 @@
 -- The filter of the positions that are marked has these marks and no others.
 use Rattle.std.proofs.Common.{◌≡◌, refl, ap, sym, ◌∙◌, arith, ℕ, zero, suc, ◌+◌, ◌<◌, ◌≤◌, List, ◌∷◌}
-use Rattle.std.proofs.Common.{length, map, filter, cond, Bool, true, false}
-use Rattle.std.proofs.Common.{subst}
+use Rattle.std.proofs.Common.{length, map, filter, cond, Bool, true, false, subst}
 use Rattle.std.specs.Prelude.{◌==◌, ◌||◌}
 use Rattle.std.specs.List.{list_any, range_with_len}
 use Rattle.tk_shape.specs.declared.shape.Shape.{Shape}

@@ -1,6 +1,5 @@
 -- How a member ends that no packet set up.
-use Rattle.std.proofs.Common.{◌≡◌, sym, ◌∙◌, subst, ◌≤◌, ◌⊎◌}
-use Rattle.std.proofs.Common.{length, inl, inr}
+use Rattle.std.proofs.Common.{◌≡◌, sym, ◌∙◌, subst, ◌≤◌, ◌⊎◌, length, inl, inr}
 use Rattle.std.specs.Prelude.{Err}
 use Rattle.tk_io.specs.Content.{before_taking}
 use Rattle.tk_words.specs.Words.{WordBook}

@@ -6,8 +6,7 @@ use Rattle.std.specs.Simd.Lanes.{fold_l}
 pub use Rattle.tk_io.specs.Content.{Told}
 use Rattle.tk_io.specs.Content.{before_taking, emptied, gained}
 use Rattle.tk_words.specs.Words.{WordBook}
-use Rattle.tk_packets.specs.Packets.{PacketView, packet_bytes, packets_bytes, EndsWithin, ComesLong}
-use Rattle.tk_packets.specs.Packets.{TakesAtMost}
+use Rattle.tk_packets.specs.Packets.{PacketView, packet_bytes, packets_bytes, EndsWithin, ComesLong, TakesAtMost}
 use Rattle.tk_packets.specs.Lines.{Passing, Gone, passed, taken, dealt, after_taking, exchanges}
 use Rattle.tk_member.specs.declared.fault.Fault.{Fault}
 use Rattle.tk_member.specs.declared.fault.Fault.TheVariants.{Memory, Read, Write, Cut, Long, Setup}

@@ -1,7 +1,6 @@
 -- What a member keeps of epochs: the marks that servers agree on, and how far each server told them.
 use Rattle.std.specs.Prelude.{◌≡◌, ℕ, ◌*◌, ◌<◌, ◌≤◌, nat_lt, All, cond, List, [], ◌∷◌}
-use Rattle.std.specs.Prelude.{◌++◌, length, map, take, replicate, slice_index, slice_index_or}
-use Rattle.std.specs.Prelude.{Result, Ok, Err}
+use Rattle.std.specs.Prelude.{◌++◌, length, map, take, replicate, slice_index, slice_index_or, Result, Ok, Err}
 use Rattle.std.specs.Str.{bytes_eq}
 use Rattle.tk_shape.specs.declared.shape.Shape.{Shape}
 use Rattle.tk_member.specs.declared.fault.Fault.{Fault}

@@ -1,6 +1,5 @@
 -- What holds of every member.
-use Rattle.std.specs.Prelude.{◌≡◌, ℕ, ◌+◌, ◌<◌, ◌≤◌, Bool, List, [], length, All}
-use Rattle.std.specs.Prelude.{slice_index_or, Option, None}
+use Rattle.std.specs.Prelude.{◌≡◌, ℕ, ◌+◌, ◌<◌, ◌≤◌, Bool, List, [], length, All, slice_index_or, Option, None}
 use Rattle.std.specs.Option.{is_some}
 use Rattle.tk_shape.specs.Lengths.{turn_count}
 use Rattle.tk_client.specs.declared.written.Written.{Written}

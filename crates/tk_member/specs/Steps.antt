@@ -1,6 +1,5 @@
 -- What a member does with a packet.
-use Rattle.std.specs.Prelude.{◌≡◌, ◌⊎◌, ℕ, ◌+◌, ◌-◌, min, nat_le, nat_lt, ◌==◌, ◌||◌, cond}
-use Rattle.std.specs.Prelude.{List, [], ◌∷◌}
+use Rattle.std.specs.Prelude.{◌≡◌, ◌⊎◌, ℕ, ◌+◌, ◌-◌, min, nat_le, nat_lt, ◌==◌, ◌||◌, cond, List, [], ◌∷◌}
 use Rattle.std.specs.Prelude.{slice_index, slice_index_or, slice_set, Option, Some, None}
 use Rattle.std.specs.Prelude.{option_map, IsSome, Result, Ok, Err}
 use Rattle.std.specs.Option.{is_none, is_some}

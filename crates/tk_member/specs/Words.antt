@@ -1,6 +1,5 @@
 -- What its host tells a member.
-use Rattle.std.specs.Prelude.{ℕ, nat_le, ◌==◌, cond, List, [], ◌∷◌, length, drop}
-use Rattle.std.specs.Prelude.{Option, Some, None, option_map}
+use Rattle.std.specs.Prelude.{ℕ, nat_le, ◌==◌, cond, List, [], ◌∷◌, length, drop, Option, Some, None, option_map}
 use Rattle.tk_frames.specs.Fields.{number_at}
 use Rattle.tk_member.specs.declared.word.HostWord.{HostWord}
 use Rattle.tk_member.specs.declared.word.HostWord.TheVariants.{Say, Tick, Ahead, Has}

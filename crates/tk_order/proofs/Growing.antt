@@ -1,7 +1,6 @@
 -- How the list of a seat grows from call to call.
 use Rattle.std.proofs.Common.{◌≡◌, ℕ, zero, suc, List, [], ◌∷◌, ◌++◌, length, Option, Some, None, refl, ap, sym, ◌∙◌, subst, append_assoc, arith, take, drop, map, ◌≤◌, ◌+◌, ◌-◌}
-use Rattle.std.proofs.lemmas.List.{take-append-le, drop-take, drop-map, take-map, length-map}
-use Rattle.std.proofs.lemmas.List.{append-nil}
+use Rattle.std.proofs.lemmas.List.{take-append-le, drop-take, drop-map, take-map, length-map, append-nil}
 use Rattle.atomic_table.specs.Seated.{TableId}
 use Rattle.atomic_table.specs.declared.shared.Seat.{Seat}
 use Rattle.tk_order.specs.declared.rule.View.{View}

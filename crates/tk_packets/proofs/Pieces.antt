@@ -1,7 +1,6 @@
 -- A buffer that is filled piece after piece, and what was taken for it.
 use Rattle.std.proofs.Common.{◌≡◌, ℕ, ◌+◌, ◌≤◌, List, ◌++◌, length, take, drop, Option, Some, None, refl, ap, sym}
-use Rattle.std.proofs.Common.{◌∙◌, arith}
-use Rattle.std.proofs.Common.{take-add, length-take, append_assoc}
+use Rattle.std.proofs.Common.{◌∙◌, arith, take-add, length-take, append_assoc}
 use Rattle.std.proofs.lemmas.List.{take_at, drop_at, take-take}
 use Rattle.std.proofs.lemmas.Slice.{take-put_mid}
 use borrow.Rule.Slice.PartMut.{put_mid}

@@ -1,6 +1,5 @@
 -- Packets: what goes over a program's two streams, and what a source has in front.
-use Rattle.std.specs.Prelude.{◌≡◌, ℕ, ◌+◌, ◌<◌, ◌≤◌, ◌⊎◌, List, [], ◌++◌, length, flat_map}
-use Rattle.std.specs.Prelude.{Option, Some, None}
+use Rattle.std.specs.Prelude.{◌≡◌, ℕ, ◌+◌, ◌<◌, ◌≤◌, ◌⊎◌, List, [], ◌++◌, length, flat_map, Option, Some, None}
 use Rattle.tk_io.specs.Content.{before_taking, emptied}
 use Rattle.tk_frames.specs.Spelling.{be32}
 use Rattle.tk_frames.specs.Fields.{number_at}

@@ -1,11 +1,9 @@
 -- A search ends at the first place with an empty slot, wherever it stands in the queue.
 use Rattle.std.proofs.Common.{◌≡◌, ℕ, zero, suc, ◌+◌, ◌-◌, ◌<◌, ◌≤◌, List, [], ◌∷◌, ◌++◌, length, drop}
-use Rattle.std.proofs.Common.{get_or, true, false, is_some, inl, inr, ap, sym, subst, ◌∙◌, arith}
-use Rattle.std.proofs.Common.{cond, refl, is_none}
+use Rattle.std.proofs.Common.{get_or, true, false, is_some, inl, inr, ap, sym, subst, ◌∙◌, arith, cond, refl, is_none}
 use Rattle.std.specs.Prelude.{Option, Some, None}
 use Rattle.std.specs.List.{list_all}
-use Rattle.std.proofs.lemmas.Bool.{and_parts}
-use Rattle.std.proofs.lemmas.Bool.{cases_lt}
+use Rattle.std.proofs.lemmas.Bool.{and_parts, cases_lt}
 use Rattle.std.proofs.lemmas.List.{get_or_append_left, get_or-append_right, get_or-drop, length-append, length-drop}
 use Rattle.tk_place.specs.Place.{Others, Reached, slots_of, lowest_empty, has_bucket, named_in, not_before}
 use Rattle.tk_place.specs.Table.{IsTable, is_other_full, leads_to_full}

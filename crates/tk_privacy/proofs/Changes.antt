@@ -15,8 +15,7 @@ use Rattle.tk_words.specs.Words.{drawn, words_of, write_cell, read_cell, keyed_c
 use Rattle.tk_words.specs.CellLaws.{length-keyed_cell}
 use Rattle.tk_privacy.specs.Privacy.{Pairs, masked_cell, shown_write_cell, shown_keyed_cell}
 use Rattle.tk_privacy.specs.Privacy.{hidden_write_cell, hidden_keyed_cell, shown_read_cell}
-use Rattle.tk_privacy.specs.Privacy.{read_cell_for, normal_for, regained, with_reads_for}
-use Rattle.tk_privacy.specs.Privacy.{unnormal_for}
+use Rattle.tk_privacy.specs.Privacy.{read_cell_for, normal_for, regained, with_reads_for, unnormal_for}
 use Rattle.tk_privacy.proofs.Tapes.{IsTape, tape_of-IsTape, tape_of-own, same-tape_of}
 use Rattle.tk_privacy.proofs.Masks.{length-masked_cell, masked_twice}
 use Rattle.tk_privacy.proofs.ReadCells.{length-shown, front-shown, shown-twice}

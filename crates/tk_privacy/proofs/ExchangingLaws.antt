@@ -1,6 +1,5 @@
 -- The cells of writes, exchanged one by one.
-use Rattle.std.proofs.Common.{◌≡◌, ◌∙◌, ap, ap₂, sym, ℕ, ◌+◌, List, [], ◌++◌}
-use Rattle.std.proofs.Common.{flat_map, length}
+use Rattle.std.proofs.Common.{◌≡◌, ◌∙◌, ap, ap₂, sym, ℕ, ◌+◌, List, [], ◌++◌, flat_map, length}
 use Rattle.std.proofs.Common.{append_assoc, take, drop, ◌-◌, ◌*◌}
 use Rattle.std.specs.List.{range_with_len}
 use Rattle.std.proofs.lemmas.List.{flat_map_more}

@@ -2,14 +2,12 @@
 use Rattle.std.proofs.Common.{◌≡◌, ◌≢◌, ℕ, zero, suc, ◌+◌, ◌-◌, ◌*◌, ◌≤◌, ◌<◌, true, false, cond}
 use Rattle.std.proofs.Common.{List, [], ◌∷◌, ◌++◌, length, map, take, drop, get_or, set, refl}
 use Rattle.std.proofs.Common.{ap, ap₂, sym, subst, ◌∙◌, arith, append_assoc, length-append}
-use Rattle.std.proofs.Common.{length-drop, take-append-drop, append-nil, ltb-true, ltb-false}
-use Rattle.std.proofs.Common.{inl, inr}
+use Rattle.std.proofs.Common.{length-drop, take-append-drop, append-nil, ltb-true, ltb-false, inl, inr}
 use Rattle.std.specs.Prelude.{nat_lt}
 use Rattle.std.specs.List.{concat}
 use Rattle.std.proofs.lemmas.Bool.{cases_lt, lt-ltb}
 use Rattle.std.proofs.lemmas.List.{take_all, length-map, length-take-le, set-get_or, length-set}
-use Rattle.std.proofs.lemmas.List.{get_or-set_same, get_or-set_other, get_or_append_left}
-use Rattle.std.proofs.lemmas.List.{get_or_push, take_at, drop_at}
+use Rattle.std.proofs.lemmas.List.{get_or-set_same, get_or-set_other, get_or_append_left, get_or_push, take_at, drop_at}
 use Rattle.tk_shape.specs.declared.shape.Shape.{Shape}
 use Rattle.tk_shape.specs.Lengths.{seed_len, vector_len, piece_len, read_cell_len}
 use Rattle.tk_kernel.specs.Xor.{xor_bytes, xor_all}

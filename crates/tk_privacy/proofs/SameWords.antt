@@ -12,8 +12,7 @@ use Rattle.tk_shape.specs.Lengths.{turn_count, cell_len, read_cell_len, tape_len
 use Rattle.tk_words.specs.Pieces.{piece, word_at_byte}
 use Rattle.tk_words.specs.Words.{drawn, words_of, write_cell, read_cell, keyed_cell, write_part}
 use Rattle.tk_words.specs.Words.{read_part, keyed_part, cell_write, cell_pair, cell_hits, cell_pad}
-use Rattle.tk_words.specs.Words.{cell_tag, fresh_pair, pair_of, hits_of, pad_of, tag_of}
-use Rattle.tk_words.specs.Words.{fresh_write}
+use Rattle.tk_words.specs.Words.{cell_tag, fresh_pair, pair_of, hits_of, pad_of, tag_of, fresh_write}
 use Rattle.tk_words.specs.CellLaws.{length-piece, place_within, length-write_part, length-read_part}
 use Rattle.tk_privacy.proofs.Tapes.{same-rows, same-write_part, same-keyed_part}
 use Rattle.tk_privacy.proofs.Masks.{word_in_front}

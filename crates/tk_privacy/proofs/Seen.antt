@@ -16,8 +16,7 @@ use Rattle.tk_script.specs.declared.script.Script.{Script}
 use Rattle.tk_script.specs.Sent.{Sending, sent, sent_as, writer_of}
 use Rattle.std.proofs.lemmas.Bool.{and_parts}
 use Rattle.std.proofs.lemmas.List.{length-map}
-use Rattle.tk_words.specs.Words.{drawn, words_of, cell_pieces, piece_seed, piece_vector}
-use Rattle.tk_words.specs.Words.{write_cell, read_cell}
+use Rattle.tk_words.specs.Words.{drawn, words_of, cell_pieces, piece_seed, piece_vector, write_cell, read_cell}
 use Rattle.tk_words.specs.Words.{keyed_cell, cell_write, pair_of, hits_of, pad_of, tag_of}
 use Rattle.tk_words.specs.Words.{fresh_write, fresh_seeds, fresh_vectors}
 use Rattle.tk_frames.specs.declared.write_frame.WriteFrame.{WriteFrame}

@@ -1,6 +1,5 @@
 -- What the last server sees of reads changes the read cells.
-use Rattle.std.proofs.Common.{◌≡◌, ◌∙◌, ap, ap₂, sym, arith, ℕ, ◌-◌, ◌*◌, ◌<◌, ◌≤◌, cond}
-use Rattle.std.proofs.Common.{List, [], length, map, drop}
+use Rattle.std.proofs.Common.{◌≡◌, ◌∙◌, ap, ap₂, sym, arith, ℕ, ◌-◌, ◌*◌, ◌<◌, ◌≤◌, cond, List, [], length, map, drop}
 use Rattle.std.proofs.lemmas.Bool.{lt-ltb, le-ltb}
 use Rattle.std.proofs.lemmas.List.{get_or_push, length-map}
 use Rattle.tk_shape.specs.declared.shape.Shape.{Shape}

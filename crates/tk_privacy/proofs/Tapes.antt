@@ -1,8 +1,7 @@
 -- A tape made from cells, cut into them again; and a tape cut into its cells, made from them again.
 use Rattle.std.proofs.Common.{◌≡◌, ℕ, zero, suc, ◌+◌, ◌*◌, ◌<◌, List, [], ◌++◌, length, take, drop}
 use Rattle.std.proofs.Common.{refl, ap, ap₂, sym, ◌∙◌, arith, append_assoc, length-append, flat_map}
-use Rattle.std.proofs.Common.{add-zero, suc-mul, zero-mul, add-mul, mul_assoc, append-nil, take-add}
-use Rattle.std.proofs.Common.{take-append-drop}
+use Rattle.std.proofs.Common.{add-zero, suc-mul, zero-mul, add-mul, mul_assoc, append-nil, take-add, take-append-drop}
 use Rattle.std.specs.List.{range_with_len}
 use Rattle.std.proofs.lemmas.List.{take_all, drop-drop}
 use Rattle.std.proofs.Math.Seq.{take-append_seam, drop-append_seam, drop-append-add}
@@ -11,8 +10,7 @@ use Rattle.tk_shape.specs.Lengths.{turn_count, cell_len, read_cell_len, tape_len
 use Rattle.tk_words.specs.Pieces.{piece}
 use Rattle.tk_words.specs.Words.{write_cell, read_cell, keyed_cell, write_part, read_part}
 use Rattle.tk_words.specs.Words.{keyed_part, write_cells_len, read_cells_len}
-use Rattle.tk_words.specs.CellLaws.{tape_len-parts, length-write_part, length-read_part}
-use Rattle.tk_words.specs.CellLaws.{length-keyed_part}
+use Rattle.tk_words.specs.CellLaws.{tape_len-parts, length-write_part, length-read_part, length-keyed_part}
 use Rattle.tk_privacy.specs.Privacy.{cells, tape_of}
 
 -- each of the cells of a turn, or of a log, has this many bytes

@@ -6,8 +6,7 @@ use Rattle.tk_script.specs.declared.script.Script.{Script}
 use Rattle.tk_script.specs.Sent.{Sending, sent, sent_as, writer_of}
 use Rattle.tk_privacy.specs.declared.way.Way.{Way}
 use Rattle.tk_privacy.specs.declared.way.Way.TheVariants.{Show, Regain}
-use Rattle.tk_privacy.specs.Privacy.{cells, shown_write_cell, shown_keyed_cell}
-use Rattle.tk_privacy.specs.Privacy.{hidden_write_cell, hidden_keyed_cell}
+use Rattle.tk_privacy.specs.Privacy.{cells, shown_write_cell, shown_keyed_cell, hidden_write_cell, hidden_keyed_cell}
 
 -- a write cell, where this is sent in its turn
 abbrev pub write_exchanged : Way → Shape → List ℕ → ℕ → ℕ → Option Sending → List ℕ

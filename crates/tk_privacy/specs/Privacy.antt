@@ -10,8 +10,7 @@ use Rattle.tk_script.specs.declared.script.Script.{Script}
 use Rattle.tk_script.specs.Sent.{Sending, sent, sent_as, writer_of}
 use Rattle.tk_bits.specs.Shares.{last_share}
 use Rattle.tk_words.specs.Words.{WordBook, drawn, words_of, cell_words, cell_sealed, cell_write}
-use Rattle.tk_words.specs.Words.{cell_pieces, piece_seed, piece_vector}
-use Rattle.tk_words.specs.Words.{write_cell, read_cell, keyed_cell}
+use Rattle.tk_words.specs.Words.{cell_pieces, piece_seed, piece_vector, write_cell, read_cell, keyed_cell}
 use Rattle.tk_frames.specs.declared.read_frame.ReadFrame.{ReadFrame}
 use Rattle.tk_frames.specs.Spelling.{read_frame}
 use Rattle.tk_client.specs.Asked.{frame_for, seeds_told}

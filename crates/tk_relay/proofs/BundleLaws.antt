@@ -13,8 +13,7 @@ use Rattle.tk_relay.specs.declared.part.Part.{Part}
 use Rattle.tk_relay.specs.Halves.{Halves, HasHalves, halves_in}
 use Rattle.tk_relay.specs.Pads.{halves_list}
 use Rattle.tk_relay.specs.Parts.{part_with, halves_of, first_part, IsPart}
-use Rattle.tk_relay.specs.Bundles.{part_bytes, bundle_frame, bundle_len, bundle_checks}
-use Rattle.tk_relay.specs.Bundles.{IsOfOne, AreParts, parts_in}
+use Rattle.tk_relay.specs.Bundles.{part_bytes, bundle_frame, bundle_len, bundle_checks, IsOfOne, AreParts, parts_in}
 use Rattle.tk_relay.proofs.Cutting.{cut-again, length-halves_list, each-sized, halves-more}
 use Rattle.tk_relay.proofs.PartLaws.{part-names}
 

@@ -13,8 +13,7 @@ use Rattle.tk_frames.proofs.Offers.{marks-cons}
 use Rattle.tk_replica.specs.declared.epoch.Epoch.{Epoch}
 use Rattle.tk_replica.specs.Replica.{ReplicaView}
 use Rattle.tk_replica.specs.Keeping.{Change, Applied, Released, Numbers, spanning, opening}
-use Rattle.tk_replica.specs.Keeping.{numbers_of, numbers_with, numbers_behind, numbers_after}
-use Rattle.tk_replica.specs.Keeping.{entries}
+use Rattle.tk_replica.specs.Keeping.{numbers_of, numbers_with, numbers_behind, numbers_after, entries}
 use Rattle.tk_replica.specs.Keeping.{last_released, MayAllCome}
 
 -- ---- the numbers of a state

@@ -1,6 +1,5 @@
 -- Which marks stand among an order's first entries, by their positions.
-use Rattle.std.proofs.Common.{◌≡◌, ℕ, zero, suc, ◌+◌, ◌<◌, ◌≤◌, ap}
-use Rattle.std.proofs.Common.{arith, eq-eqb, ne_eqb, cond, true, false}
+use Rattle.std.proofs.Common.{◌≡◌, ℕ, zero, suc, ◌+◌, ◌<◌, ◌≤◌, ap, arith, eq-eqb, ne_eqb, cond, true, false}
 use Rattle.std.proofs.Common.{inl, inr, List, [], ◌∷◌, take, drop}
 use Rattle.std.specs.Prelude.{◌==◌}
 use Rattle.std.proofs.lemmas.Bool.{cases_lt}
@@ -10,8 +9,7 @@ use Rattle.tk_frames.specs.declared.entry.Placed.{Placed}
 use Rattle.tk_frames.specs.declared.entry.Entry.{Entry}
 use Rattle.tk_frames.specs.declared.entry.Entry.TheVariants.{Write, Mark}
 use Rattle.tk_frames.specs.Order.{is_mark, is_mark_numbered}
-use Rattle.tk_frames.specs.InOrder.{mark_count, mark_position, HasNumber, number_after}
-use Rattle.tk_frames.specs.InOrder.{IsOrderFrom, IsOrder}
+use Rattle.tk_frames.specs.InOrder.{mark_count, mark_position, HasNumber, number_after, IsOrderFrom, IsOrder}
 use Rattle.tk_frames.proofs.Offers.{marks-cons, marks-append, mark_position-none}
 use Rattle.tk_replica.specs.Following.{marks_among}
 

@@ -9,8 +9,7 @@ use Rattle.tk_frames.specs.Ranges.{IsRead}
 use Rattle.tk_frames.specs.Spelling.{reply_frame}
 use Rattle.tk_replica.specs.declared.epoch.Epoch.{Epoch}
 use Rattle.tk_replica.specs.declared.asker.Asker.{Asker}
-use Rattle.tk_replica.specs.Replies.{sum_over, frame_over}
-use Rattle.tk_replica.specs.Replies.{asker_of, asker_reply, both_vectors, frames_with}
+use Rattle.tk_replica.specs.Replies.{sum_over, frame_over, asker_of, asker_reply, both_vectors, frames_with}
 use Rattle.tk_shape.proofs.Offers.{vector_bits}
 
 -- ---- the vectors

@@ -1,13 +1,11 @@
 -- What is refused, and what is replied.
-use Rattle.std.proofs.Common.{◌≡◌, inl, inr, refl, ap, ap₂, sym, ◌∙◌, subst, ℕ, List, Option, Some}
-use Rattle.std.proofs.Common.{None}
+use Rattle.std.proofs.Common.{◌≡◌, inl, inr, refl, ap, ap₂, sym, ◌∙◌, subst, ℕ, List, Option, Some, None}
 use Rattle.tk_shape.specs.declared.shape.Shape.{Shape}
 use Rattle.tk_shape.specs.Lengths.{width}
 use Rattle.tk_kernel.specs.Chosen.{chosen_sum}
 use Rattle.tk_frames.specs.declared.entry.Placed.{Placed}
 use Rattle.tk_frames.specs.declared.fault.FrameError.{FrameError}
-use Rattle.tk_frames.specs.declared.fault.FrameError.TheVariants.{Length, Kind, Version, Field}
-use Rattle.tk_frames.specs.declared.fault.FrameError.TheVariants.{Memory}
+use Rattle.tk_frames.specs.declared.fault.FrameError.TheVariants.{Length, Kind, Version, Field, Memory}
 use Rattle.tk_frames.specs.declared.read_frame.ReadFrame.{ReadFrame}
 use Rattle.tk_frames.specs.Faults.{IsRefusal}
 use Rattle.tk_frames.specs.Fields.{read_in}

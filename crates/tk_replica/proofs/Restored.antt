@@ -1,7 +1,6 @@
 -- A state made of the table and the window that some entries left.
 use Rattle.std.proofs.Common.{◌≡◌, ℕ, ◌+◌, ◌≤◌, inl, inr, refl, ap, ap₂, sym, ◌∙◌, subst, arith, List, []}
-use Rattle.std.proofs.Common.{◌∷◌, ◌++◌, length}
-use Rattle.std.proofs.Common.{length-append}
+use Rattle.std.proofs.Common.{◌∷◌, ◌++◌, length, length-append}
 use Rattle.std.specs.Prelude.{slice_index_or, All}
 use Rattle.std.proofs.lemmas.List.Elements.{All-cons}
 use Rattle.tk_shape.specs.declared.shape.Shape.{Shape}

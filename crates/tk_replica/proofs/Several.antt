@@ -1,7 +1,6 @@
 -- Frames that are served together.
 use Rattle.std.proofs.Common.{◌≡◌, ℕ, zero, suc, ◌<◌, inl, inr, refl, ap, ap₂, sym, ◌∙◌, arith}
-use Rattle.std.proofs.Common.{subst, List, [], ◌∷◌, ◌++◌, length, take, map, Option, Some}
-use Rattle.std.proofs.Common.{None, append_assoc}
+use Rattle.std.proofs.Common.{subst, List, [], ◌∷◌, ◌++◌, length, take, map, Option, Some, None, append_assoc}
 use Rattle.std.specs.Prelude.{slice_index_or}
 use Rattle.std.specs.Option.{option_or}
 use Rattle.std.specs.List.{AllByRecursion}
@@ -17,8 +16,7 @@ use Rattle.tk_replica.specs.declared.error.ServeError.{ServeError}
 use Rattle.tk_replica.specs.Epochs.{IsEpochOf}
 use Rattle.tk_replica.specs.Refusals.{serve_refusal, first_refusal, IsServeRefusal}
 use Rattle.tk_replica.specs.Replica.{ReplicaView, StandsFor}
-use Rattle.tk_replica.specs.Replies.{frame_over, reply_for, reply_bytes, IsServed, IsAsked}
-use Rattle.tk_replica.specs.Replies.{AreAsked}
+use Rattle.tk_replica.specs.Replies.{frame_over, reply_for, reply_bytes, IsServed, IsAsked, AreAsked}
 use Rattle.tk_replica.proofs.Replying.{over-epoch, for-bytes}
 
 -- ---- what is refused

@@ -1,7 +1,6 @@
 -- What a state stands for, when it is opened, takes one more entry, and lets epochs go.
 use Rattle.std.proofs.Common.{◌≡◌, ℕ, zero, suc, ◌+◌, ◌-◌, ◌<◌, ◌≤◌, inl, inr, refl, ap, sym, ◌∙◌}
-use Rattle.std.proofs.Common.{subst, arith, List, [], ◌∷◌, ◌++◌, length, drop}
-use Rattle.std.proofs.Common.{length-append, length-drop}
+use Rattle.std.proofs.Common.{subst, arith, List, [], ◌∷◌, ◌++◌, length, drop, length-append, length-drop}
 use Rattle.std.specs.Prelude.{slice_index_or, All}
 use Rattle.std.proofs.Math.ListN.{get_or-append}
 use Rattle.std.proofs.Math.Seq.{get_or-append_seam}
@@ -14,7 +13,7 @@ use Rattle.tk_frames.specs.declared.entry.Placed.{Placed}
 use Rattle.tk_frames.specs.declared.entry.Entry.TheVariants.{Write, Mark}
 use Rattle.tk_frames.specs.Order.{Record, records, before}
 use Rattle.tk_frames.specs.Ranges.{IsPlaced}
-use Rattle.tk_frames.proofs.Offers.{before-none}
+use Rattle.tk_frames.proofs.Offers.{before-none, record_of, records-write, records-mark, marks-write, marks-mark}
 use Rattle.tk_table.specs.Ordered.{AreOrdered}
 use Rattle.tk_table.specs.Table.{layout, blocks_of}
 use Rattle.tk_table.specs.Stands.{Kept, TableStandsFor, IsWrite}
@@ -26,11 +25,7 @@ use Rattle.tk_table.specs.Shown.{pushes_of}
 use Rattle.tk_replica.specs.Epochs.{EpochStandsFor, IsEpochOf}
 use Rattle.tk_replica.specs.Store.{Stored, IsNewStore, IsTaken, pushed, window_with}
 use Rattle.tk_replica.specs.Replica.{ReplicaView, StandsFor, replica_with}
-use Rattle.tk_frames.proofs.Offers.{record_of, records-write, records-mark}
-use Rattle.tk_frames.proofs.Offers.{marks-write, marks-mark}
-use Rattle.tk_frames.proofs.Offers.{order-push}
-use Rattle.tk_frames.proofs.Offers.{before-more, before-mark, mark_position-more}
-use Rattle.tk_frames.proofs.Offers.{mark_position-mark}
+use Rattle.tk_frames.proofs.Offers.{order-push, before-more, before-mark, mark_position-more, mark_position-mark}
 use Rattle.tk_table.proofs.Offers.{order-writes, pushes-more, pushes-none}
 
 -- ---- an epoch

@@ -26,8 +26,7 @@ use Rattle.tk_report.specs.Report.{read_over, reader_before}
 use Rattle.tk_report.specs.Turns.{placed_before}
 use Rattle.tk_report.proofs.AgreementLaws.{turns-agree}
 use Rattle.tk_report.proofs.LeavingLaws.{reports-agree}
-use Rattle.tk_report.specs.Serving.{Serving, honest, reader_under, read_replied}
-use Rattle.tk_report.specs.Serving.{got_under}
+use Rattle.tk_report.specs.Serving.{Serving, honest, reader_under, read_replied, got_under}
 use Rattle.tk_report.specs.Anew.{Alike, AlikeRuns, held_anew, anew, AnewFromOwn}
 use Rattle.tk_report.proofs.SoundReads.{all-made}
 use Rattle.tk_report.proofs.ServingLaws.{honest-readers, honest-exchange, honest-report}

@@ -1,15 +1,13 @@
 -- A test tells whether a run is clear.
 use Rattle.std.proofs.Common.{◌≡◌, refl, ap, ap₂, ◌∙◌, arith, inl, inr, eqb-true, eq-eqb}
-use Rattle.std.proofs.Common.{ℕ, zero, suc, ◌+◌, ◌<◌, ◌≤◌, Bool, true, ◌||◌, ◌==◌}
-use Rattle.std.proofs.Common.{List, [], ◌∷◌, Option, Some, None}
+use Rattle.std.proofs.Common.{ℕ, zero, suc, ◌+◌, ◌<◌, ◌≤◌, Bool, true, ◌||◌, ◌==◌, List, [], ◌∷◌, Option, Some, None}
 use Rattle.std.specs.Prelude.{not, is_some}
 use Rattle.std.specs.List.{list_all, range_with_len}
-use Rattle.std.proofs.lemmas.Bool.{cases_lt}
+use Rattle.std.proofs.lemmas.Bool.{cases_lt, and_from, and_parts as parts}
 use Rattle.tk_shape.specs.Lengths.{turn_count}
 use Rattle.tk_schedule.specs.declared.history.History.{History}
 use Rattle.tk_script.specs.declared.script.Script.{Script}
 use Rattle.tk_script.specs.Sent.{sent}
-use Rattle.std.proofs.lemmas.Bool.{and_from, and_parts as parts}
 use Rattle.tk_words.specs.Words.{BookWords, opened}
 use Rattle.tk_words.specs.Opening.{IsNumber}
 use Rattle.tk_frames.specs.declared.write_frame.WriteFrame.{WriteFrame}
@@ -19,8 +17,7 @@ use Rattle.tk_frames.specs.Lists.{IsIn}
 use Rattle.tk_frames.proofs.Offers.{in_from_contains, contains_from_in, all-at}
 use Rattle.tk_report.specs.Entries.{entries}
 use Rattle.tk_report.specs.PassingOver.{IsRecordOf}
-use Rattle.tk_report.specs.Delivered.{IsClear, is_number, is_clear_at, is_clear, ClearIsTested}
-use Rattle.tk_report.specs.Delivered.{IsWritten}
+use Rattle.tk_report.specs.Delivered.{IsClear, is_number, is_clear_at, is_clear, ClearIsTested, IsWritten}
 use Rattle.tk_report.proofs.WrittenLaws.{write_at-turn, write_at-client, each-is_written}
 
 -- ---- tests of lists

@@ -1,9 +1,7 @@
 -- Which item may come next in a run, and the entry that it puts there.
-use Rattle.std.proofs.Common.{◌≡◌, refl, ap, ap₂, sym, ◌∙◌, subst, arith, ℕ, zero, suc, ◌+◌, ◌*◌}
-use Rattle.std.proofs.Common.{◌<◌, ◌≤◌}
+use Rattle.std.proofs.Common.{◌≡◌, refl, ap, ap₂, sym, ◌∙◌, subst, arith, ℕ, zero, suc, ◌+◌, ◌*◌, ◌<◌, ◌≤◌}
 use Rattle.std.proofs.Common.{List, [], ◌∷◌, ◌++◌, length, take, cond}
-use Rattle.std.proofs.Common.{count_by, get_or, length-append, zero-mul, suc-mul, add-one}
-use Rattle.std.proofs.Common.{append_assoc}
+use Rattle.std.proofs.Common.{count_by, get_or, length-append, zero-mul, suc-mul, add-one, append_assoc}
 use Rattle.std.proofs.lemmas.List.{take_more, take_all}
 use Rattle.std.proofs.lemmas.List.Sums.{sum_by-cons, sum_by-append, count_by-le-length}
 use Rattle.std.proofs.Math.Nat.{mul-le-mul_right, mul_comm, div-lt_iff_lt-mul}
@@ -12,28 +10,22 @@ use Rattle.tk_shape.specs.Lengths.{turn_count}
 use Rattle.tk_schedule.specs.declared.item.Item.{Item}
 use Rattle.tk_schedule.specs.declared.item.Item.TheVariants.{Client, Publish}
 use Rattle.tk_schedule.specs.declared.history.History.{History}
-use Rattle.tk_schedule.specs.Schedule.{IsLegal, is_mark, marks_due, phase_of}
-use Rattle.tk_schedule.specs.Schedule.{phases_over, order_at}
+use Rattle.tk_schedule.specs.Schedule.{IsLegal, is_mark, marks_due, phase_of, phases_over, order_at}
 use Rattle.tk_frames.specs.declared.write_frame.WriteFrame.{WriteFrame}
 use Rattle.tk_frames.specs.declared.entry.Placed.{Placed}
 use Rattle.tk_frames.specs.declared.entry.Entry.TheVariants.{Mark}
 use Rattle.tk_frames.specs.Order.{records}
-use Rattle.tk_frames.specs.InOrder.{IsOrder, mark_count}
-use Rattle.tk_frames.proofs.Offers.{records-append, marks-append, length-writes_and_marks}
-use Rattle.tk_frames.proofs.Offers.{next-write, next-mark}
-use Rattle.tk_report.specs.Entries.{placed_from, placed_after, entries_before, entries_at}
-use Rattle.tk_report.specs.Entries.{write_at}
+use Rattle.tk_frames.specs.InOrder.{IsOrder, mark_count, IsNext}
+use Rattle.tk_frames.proofs.Offers.{records-append, marks-append, length-writes_and_marks, next-write, next-mark}
+use Rattle.tk_report.specs.Entries.{placed_from, placed_after, entries_before, entries_at, write_at}
 use Rattle.tk_report.proofs.EpochLaws.{marks-before}
 use Rattle.tk_report.proofs.StorableLaws.{one-mark}
-use Rattle.tk_report.proofs.TurnEntries.{length-placed_from, marks-placed_from}
-use Rattle.tk_report.proofs.TurnEntries.{placed_from-append}
+use Rattle.tk_report.proofs.TurnEntries.{length-placed_from, marks-placed_from, placed_from-append}
 use Rattle.tk_script.specs.declared.script.Script.{Script}
 use Rattle.tk_words.specs.Words.{BookWords}
 use Rattle.tk_frames.specs.declared.entry.Entry.{Entry}
-use Rattle.tk_frames.specs.InOrder.{IsNext}
 use Rattle.tk_frames.specs.Ranges.{IsEntry}
-use Rattle.tk_report.specs.Turns.{placed_before, placed_in, placed_so_far, entry_due}
-use Rattle.tk_report.specs.Turns.{next_placed}
+use Rattle.tk_report.specs.Turns.{placed_before, placed_in, placed_so_far, entry_due, next_placed}
 
 -- ---- items
 

@@ -9,8 +9,7 @@ use Rattle.tk_frames.specs.declared.entry.Placed.{Placed as AtPlace}
 use Rattle.tk_frames.specs.declared.entry.Entry.TheVariants.{Write, Mark}
 use Rattle.tk_frames.specs.InOrder.{IsNext}
 use Rattle.tk_frames.specs.Order.{Record, records}
-use Rattle.tk_frames.proofs.Offers.{record_of, records-write, records-mark}
-use Rattle.tk_frames.proofs.Offers.{length-writes_and_marks, order-push}
+use Rattle.tk_frames.proofs.Offers.{record_of, records-write, records-mark, length-writes_and_marks, order-push}
 use Rattle.tk_table.specs.declared.table.Put.{Put}
 use Rattle.tk_table.specs.declared.table.Put.TheVariants.{Placed, Displaced}
 use Rattle.tk_table.specs.Ordered.{AreOrdered}

@@ -1,7 +1,5 @@
 -- What is retained is delivered as it was written, and nothing else is.
-use Rattle.std.proofs.Common.{◌≡◌, refl, ap, sym, ◌∙◌, subst, inl, inr}
-use Rattle.std.proofs.Common.{ℕ, ◌<◌}
-use Rattle.std.proofs.Common.{List, [], ◌∷◌, Option, Some, None}
+use Rattle.std.proofs.Common.{◌≡◌, refl, ap, sym, ◌∙◌, subst, inl, inr, ℕ, ◌<◌, List, [], ◌∷◌, Option, Some, None}
 use Rattle.std.specs.Option.{option_or}
 use Rattle.tk_shape.specs.Lengths.{turn_count}
 use Rattle.tk_schedule.specs.declared.history.History.{History}
@@ -11,10 +9,9 @@ use Rattle.tk_words.specs.Words.{BookWords, words_of, opened}
 use Rattle.tk_words.specs.Opening.{IsNumber, OpensSealed}
 use Rattle.tk_words.specs.OpeningLaws.{opens_sealed}
 use Rattle.tk_frames.specs.Order.{Record, records, before}
-use Rattle.tk_frames.specs.Lists.{first_some}
+use Rattle.tk_frames.specs.Lists.{first_some, IsIn}
 use Rattle.tk_frames.specs.Slots.{text_in}
 use Rattle.tk_table.specs.Table.{retained}
-use Rattle.tk_frames.specs.Lists.{IsIn}
 use Rattle.tk_frames.proofs.Offers.{in_from_contains, contains_from_in}
 use Rattle.tk_report.specs.Entries.{entries}
 use Rattle.tk_report.specs.Report.{lookup}

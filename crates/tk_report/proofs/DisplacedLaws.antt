@@ -1,12 +1,10 @@
 -- The displaced writes of an order, one write after the other.
 use Rattle.std.proofs.Common.{◌≡◌, ◌∙◌, ℕ, ◌+◌, ◌≤◌, refl, ap, arith}
-use Rattle.std.proofs.Common.{Bool, true, false, cond, List, [], ◌∷◌, ◌++◌, length}
-use Rattle.std.proofs.Common.{append-nil, append_assoc}
+use Rattle.std.proofs.Common.{Bool, true, false, cond, List, [], ◌∷◌, ◌++◌, length, append-nil, append_assoc}
 use Rattle.std.specs.Prelude.{not}
 use Rattle.tk_shape.specs.declared.shape.Shape.{Shape}
 use Rattle.tk_frames.specs.Order.{Record}
-use Rattle.tk_table.specs.Table.{fit_together, unexpired, retained_with, retained_on, retained}
-use Rattle.tk_table.specs.Table.{is_displaced}
+use Rattle.tk_table.specs.Table.{fit_together, unexpired, retained_with, retained_on, retained, is_displaced}
 use Rattle.tk_report.specs.Displaced.{displaced_on}
 
 -- whether w finds no place after R, of which K is retained, as a number

@@ -1,7 +1,6 @@
 -- What holds of each element of a list, and of those that pass a test.
 use Rattle.std.proofs.Common.{◌≡◌, ◌+◌, refl, ap, sym, ◌∙◌, arith}
-use Rattle.std.proofs.Common.{Bool, true, false, cond, List, [], ◌∷◌, ◌++◌, length, filter, find}
-use Rattle.std.proofs.Common.{count_by}
+use Rattle.std.proofs.Common.{Bool, true, false, cond, List, [], ◌∷◌, ◌++◌, length, filter, find, count_by}
 use Rattle.std.specs.Prelude.{◌&&◌, Some, None}
 use Rattle.std.specs.List.{AllByRecursion}
 use Rattle.std.proofs.lemmas.List.Sums.{sum_by-cons}

@@ -1,6 +1,5 @@
 -- Which marks stand before a turn.
-use Rattle.std.proofs.Common.{◌≡◌, ℕ, zero, suc, ◌+◌, ◌*◌, ◌/◌, ◌≤◌}
-use Rattle.std.proofs.Common.{cond, ap, sym, ◌∙◌, arith, count_by}
+use Rattle.std.proofs.Common.{◌≡◌, ℕ, zero, suc, ◌+◌, ◌*◌, ◌/◌, ◌≤◌, cond, ap, sym, ◌∙◌, arith, count_by}
 use Rattle.std.proofs.Common.{add-one, zero-mul, length}
 use Rattle.std.proofs.lemmas.List.Sums.{sum_by-append}
 use Rattle.std.proofs.lemmas.Nat.{div-mul-add}

@@ -8,8 +8,7 @@ use Rattle.tk_schedule.specs.Raw.{is_end}
 use Rattle.tk_script.specs.declared.cause.Cause.{Cause}
 use Rattle.tk_script.specs.Grammar.{Line, item_word, raw_line, IsItem, IsTurn, IsNumber}
 use Rattle.tk_script.specs.Reading.{Verdict, read_turn}
-use Rattle.tk_script.proofs.Offers.{LacksFeed}
-use Rattle.tk_script.proofs.Offers.{turn_is, turn_whole, turn-no_end}
+use Rattle.tk_script.proofs.Offers.{LacksFeed, turn_is, turn_whole, turn-no_end}
 use Rattle.tk_report.specs.ReportLines.{no_line, kind_or, kind_said, stops}
 use Rattle.tk_report.proofs.LineCuts.{IsField, fields-lack}
 

@@ -1,8 +1,7 @@
 -- The table's two buckets of a number give what is looked up.
 use Rattle.tk_words.specs.Words.{words_of, opened}
 use Rattle.tk_frames.specs.Order.{before}
-use Rattle.tk_table.proofs.Offers.{layout-as_written}
-use Rattle.tk_table.proofs.Offers.{layout-as_read}
+use Rattle.tk_table.proofs.Offers.{layout-as_written, layout-as_read}
 use Rattle.tk_report.specs.Entries.{entries}
 use Rattle.tk_report.specs.Report.{lookup}
 use Rattle.tk_report.specs.Delivered.{LayoutGivesLookup, BytesGiveLookup}

@@ -18,15 +18,13 @@ use Rattle.tk_words.specs.Words.{BookWords}
 use Rattle.tk_client.specs.declared.got.Got.{Got}
 use Rattle.tk_client.specs.declared.written.Written.{Written}
 use Rattle.tk_client.specs.declared.target.Target.{Target}
-use Rattle.tk_client.specs.Reader.{Follow, Reader, new_follow, untried, at_epoch}
-use Rattle.tk_client.specs.Reader.{follow_in, follow_after, after_read}
+use Rattle.tk_client.specs.Reader.{Follow, Reader, new_follow, untried, at_epoch, follow_in, follow_after, after_read}
 use Rattle.tk_client.specs.Reader.{got_in}
 use Rattle.tk_client.specs.Client.{ClientState}
 use Rattle.tk_client.specs.Writing.{Writing, unwritten, one_more_of, with_text}
 use Rattle.tk_report.specs.Queues.{writes_of, says_in, with_says, writing_before}
 use Rattle.tk_report.specs.Report.{follows_of, target_for, answer_for, reader_before, got_of}
-use Rattle.tk_report.specs.Report.{line, history_lines, log_lines, unsent_line, role_in}
-use Rattle.tk_report.specs.Report.{report_text, report_of}
+use Rattle.tk_report.specs.Report.{line, history_lines, log_lines, unsent_line, role_in, report_text, report_of}
 use Rattle.tk_report.specs.Clients.{AreClientsAtEnd, client_before}
 use Rattle.tk_report.specs.Leaving.{got_by, unsent_by, EndsLeave, EndsReport}
 use Rattle.tk_report.proofs.QueueLaws.{unsent_waits}

@@ -1,6 +1,6 @@
 -- What a run gives doesn't depend on the format.
 use Rattle.std.proofs.Common.{◌≡◌, ℕ, zero, suc, ◌+◌, ◌==◌, max, List, [], ◌∷◌, ◌++◌, Option, Some, None, filter, count_by, refl, ap, ap₂, ◌∙◌}
-use Rattle.std.specs.Prelude.{IsTrue, nat_le, find}
+use Rattle.std.specs.Prelude.{IsTrue, nat_le, find, option_map, option_and_then}
 use Rattle.tk_shape.specs.declared.shape.Shape.{Shape}
 use Rattle.tk_shape.specs.Lengths.{turn_count}
 use Rattle.tk_shape.specs.Lifting.{lifted_shape}
@@ -11,13 +11,12 @@ use Rattle.tk_script.specs.declared.say.Say.{Say}
 use Rattle.tk_script.specs.Sent.{Sending, sendings_from, sendings, sent, in_run, writer_of, unsent_count}
 use Rattle.tk_script.specs.Lifting.{fits_lifted, in_format_2}
 use Rattle.tk_script.proofs.Offers.{lifted-is}
-use Rattle.tk_words.specs.Words.{BookWords, words_of}
+use Rattle.tk_words.specs.Words.{BookWords, words_of, opened}
 use Rattle.tk_words.specs.Lifting.{lifted_book}
 use Rattle.tk_words.proofs.Offers.{lifted-words}
 use Rattle.tk_frames.specs.Order.{Record, before}
 use Rattle.tk_frames.specs.Slots.{text_in}
 use Rattle.tk_frames.specs.Lists.{first_some}
-use Rattle.tk_words.specs.Words.{opened}
 use Rattle.tk_table.specs.Table.{retained_with, retained_on}
 use Rattle.tk_table.specs.Shown.{is_shown}
 use Rattle.tk_client.specs.Reader.{Reader, at_epoch, target, after_read, got_in}
@@ -27,7 +26,6 @@ use Rattle.tk_report.specs.Report.{lookup, read_over, target_for, answered, read
 use Rattle.tk_report.specs.Lifted.{LiftedReports}
 use Rattle.tk_report.specs.Queues.{waiting_of}
 use Rattle.tk_client.specs.Writes.{write_of}
-use Rattle.std.specs.Prelude.{option_map, option_and_then}
 
 -- ---- what is sent
 

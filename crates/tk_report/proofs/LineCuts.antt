@@ -1,14 +1,11 @@
 -- Where a line ends and its fields do.
-use Rattle.std.proofs.Common.{◌≡◌, ◌≢◌, refl, ap, sym, ◌∙◌, arith}
-use Rattle.std.proofs.Common.{ℕ, ◌<◌, ◌^◌}
+use Rattle.std.proofs.Common.{◌≡◌, ◌≢◌, refl, ap, sym, ◌∙◌, arith, ℕ, ◌<◌, ◌^◌}
 use Rattle.std.proofs.Common.{List, [], ◌∷◌, ◌++◌, decimal, append_assoc}
 use Rattle.std.specs.List.{AllByRecursion}
 use Rattle.tk_script.specs.Fields.{LacksSpace}
 use Rattle.tk_script.specs.Grammar.{fields}
 use Rattle.tk_script.specs.Reading.{parts_of}
-use Rattle.tk_script.proofs.Offers.{LacksFeed, feed_by_index, each-append}
-use Rattle.tk_script.proofs.Offers.{same_first, same_rest, cons_both}
-use Rattle.tk_script.proofs.Offers.{all_digits}
+use Rattle.tk_script.proofs.Offers.{LacksFeed, feed_by_index, each-append, same_first, same_rest, cons_both, all_digits}
 use Rattle.tk_script.proofs.Offers.{split_field, one_field}
 use Rattle.tk_report.specs.Report.{line}
 

@@ -10,18 +10,16 @@ use Rattle.tk_shape.specs.Lengths.{turn_count}
 use Rattle.tk_schedule.specs.declared.item.Item.{Item}
 use Rattle.tk_schedule.specs.declared.item.Item.TheVariants.{Client, Publish}
 use Rattle.tk_schedule.specs.declared.history.History.{History}
-use Rattle.tk_schedule.specs.Schedule.{IsLegal, phases_over, order_at}
+use Rattle.tk_schedule.specs.Schedule.{IsLegal, phases_over, order_at, is_mark}
 use Rattle.tk_frames.specs.declared.write_frame.WriteFrame.{WriteFrame}
 use Rattle.tk_frames.specs.declared.entry.Placed.{Placed}
 use Rattle.tk_frames.specs.InOrder.{mark_count}
 use Rattle.tk_frames.specs.Order.{is_mark_entry, is_mark_of, has_mark, before}
 use Rattle.tk_frames.proofs.Offers.{before-none, before-settled}
 use Rattle.tk_report.specs.Entries.{placed_from, placed_after, entries_before}
-use Rattle.tk_schedule.specs.Schedule.{is_mark}
 use Rattle.tk_report.proofs.TurnEntries.{marks-placed_from}
 use Rattle.tk_report.proofs.EpochLaws.{marks-before}
-use Rattle.tk_report.specs.Agreement.{SameOrders, EntriesAgree, TurnEntriesAgree, StandingMarks}
-use Rattle.tk_report.specs.Agreement.{PhasesMarked}
+use Rattle.tk_report.specs.Agreement.{SameOrders, EntriesAgree, TurnEntriesAgree, StandingMarks, PhasesMarked}
 
 -- ---- the entries of two histories
 

@@ -4,7 +4,7 @@ use Rattle.std.proofs.Common.{ℕ, zero, suc, ◌+◌, ◌<◌, ◌≤◌, ◌^�
 use Rattle.std.proofs.Common.{List, [], ◌∷◌, ◌++◌, map, codes, decimal, append_assoc}
 use Rattle.std.specs.Prelude.{◌==◌, not, flat_map, nat_lt, slice_index_or}
 use Rattle.std.specs.List.{AllByRecursion, list_all, range_with_len}
-use Rattle.std.proofs.lemmas.Bool.{cases_lt, ltb-true}
+use Rattle.std.proofs.lemmas.Bool.{cases_lt, ltb-true, and_parts as parts}
 use Rattle.std.proofs.lemmas.Fmt.{decimal_injective}
 use Rattle.std.proofs.lemmas.List.{ext_get_or, append_cancel_left}
 use Rattle.std.proofs.Math.Nat.{div-le_self, mod-lt}
@@ -14,15 +14,10 @@ use Rattle.tk_schedule.specs.declared.item.Item.{Item}
 use Rattle.tk_schedule.specs.declared.item.Item.TheVariants.{Client, Publish}
 use Rattle.tk_schedule.specs.declared.history.TurnOrder.{TurnOrder}
 use Rattle.tk_schedule.specs.declared.history.History.{History}
-use Rattle.tk_schedule.specs.Schedule.{phase_of, tick_of, is_closing, phases_over, order_at}
-use Rattle.tk_schedule.specs.Schedule.{epoch_at}
+use Rattle.tk_schedule.specs.Schedule.{phase_of, tick_of, is_closing, phases_over, order_at, epoch_at}
 use Rattle.tk_schedule.specs.Schedule.{blank_turn, is_within, IsTurn, IsLegal}
-use Rattle.tk_schedule.proofs.Offers.{turn_within}
-use Rattle.tk_schedule.proofs.Offers.{epochs_of_open, same_turn}
-use Rattle.tk_script.proofs.Offers.{feed_by_test, lacks_by_test}
-use Rattle.tk_script.proofs.Offers.{same_first, same_rest, cons_both}
-use Rattle.tk_script.proofs.Offers.{all_digits}
-use Rattle.std.proofs.lemmas.Bool.{and_parts as parts}
+use Rattle.tk_schedule.proofs.Offers.{turn_within, epochs_of_open, same_turn}
+use Rattle.tk_script.proofs.Offers.{feed_by_test, lacks_by_test, same_first, same_rest, cons_both, all_digits}
 use Rattle.tk_frames.proofs.Offers.{turn_count_small}
 use Rattle.tk_script.specs.Grammar.{item_word}
 use Rattle.tk_report.specs.Report.{line, turn_lines, history_lines}

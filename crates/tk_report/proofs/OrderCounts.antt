@@ -13,8 +13,7 @@ use Rattle.tk_frames.specs.declared.entry.Placed.{Placed as AtPlace}
 use Rattle.tk_frames.specs.InOrder.{IsNext, IsNextAt, IsOrder, mark_count}
 use Rattle.tk_frames.specs.Order.{record_at, records}
 use Rattle.tk_frames.specs.Ranges.{IsEntry, IsWrite}
-use Rattle.tk_frames.proofs.Offers.{record_of, records-write, records-mark}
-use Rattle.tk_frames.proofs.Offers.{turn_count_small}
+use Rattle.tk_frames.proofs.Offers.{record_of, records-write, records-mark, turn_count_small}
 use Rattle.tk_frames.proofs.Offers.{order-push, order-front, order-entry}
 use Rattle.tk_table.specs.declared.table.Put.{Put}
 use Rattle.tk_table.specs.declared.table.Put.TheVariants.{Placed, Displaced}

@@ -2,12 +2,11 @@
 use Rattle.std.proofs.Common.{◌≡◌, refl, ap, ap₂, sym, ◌∙◌, subst, arith, ◌⊎◌, inl, inr}
 use Rattle.std.proofs.Common.{ℕ, zero, suc, ◌+◌, ◌-◌, ◌<◌, ◌≤◌, nat_lt, ◌==◌, lt-ltb, ltb-true}
 use Rattle.std.proofs.Common.{Bool, true, false, cond, ◌&&◌, eqb-true, zero-add, suc-add}
-use Rattle.std.proofs.Common.{List, [], ◌∷◌, ◌++◌, length, map, filter, find, replicate, slice_get}
-use Rattle.std.proofs.Common.{append_assoc}
+use Rattle.std.proofs.Common.{List, [], ◌∷◌, ◌++◌, length, map, filter, find, replicate, slice_get, append_assoc}
 use Rattle.std.proofs.Common.{slice_index_or, slice_set, Option, Some, None}
 use Rattle.std.specs.List.{AllByRecursion, range_with_len}
 use Rattle.std.specs.Option.{option_or}
-use Rattle.std.proofs.lemmas.Bool.{cases_lt}
+use Rattle.std.proofs.lemmas.Bool.{cases_lt, and_parts as parts}
 use Rattle.std.proofs.lemmas.Option.{same_Some, slice_get_within}
 use Rattle.tk_lists.proofs.Offers.{option_map-from}
 use Rattle.tk_shape.specs.declared.shape.Shape.{Shape}
@@ -15,7 +14,6 @@ use Rattle.tk_shape.specs.Lengths.{turn_count}
 use Rattle.tk_schedule.specs.declared.history.History.{History}
 use Rattle.tk_schedule.specs.Schedule.{epoch_at}
 use Rattle.tk_script.specs.declared.script.Script.{Script}
-use Rattle.std.proofs.lemmas.Bool.{and_parts as parts}
 use Rattle.tk_words.specs.Words.{BookWords, words_of}
 use Rattle.tk_words.specs.Opening.{IsNumber, OpensSealed}
 use Rattle.tk_words.specs.OpeningLaws.{opens_sealed}
@@ -27,14 +25,11 @@ use Rattle.tk_table.specs.Shown.{is_shown}
 use Rattle.tk_report.specs.Entries.{entries}
 use Rattle.tk_client.specs.declared.target.Target.{Target}
 use Rattle.tk_client.specs.Reader.{Follow, Reader, next_of, new_follow, untried}
-use Rattle.tk_client.specs.Reader.{at_epoch, wanted, follow_at, number_ahead, target_in, target}
-use Rattle.tk_client.specs.Reader.{places_from_cursor}
-use Rattle.tk_client.specs.Reader.{follow_after, after_read}
+use Rattle.tk_client.specs.Reader.{at_epoch, wanted, follow_at, number_ahead, target_in, target, places_from_cursor}
+use Rattle.tk_client.specs.Reader.{follow_after, after_read, first_got, got_in}
 use Rattle.tk_report.specs.Report.{lookup, is_follower, read_over, target_for, answer_for}
-use Rattle.tk_client.specs.Reader.{first_got, got_in}
 use Rattle.tk_report.specs.Report.{reader_step, reader_before, target_at}
-use Rattle.tk_report.specs.PassingOver.{IsNotRetained, IsRightlyPassed}
-use Rattle.tk_report.specs.PassingOver.{HonestPassingOver}
+use Rattle.tk_report.specs.PassingOver.{IsNotRetained, IsRightlyPassed, HonestPassingOver}
 use Rattle.tk_report.proofs.RetainedLaws.{not_shown-not_retained, not_found-not_retained}
 
 -- ---- the number that is wanted

@@ -13,26 +13,20 @@ use Rattle.tk_shape.specs.declared.shape.Shape.{Shape}
 use Rattle.tk_shape.specs.Lengths.{turn_count}
 use Rattle.tk_script.specs.declared.script.Script.{Script}
 use Rattle.tk_script.specs.declared.say.Say.{Say}
-use Rattle.tk_script.specs.Sent.{Sending, writer_of, sendings_from, sendings, in_run, sent}
-use Rattle.tk_script.specs.Sent.{unsent_count}
+use Rattle.tk_script.specs.Sent.{Sending, writer_of, sendings_from, sendings, in_run, sent, unsent_count}
 use Rattle.tk_client.specs.declared.waiting.Waiting.{Waiting}
-use Rattle.tk_client.specs.Writing.{Writing, new_writing, count_of, with_text, first_waiting}
-use Rattle.tk_client.specs.Writing.{after_write}
+use Rattle.tk_client.specs.Writing.{Writing, new_writing, count_of, with_text, first_waiting, after_write}
 use Rattle.tk_frames.proofs.Offers.{each-filter}
-use Rattle.tk_report.specs.Queues.{QueuesSend}
-use Rattle.tk_report.specs.Queues.{turn_said, writes_of, says_in, with_says, writing_before}
+use Rattle.tk_report.specs.Queues.{QueuesSend, turn_said, writes_of, says_in, with_says, writing_before}
 use Rattle.tk_report.specs.Queues.{writing_said, waiting_of}
-use Rattle.tk_report.proofs.EachLaws.{each-weaker, each-behind, each-passes}
-use Rattle.tk_report.proofs.EachLaws.{filter-none, filter-swap}
+use Rattle.tk_report.proofs.EachLaws.{each-weaker, each-behind, each-passes, filter-none, filter-swap}
 use Rattle.tk_report.proofs.EachLaws.{find-none, find-past, find-filter, count-none, count-all}
 use Rattle.tk_report.proofs.CountLaws.{IsCounted, counted-said, written-range, count_of-unwritten}
 use Rattle.tk_report.proofs.SendingsLaws.{turn_in}
-use Rattle.tk_report.proofs.SayOrder.{IsSaid, all-said, turn-in, Rising, rising-from_order}
-use Rattle.tk_report.proofs.SayOrder.{rising-filter}
+use Rattle.tk_report.proofs.SayOrder.{IsSaid, all-said, turn-in, Rising, rising-from_order, rising-filter}
 use Rattle.tk_report.proofs.SayOrder.{now-and-later}
 use Rattle.tk_script.proofs.Offers.{behind, sendings-append, sent-late, number-le-turn, each-append}
-use Rattle.tk_script.proofs.Offers.{same_first, same_rest}
-use Rattle.tk_script.proofs.Offers.{free_after, free_after-append, of_log, sending_behind}
+use Rattle.tk_script.proofs.Offers.{same_first, same_rest, free_after, free_after-append, of_log, sending_behind}
 use Rattle.tk_script.proofs.Offers.{sendings_from-append}
 
 -- the turn in which a text is said

@@ -1,9 +1,7 @@
 -- The lines of a report's history, and what they tell.
 use Rattle.std.proofs.Common.{◌≡◌, refl, ap, ap₂, sym, ◌∙◌, subst, arith}
 use Rattle.std.proofs.Common.{ℕ, suc, ◌+◌, ◌<◌, ◌≤◌, ◌^◌, Bool, true, false, cond}
-use Rattle.std.proofs.Common.{List, [], ◌∷◌, ◌++◌, length, map, codes, decimal, append_assoc}
-use Rattle.std.proofs.Common.{append-nil}
-use Rattle.std.proofs.Common.{Some}
+use Rattle.std.proofs.Common.{List, [], ◌∷◌, ◌++◌, length, map, codes, decimal, append_assoc, append-nil, Some}
 use Rattle.std.specs.Str.{bytes_eq}
 use Rattle.std.specs.Prelude.{flat_map, slice_index, slice_index_or, nat_lt}
 use Rattle.std.specs.List.{AllByRecursion, list_all, range_with_len}
@@ -18,16 +16,14 @@ use Rattle.tk_schedule.specs.declared.raw.RawKind.TheVariants.{Order, Reads, End
 use Rattle.tk_schedule.specs.declared.history.TurnOrder.{TurnOrder}
 use Rattle.tk_schedule.specs.declared.history.History.{History}
 use Rattle.tk_schedule.specs.Raw.{is_end, is_none_left, ends_once, kinds}
-use Rattle.tk_schedule.specs.Schedule.{phase_of, tick_of, is_closing, phases_over, order_at}
-use Rattle.tk_schedule.specs.Schedule.{epoch_at}
+use Rattle.tk_schedule.specs.Schedule.{phase_of, tick_of, is_closing, phases_over, order_at, epoch_at}
 use Rattle.tk_schedule.specs.Schedule.{blank_turn, is_within, IsTurn, IsLegal}
 use Rattle.tk_schedule.specs.Due.{bad_line}
 use Rattle.tk_schedule.specs.Told as told
 use Rattle.tk_schedule.specs.Told.{Tells}
 use Rattle.tk_schedule.proofs.Offers.{turn_within}
 use Rattle.tk_script.specs.Grammar.{Line, lines_of, item_word, IsItem, IsNumber}
-use Rattle.tk_script.proofs.Offers.{feed_by_test, each-append}
-use Rattle.tk_script.proofs.Offers.{no_lines}
+use Rattle.tk_script.proofs.Offers.{feed_by_test, each-append, no_lines, lines_of-line}
 use Rattle.std.proofs.lemmas.Bool.{ltb-true, and_parts as parts}
 use Rattle.tk_report.specs.Report.{line, turn_lines, history_lines}
 use Rattle.tk_report.specs.ReportLines.{no_line, kind_said, stops, raw_from, bad_report_line}
@@ -35,10 +31,8 @@ use Rattle.tk_report.specs.Shown.{ShowsHistory}
 use Rattle.tk_report.proofs.LineCuts.{IsField}
 use Rattle.tk_report.proofs.OneHistoryLaws.{turn_of, IsSmall, is-small, order_fields, order-fields}
 use Rattle.tk_report.proofs.OneHistoryLaws.{reads_fields, reads-fields}
-use Rattle.tk_script.proofs.Offers.{lines_of-line}
 use Rattle.tk_report.proofs.TextLines.{first-whole, stop-first, first-stops}
-use Rattle.tk_report.proofs.KindLaws.{kind_text, IsOwn, own-order, own-reads}
-use Rattle.tk_report.proofs.KindLaws.{said-no_end}
+use Rattle.tk_report.proofs.KindLaws.{kind_text, IsOwn, own-order, own-reads, said-no_end}
 
 -- ---- an end stands after all
 

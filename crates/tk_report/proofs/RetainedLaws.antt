@@ -1,8 +1,7 @@
 -- A record that is retained is shown, and its text is what is looked up.
 use Rattle.std.proofs.Common.{◌≡◌, refl, ap, ap₂, sym, ◌∙◌, subst, arith, inl, inr, eq-eqb}
 use Rattle.std.proofs.Common.{ℕ, zero, suc, ◌+◌, ◌-◌, true, false, cond, ◌&&◌, ◌==◌}
-use Rattle.std.proofs.Common.{List, [], ◌∷◌, length, drop, Option, Some, None}
-use Rattle.std.proofs.Common.{eqb-true, ◌||◌}
+use Rattle.std.proofs.Common.{List, [], ◌∷◌, length, drop, Option, Some, None, eqb-true, ◌||◌}
 use Rattle.std.specs.List.{AllByRecursion}
 use Rattle.std.specs.Option.{option_or, option_map}
 use Rattle.std.proofs.lemmas.Bool.{both_ways}
@@ -16,24 +15,20 @@ use Rattle.tk_words.specs.Opening.{IsNumber, OpensSealed}
 use Rattle.tk_frames.specs.declared.write_frame.WriteFrame.{WriteFrame}
 use Rattle.tk_frames.specs.declared.entry.Placed.{Placed}
 use Rattle.tk_frames.specs.Order.{Record, is_mark_of, records, up_to_mark, before}
-use Rattle.tk_frames.specs.Lists.{first_some}
+use Rattle.tk_frames.specs.Lists.{first_some, IsIn}
 use Rattle.tk_table.specs.Ordered.{AscendFrom}
 use Rattle.tk_table.specs.Table.{window, has_position, retained}
-use Rattle.tk_table.proofs.Offers.{ascend-above, retained-in_window}
-use Rattle.tk_frames.specs.Lists.{IsIn}
+use Rattle.tk_table.proofs.Offers.{ascend-above, retained-in_window, retained-each}
 use Rattle.tk_frames.proofs.Offers.{in_from_contains, contains_from_in, all-at, each-in, in_map}
-use Rattle.tk_table.proofs.Offers.{retained-each}
 use Rattle.tk_bloom.proofs.Offers.{is_shown-positions_of}
 use Rattle.tk_table.specs.Shown.{pushes_of, is_shown}
 use Rattle.tk_client.specs.Writes.{write_of}
 use Rattle.tk_report.specs.Queues.{waiting_of}
-use Rattle.tk_report.specs.Entries.{write_at}
-use Rattle.tk_report.specs.Entries.{entries}
-use Rattle.tk_report.proofs.RecordLaws.{ArePlacedFrom}
+use Rattle.tk_report.specs.Entries.{write_at, entries}
+use Rattle.tk_report.proofs.RecordLaws.{ArePlacedFrom, ascend-entry}
 use Rattle.tk_report.specs.PassingOver.{IsRecordOf, IsNotRetained, RecordsAreShown}
 use Rattle.tk_frames.specs.Slots.{text_in}
 use Rattle.tk_report.specs.Report.{lookup}
-use Rattle.tk_report.proofs.RecordLaws.{ascend-entry}
 use Rattle.tk_report.proofs.WrittenLaws.{entries-placed}
 use Rattle.tk_script.proofs.Offers.{sent-sealable}
 

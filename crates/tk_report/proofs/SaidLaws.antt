@@ -5,8 +5,7 @@ use Rattle.std.proofs.Common.{filter, count_by, get_or, eq-eqb, ne_eqb, inl, inr
 use Rattle.std.specs.Prelude.{◌==◌, ◌&&◌, nat_le, nat_lt, sum_by}
 use Rattle.std.specs.List.{range_with_len, AllByRecursion, list_all}
 use Rattle.std.proofs.Math.Nat.{suc-mul, zero-mul, le-max_right}
-use Rattle.std.proofs.lemmas.Bool.{cases_lt, le-leb, ltb-true}
-use Rattle.std.proofs.lemmas.Bool.{and_parts as parts}
+use Rattle.std.proofs.lemmas.Bool.{cases_lt, le-leb, ltb-true, and_parts as parts}
 use Rattle.std.proofs.lemmas.List.Sums.{sum_by-cons, count_by-le-length, length-filter}
 use Rattle.tk_shape.specs.declared.shape.Shape.{Shape}
 use Rattle.tk_shape.specs.Lengths.{turn_count}

@@ -1,9 +1,7 @@
 -- What a client sends is in the order of its turns, and what it sends in one is found there.
 use Rattle.std.proofs.Common.{◌≡◌, ◌≢◌, ◌∙◌, ap, sym, refl, subst, arith}
 use Rattle.std.proofs.Common.{ℕ, zero, suc, ◌+◌, ◌<◌, ◌≤◌, max, Bool, true, false, cond}
-use Rattle.std.proofs.Common.{List, [], ◌∷◌, length, filter, find, get_or, map, ne_eqb, eq-eqb}
-use Rattle.std.proofs.Common.{Some, None}
-use Rattle.std.proofs.Common.{inl, inr}
+use Rattle.std.proofs.Common.{List, [], ◌∷◌, length, filter, find, get_or, map, ne_eqb, eq-eqb, Some, None, inl, inr}
 use Rattle.std.specs.Prelude.{◌==◌, All}
 use Rattle.std.specs.List.{range_with_len}
 use Rattle.std.specs.List.Sorted.{IsNonDecreasingBy, IsPartitionPoint}

@@ -1,7 +1,6 @@
 -- A run whose servers are honest is the run.
 use Rattle.std.proofs.Common.{◌≡◌, refl, ap, sym, subst, ◌∙◌, arith, ℕ, zero, suc, ◌+◌, ◌<◌}
-use Rattle.std.proofs.Common.{List, map, Option, Some, None}
-use Rattle.std.proofs.Common.{add-one}
+use Rattle.std.proofs.Common.{List, map, Option, Some, None, add-one}
 use Rattle.std.specs.List.{range_with_len}
 use Rattle.tk_shape.specs.Lengths.{turn_count}
 use Rattle.tk_schedule.specs.declared.history.History.{History}
@@ -17,14 +16,12 @@ use Rattle.tk_client.specs.Asked.{asked, pair_for}
 use Rattle.tk_client.specs.Reader.{Reader, at_epoch, after_read, got_in}
 use Rattle.tk_client.specs.Replies.{answer_in, first_joined, second_joined}
 use Rattle.tk_report.specs.Exchange.{read_answered, read_at, read_pair, with_reply}
-use Rattle.tk_report.specs.Report.{answered, read_over, reader_before, target_at}
-use Rattle.tk_report.specs.Report.{got_of, report_of}
+use Rattle.tk_report.specs.Report.{answered, read_over, reader_before, target_at, got_of, report_of}
 use Rattle.tk_report.proofs.ReadingLaws.{before-next}
 use Rattle.tk_report.proofs.AgreementLaws.{turns-agree}
 use Rattle.tk_report.proofs.LeavingLaws.{reports-agree}
 use Rattle.tk_report.specs.Serving.{honest, frame_under, replies_under, reader_under, reader_after}
-use Rattle.tk_report.specs.Serving.{read_replied, got_under}
-use Rattle.tk_report.specs.Serving.{HonestReaders, HonestExchange, HonestReport}
+use Rattle.tk_report.specs.Serving.{read_replied, got_under, HonestReaders, HonestExchange, HonestReport}
 use Rattle.tk_report.proofs.Lists.{map-map}
 use Rattle.tk_report.proofs.SoundReads.{IsSound, all-sound, text-taken}
 

@@ -1,6 +1,5 @@
 -- A report shows its history.
-use Rattle.std.proofs.Common.{◌≡◌, refl, ap, ◌∙◌, arith}
-use Rattle.std.proofs.Common.{ℕ, zero, suc, ◌≤◌, Bool, true, ◌||◌}
+use Rattle.std.proofs.Common.{◌≡◌, refl, ap, ◌∙◌, arith, ℕ, zero, suc, ◌≤◌, Bool, true, ◌||◌}
 use Rattle.std.proofs.Common.{List, [], ◌∷◌, ◌++◌, codes, append_assoc}
 use Rattle.std.specs.Prelude.{flat_map}
 use Rattle.std.specs.List.{range_with_len}
@@ -8,8 +7,7 @@ use Rattle.tk_schedule.specs.declared.history.History.{History}
 use Rattle.tk_script.specs.declared.script.Script.{Script}
 use Rattle.tk_script.specs.Sent.{unsent_count}
 use Rattle.tk_words.specs.Words.{BookWords, words_of}
-use Rattle.tk_report.specs.Report.{line, role_at, got_of, log_lines, unsent_line, history_lines}
-use Rattle.tk_report.specs.Report.{report_text, report_of}
+use Rattle.tk_report.specs.Report.{line, role_at, got_of, log_lines, unsent_line, history_lines, report_text, report_of}
 use Rattle.tk_report.specs.Shown.{begins_with}
 use Rattle.tk_report.specs.Histories.{ReportsShow}
 

@@ -1,24 +1,21 @@
 -- The reads of a run: what each is over, that it is in range, and what a client takes from replies.
 use Rattle.std.proofs.Common.{◌≡◌, refl, ap, ap₂, sym, subst, ◌∙◌, arith, ℕ, ◌+◌, ◌<◌, List, [], ◌++◌}
-use Rattle.std.proofs.Common.{length, map, Option, Some, ◌≤◌}
+use Rattle.std.proofs.Common.{length, map, Option, Some, ◌≤◌, le_trans, div-mul-le_self, le_of_mul-le-mul_right}
 use Rattle.std.specs.List.{AllByRecursion, range_with_len}
 use Rattle.std.proofs.lemmas.List.{length-map}
 use Rattle.std.proofs.lemmas.List.Elements.{recursion_from_All, All-from_get_or}
-use Rattle.std.proofs.Common.{le_trans, div-mul-le_self, le_of_mul-le-mul_right}
 use Rattle.tk_shape.specs.declared.shape.Shape.{Shape}
 use Rattle.tk_shape.specs.Lengths.{width, turn_count}
 use Rattle.tk_kernel.specs.Xor.{xor_all}
 use Rattle.tk_schedule.specs.declared.history.History.{History}
-use Rattle.tk_schedule.specs.Schedule.{IsLegal, epoch_at}
-use Rattle.tk_schedule.specs.Schedule.{phases_over}
+use Rattle.tk_schedule.specs.Schedule.{IsLegal, epoch_at, phases_over}
 use Rattle.tk_script.specs.declared.script.Script.{Script}
 use Rattle.tk_words.specs.Words.{WordBook, words_of, opened as opens_to, fresh_vectors, IsBook}
 use Rattle.tk_frames.specs.declared.read_frame.ReadFrame.{ReadFrame}
 use Rattle.tk_frames.specs.declared.reply_frame.ReplyFrame.{ReplyFrame}
 use Rattle.tk_frames.specs.Ranges.{IsRead}
-use Rattle.tk_frames.specs.Order.{Record}
+use Rattle.tk_frames.specs.Order.{Record, before}
 use Rattle.tk_frames.specs.Slots.{slots_in, text_among}
-use Rattle.tk_frames.specs.Order.{before}
 use Rattle.tk_table.specs.Ordered.{AreOrdered}
 use Rattle.tk_table.specs.Stands.{IsPair}
 use Rattle.tk_table.specs.Table.{layout}
@@ -28,13 +25,11 @@ use Rattle.tk_table.specs.Replies.{reply_to}
 use Rattle.tk_bucket.specs.Bytes.{blocks_of}
 use Rattle.tk_client.specs.declared.target.Target.{Target}
 use Rattle.tk_client.proofs.Offers.{asked-in_range, pair-in_range, fresh-whole}
-use Rattle.tk_client.specs.Asked.{asked, AreWhole, pair_for}
-use Rattle.tk_client.specs.Asked.{frame_for}
+use Rattle.tk_client.specs.Asked.{asked, AreWhole, pair_for, frame_for}
 use Rattle.tk_report.proofs.WrittenLaws.{epochs-ordered}
 use Rattle.tk_report.proofs.StorableLaws.{epochs-storable}
 use Rattle.tk_report.specs.Report.{lookup, read_over, target_at}
-use Rattle.tk_report.specs.Exchange.{read_at}
-use Rattle.tk_report.specs.Exchange.{read_pair}
+use Rattle.tk_report.specs.Exchange.{read_at, read_pair}
 use Rattle.tk_report.specs.Entries.{write_at}
 use Rattle.tk_report.proofs.MarkedLaws.{before-over}
 use Rattle.tk_report.specs.Turns.{placed_before}

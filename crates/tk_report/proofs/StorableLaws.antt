@@ -1,8 +1,6 @@
 -- The writes of a legal history can be stored.
-use Rattle.std.proofs.Common.{◌≡◌, refl, sym, subst, arith}
-use Rattle.std.proofs.Common.{ℕ, zero, suc, ◌+◌, ◌-◌, ◌*◌, ◌<◌, ◌≤◌, true, false, nat_lt}
-use Rattle.std.proofs.Common.{List, [], ◌∷◌, length, count_by, length-append, length-drop, Some}
-use Rattle.std.proofs.Common.{None}
+use Rattle.std.proofs.Common.{◌≡◌, refl, sym, subst, arith, ℕ, zero, suc, ◌+◌, ◌-◌, ◌*◌, ◌<◌, ◌≤◌, true, false, nat_lt}
+use Rattle.std.proofs.Common.{List, [], ◌∷◌, length, count_by, length-append, length-drop, Some, None}
 use Rattle.std.specs.Prelude.{if◌then◌else◌}
 use Rattle.std.specs.List.{AllByRecursion, list_all, cons_option}
 use Rattle.std.specs.Option.{option_map}
@@ -24,30 +22,26 @@ use Rattle.tk_kernel.specs.Xor.{xor_bytes}
 use Rattle.tk_kernel.proofs.Offers.{length-xor_bytes}
 use Rattle.tk_seal.specs.Seal.{plain, hmac, keyed_tag}
 use Rattle.tk_seal.proofs.Offers.{length-plain}
-use Rattle.tk_words.specs.Words.{WordBook, keyed, drawn, IsBook, words_of, pad_of, tag_of}
-use Rattle.tk_words.specs.Words.{fresh_write}
+use Rattle.tk_words.specs.Words.{WordBook, keyed, drawn, IsBook, words_of, pad_of, tag_of, fresh_write}
 use Rattle.tk_words.specs.Words.{write_cell, keyed_cell, write_part, cell_block, sealed, handle_at}
-use Rattle.tk_words.specs.CellLaws.{place_within, length-write_part, length-piece}
-use Rattle.tk_words.specs.CellLaws.{length-keyed_cell}
+use Rattle.tk_words.specs.CellLaws.{place_within, length-write_part, length-piece, length-keyed_cell}
 use Rattle.tk_words.specs.Opening.{IsNumber}
 use Rattle.tk_words.specs.OpeningLaws.{length-pad_of}
-use Rattle.tk_frames.proofs.Offers.{turn_count_small}
+use Rattle.tk_frames.proofs.Offers.{turn_count_small, each-both, records-append}
 use Rattle.tk_frames.specs.declared.write_frame.WriteFrame.{WriteFrame}
 use Rattle.tk_frames.specs.declared.entry.Placed.{Placed}
 use Rattle.tk_frames.specs.declared.entry.Entry.{Entry}
 use Rattle.tk_frames.specs.declared.entry.Entry.TheVariants.{Write, Mark}
 use Rattle.tk_frames.specs.Order.{Record, record_at, is_mark_entry, records, before}
 use Rattle.tk_table.specs.Laws.{IsStorable}
-use Rattle.tk_frames.proofs.Offers.{each-both, records-append}
 use Rattle.tk_client.specs.Writes.{write_of}
 use Rattle.tk_report.specs.Queues.{waiting_of}
 use Rattle.tk_report.proofs.TurnEntries.{length-placed_from}
 use Rattle.tk_report.specs.Entries.{write_at, placed_from, placed_after, entries_before, entries}
 use Rattle.tk_report.proofs.RecordLaws.{ArePlacedFrom}
 use Rattle.tk_report.proofs.EachLaws.{each-weaker, each-front}
-use Rattle.tk_script.proofs.Offers.{sent-sealable, each-append}
+use Rattle.tk_script.proofs.Offers.{sent-sealable, each-append, sent-is}
 use Rattle.tk_report.specs.Delivered.{EpochsStorable}
-use Rattle.tk_script.proofs.Offers.{sent-is}
 use Rattle.tk_report.proofs.WrittenLaws.{entries-placed, before-front}
 
 -- ---- the block of a write

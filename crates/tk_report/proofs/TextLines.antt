@@ -1,7 +1,5 @@
 -- The first line of a text, and the line that stands after a history.
-use Rattle.std.proofs.Common.{◌≡◌, ◌≢◌, refl, ap, ◌∙◌, ◌⊎◌, inl, inr, eqb-true}
-use Rattle.std.proofs.Common.{arith}
-use Rattle.std.proofs.Common.{ℕ, true, false, cond, ◌||◌, ◌==◌}
+use Rattle.std.proofs.Common.{◌≡◌, ◌≢◌, refl, ap, ◌∙◌, ◌⊎◌, inl, inr, eqb-true, arith, ℕ, true, false, cond, ◌||◌, ◌==◌}
 use Rattle.std.proofs.Common.{List, [], ◌∷◌, ◌++◌, codes, append_assoc}
 use Rattle.std.specs.Prelude.{drop, length}
 use Rattle.std.proofs.lemmas.Slice.Eq.{starts_is}
@@ -11,8 +9,7 @@ use Rattle.std.proofs.lemmas.Bool.{or_right}
 use Rattle.tk_script.specs.Grammar.{Line, lines_of}
 use Rattle.tk_report.specs.Shown.{begins_with}
 use Rattle.tk_report.specs.ReportLines.{stops}
-use Rattle.tk_script.proofs.Offers.{LacksFeed, lines_of-other}
-use Rattle.tk_script.proofs.Offers.{same_first, same_rest}
+use Rattle.tk_script.proofs.Offers.{LacksFeed, lines_of-other, same_first, same_rest}
 
 -- ---- the first line
 

@@ -1,8 +1,7 @@
 -- Which clients of a turn have written, and what each of them is then.
 use Rattle.std.proofs.Common.{◌≡◌, ◌≢◌, ◌∙◌, refl, ap, sym, subst, arith, inl, inr, eq-eqb, ne_eqb}
 use Rattle.std.proofs.Common.{true, false, Bool, ◌||◌, cond}
-use Rattle.std.proofs.Common.{ℕ, zero, suc, ◌+◌, ◌<◌, ◌≤◌, List, [], ◌∷◌, length, take, get_or, set}
-use Rattle.std.proofs.Common.{count_by, IsTrue}
+use Rattle.std.proofs.Common.{ℕ, zero, suc, ◌+◌, ◌<◌, ◌≤◌, List, [], ◌∷◌, length, take, get_or, set, count_by, IsTrue}
 use Rattle.std.proofs.Common.{length-set, get_or-set_same, get_or-set_other, add-one}
 use Rattle.std.specs.Prelude.{slice_index_or}
 use Rattle.std.specs.List.{list_all}
@@ -22,8 +21,7 @@ use Rattle.tk_client.specs.Reader.{Reader}
 use Rattle.tk_client.specs.Client.{ClientState}
 use Rattle.tk_client.specs.Writing.{first_waiting, after_write}
 use Rattle.tk_client.specs.Writes.{write_of}
-use Rattle.tk_report.specs.Clients.{AreClients, idle, client_told, client_knowing, client_after}
-use Rattle.tk_report.specs.Clients.{has_written}
+use Rattle.tk_report.specs.Clients.{AreClients, idle, client_told, client_knowing, client_after, has_written}
 use Rattle.tk_report.specs.Entries.{write_at}
 use Rattle.tk_report.specs.Queues.{writing_before}
 use Rattle.tk_frames.specs.declared.write_frame.WriteFrame.{WriteFrame}

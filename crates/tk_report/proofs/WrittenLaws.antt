@@ -25,9 +25,7 @@ use Rattle.tk_client.specs.declared.waiting.Waiting.{Waiting}
 use Rattle.tk_client.specs.Writes.{write_of}
 use Rattle.tk_report.specs.Queues.{waiting_of}
 use Rattle.tk_report.specs.Entries.{write_at, placed_from, placed_after, entries_before, entries}
-use Rattle.tk_report.proofs.RecordLaws.{ArePlacedFrom}
-use Rattle.tk_report.proofs.RecordLaws.{records-ascend}
-use Rattle.tk_report.proofs.RecordLaws.{ordered-front}
+use Rattle.tk_report.proofs.RecordLaws.{ArePlacedFrom, records-ascend, ordered-front}
 use Rattle.tk_report.specs.Delivered.{IsWritten, EachIsWritten, EpochsOrdered}
 
 -- ---- what each write is

@@ -1,8 +1,6 @@
 -- What each client has to write: the texts that are said wait in a queue, and each turn takes the
 -- first.
-use Rattle.std.specs.Prelude.{◌≡◌, ℕ, zero, suc, ◌<◌, ◌==◌, nat_lt, cond, List, [], ◌∷◌, filter}
-use Rattle.std.specs.Prelude.{length}
-use Rattle.std.specs.Prelude.{count_by}
+use Rattle.std.specs.Prelude.{◌≡◌, ℕ, zero, suc, ◌<◌, ◌==◌, nat_lt, cond, List, [], ◌∷◌, filter, length, count_by}
 use Rattle.std.specs.Option.{option_map, ForSome}
 use Rattle.std.specs.List.{range_with_len}
 use Rattle.tk_shape.specs.declared.shape.Shape.{Shape}

@@ -1,7 +1,6 @@
 -- What a run delivers, and the report of it.
 use Rattle.std.specs.Prelude.{ℕ, zero, suc, ◌+◌, ◌==◌, Bool, cond, List, [], ◌∷◌, ◌++◌, length, map}
-use Rattle.std.specs.Prelude.{filter, flat_map, codes, decimal, slice_index_or, Option}
-use Rattle.std.specs.Prelude.{option_and_then}
+use Rattle.std.specs.Prelude.{filter, flat_map, codes, decimal, slice_index_or, Option, option_and_then}
 use Rattle.std.specs.List.{range_with_len, list_any, join_with_byte}
 use Rattle.tk_shape.specs.declared.shape.Shape.{Shape}
 use Rattle.tk_schedule.specs.declared.history.History.{History}
@@ -18,8 +17,7 @@ use Rattle.tk_frames.specs.Order.{Record, before}
 use Rattle.tk_frames.specs.Slots.{text_in}
 use Rattle.tk_table.specs.Table.{retained}
 use Rattle.tk_table.specs.Shown.{is_shown}
-use Rattle.tk_client.specs.Reader.{got_in}
-use Rattle.tk_client.specs.Reader.{Reader, Follow, new_reader, at_epoch, target, after_read}
+use Rattle.tk_client.specs.Reader.{got_in, Reader, Follow, new_reader, at_epoch, target, after_read}
 use Rattle.tk_client.specs.declared.target.Target.{Target}
 use Rattle.tk_script.specs.Sent.{blank_role, unsent_count}
 use Rattle.tk_report.specs.Entries.{entries}

@@ -1,6 +1,5 @@
 -- A run whose servers begin anew from their own checkpoint, at its end.
-use Rattle.std.proofs.Common.{◌≡◌, refl, ap, subst, ◌∙◌, arith, inl, ℕ}
-use Rattle.std.proofs.Common.{List}
+use Rattle.std.proofs.Common.{◌≡◌, refl, ap, subst, ◌∙◌, arith, inl, ℕ, List}
 use Rattle.std.specs.Prelude.{Option}
 use Rattle.tk_io.specs.Tapped.{TapsGain, TapsGainFronts}
 use Rattle.tk_io.proofs.Offers.{taps-same}

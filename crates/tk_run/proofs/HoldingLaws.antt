@@ -1,7 +1,6 @@
 -- What servers hold that begin anew before a turn.
 use Rattle.std.proofs.Common.{◌≡◌, refl, ap, sym, subst, ◌∙◌, arith, inl, inr, ℕ, ◌+◌, ◌-◌, ◌<◌, ◌≤◌}
-use Rattle.std.proofs.Common.{List, [], ◌++◌, length, drop, Bool, cond}
-use Rattle.std.proofs.Common.{le-leb, append_assoc, append-nil}
+use Rattle.std.proofs.Common.{List, [], ◌++◌, length, drop, Bool, cond, le-leb, append_assoc, append-nil}
 use Rattle.std.proofs.lemmas.Bool.{cases_lt, lt-leb}
 use Rattle.std.proofs.lemmas.List.{drop_at}
 use Rattle.tk_schedule.specs.declared.history.History.{History}

@@ -12,8 +12,7 @@ use Rattle.tk_script.specs.declared.script.Script.{Script}
 use Rattle.tk_schedule.specs.declared.history.History.{History}
 use Rattle.tk_words.specs.Words.{WordBook, words_of}
 use Rattle.tk_report.specs.Turns.{placed_before}
-use Rattle.tk_run.specs.Keeping.{HasRefused, IsAccepted, OneRefuses, is_due, kept_up_to, saved_before}
-use Rattle.tk_run.specs.Keeping.{turn_due}
+use Rattle.tk_run.specs.Keeping.{HasRefused, IsAccepted, OneRefuses, is_due, kept_up_to, saved_before, turn_due}
 
 -- ---- the turn that is due
 

@@ -1,6 +1,5 @@
 -- A read over ranges: what is replied is what is told of the servers that make these sums.
-use Rattle.std.proofs.Common.{◌≡◌, refl, ap, ap₂, ◌∙◌, ℕ, ◌+◌, ◌<◌, true, false, cond}
-use Rattle.std.proofs.Common.{List, [], ◌∷◌, length, map}
+use Rattle.std.proofs.Common.{◌≡◌, refl, ap, ap₂, ◌∙◌, ℕ, ◌+◌, ◌<◌, true, false, cond, List, [], ◌∷◌, length, map}
 use Rattle.std.specs.Prelude.{nat_le}
 use Rattle.std.specs.List.{AllByRecursion}
 use Rattle.tk_shape.specs.declared.shape.Shape.{Shape}
@@ -22,12 +21,11 @@ use Rattle.tk_client.specs.Asked.{frame_with}
 use Rattle.tk_report.specs.Report.{read_over}
 use Rattle.tk_report.specs.Serving.{Serving, read_under}
 use Rattle.tk_report.specs.Turns.{placed_before}
-use Rattle.tk_report.proofs.Offers.{AreMade, all-sound, blocks-whole}
+use Rattle.tk_report.proofs.Offers.{AreMade, all-sound, blocks-whole, each-made}
 use Rattle.tk_run.specs.Ranged.{Summing, MakesBlocks, in_ranges}
 use Rattle.tk_run.specs.Ranging.{even_ranges, sum_for, over_ranges, reply_by, made_due, bytes_made}
 use Rattle.tk_run.specs.Under.{reply_under, replies_from}
 use Rattle.tk_run.proofs.AnswerLaws.{sum-long}
-use Rattle.tk_report.proofs.Offers.{each-made}
 use Rattle.tk_run.proofs.UnderLaws.{each-of, reads-whole}
 
 -- ---- replies in range

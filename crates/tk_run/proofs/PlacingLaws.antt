@@ -9,8 +9,7 @@ use Rattle.tk_frames.specs.InOrder.{IsOrder}
 use Rattle.tk_frames.specs.Spelling.{placed_frame}
 use Rattle.tk_run.specs.declared.server.Server.{Server}
 use Rattle.tk_run.specs.declared.servers.Servers.{Servers}
-use Rattle.tk_run.specs.Servers.{IsServerAt, AreServers, AreReady, TookOn}
-use Rattle.tk_run.specs.Servers.{nothing_seen, taken_seen, with_more}
+use Rattle.tk_run.specs.Servers.{IsServerAt, AreServers, AreReady, TookOn, nothing_seen, taken_seen, with_more}
 
 -- servers of the same entries that saw the same
 pub servers-same : (shape : Shape) (Es Fs : ℕ → List Placed) (seen saw : ℕ → List ℕ)

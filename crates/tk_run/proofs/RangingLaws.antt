@@ -1,6 +1,5 @@
 -- Replies with sums over even ranges.
-use Rattle.std.proofs.Common.{◌≡◌, refl, ap, ap₂, sym, ◌∙◌, ℕ, ◌<◌, ◌≤◌, Bool, cond, List, [], ◌∷◌, length, map}
-use Rattle.std.proofs.Common.{le-leb}
+use Rattle.std.proofs.Common.{◌≡◌, refl, ap, ap₂, sym, ◌∙◌, ℕ, ◌<◌, ◌≤◌, Bool, cond, List, [], ◌∷◌, length, map, le-leb}
 use Rattle.std.proofs.lemmas.Bool.{lt-leb}
 use Rattle.tk_shape.specs.declared.shape.Shape.{Shape}
 use Rattle.tk_shape.specs.Lengths.{width}

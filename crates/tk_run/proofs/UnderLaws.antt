@@ -42,8 +42,7 @@ use Rattle.tk_report.specs.Entries.{entries_before}
 use Rattle.tk_report.specs.Exchange.{with_reply, bytes_of}
 use Rattle.tk_report.specs.Groups.{IsSomeGroup}
 use Rattle.tk_report.specs.Queues.{said_before, writing_before}
-use Rattle.tk_report.specs.Serving.{Serving, reader_under, read_under}
-use Rattle.tk_report.specs.Serving.{read_replied, target_under}
+use Rattle.tk_report.specs.Serving.{Serving, reader_under, read_under, read_replied, target_under}
 use Rattle.tk_report.specs.declared.group.Group.{Group}
 use Rattle.tk_report.proofs.Offers.{flat_map-next, map-map, each-made, epoch-most}
 use Rattle.tk_report.proofs.Offers.{before-front, ordered-front, each-front}

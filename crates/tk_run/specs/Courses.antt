@@ -1,7 +1,6 @@
 -- A run of threads between two turns, and what its clients read in a turn.
 use Rattle.std.specs.Prelude.{◌≡◌, ℕ, ◌+◌, ◌*◌, ◌<◌, ◌≤◌, List, [], ◌∷◌, ◌++◌, None}
-use Rattle.std.specs.Prelude.{length, map, flat_map, slice_index_or}
-use Rattle.std.specs.Prelude.{Option, Result, OnOk, OnErr}
+use Rattle.std.specs.Prelude.{length, map, flat_map, slice_index_or, Option, Result, OnOk, OnErr}
 use Rattle.std.specs.Arc.{arc_value}
 use Rattle.std.specs.List.{range_with_len}
 use mathlib.Core.List.{IsPrefix}

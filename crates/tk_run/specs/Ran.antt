@@ -1,7 +1,6 @@
 -- What a turn of a cluster's clients and publisher does, and what is known after some turns.
-use Rattle.std.specs.Prelude.{◌≡◌, ℕ, ◌+◌, ◌-◌, ◌<◌, MatchBool}
+use Rattle.std.specs.Prelude.{◌≡◌, ℕ, ◌+◌, ◌-◌, ◌<◌, MatchBool, List, [], ◌∷◌, length, map, replicate}
 use Rattle.std.specs.Arc.{arc_value}
-use Rattle.std.specs.Prelude.{List, [], ◌∷◌, length, map, replicate}
 use Rattle.std.specs.Prelude.{slice_index, slice_index_or, slice_set}
 use mathlib.Core.List.{IsPrefix}
 use Rattle.tk_shape.specs.declared.shape.Shape.{Shape}
@@ -9,8 +8,7 @@ use Rattle.tk_frames.specs.declared.write_frame.WriteFrame.{WriteFrame}
 use Rattle.tk_schedule.specs.declared.item.Item.{Item}
 use Rattle.tk_schedule.specs.declared.item.Item.TheVariants.{Client, Publish}
 use Rattle.tk_schedule.specs.declared.history.TurnOrder.{TurnOrder}
-use Rattle.tk_schedule.specs.Schedule.{blank_turn, IsTurn, is_closing}
-use Rattle.tk_schedule.specs.Schedule.{phases_over, marks_due}
+use Rattle.tk_schedule.specs.Schedule.{blank_turn, IsTurn, is_closing, phases_over, marks_due}
 use Rattle.tk_report.specs.Entries.{entries_before}
 use Rattle.tk_run.specs.declared.pinned_write.PinnedWrite.{PinnedWrite}
 use Rattle.tk_cluster.specs.declared.set.EpochSet.{EpochSet}

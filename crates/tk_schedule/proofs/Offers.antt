@@ -1,9 +1,8 @@
 -- What the proofs of other crates may cite.
 
 -- the serial history is legal, and a legal turn has no client out of range
-pub use Rattle.tk_schedule.proofs.ScheduleLaws.{serial-IsLegal, turn_within}
+pub use Rattle.tk_schedule.proofs.ScheduleLaws.{serial-IsLegal, turn_within, no_marks}
 -- no mark stands among the items of clients
-pub use Rattle.tk_schedule.proofs.ScheduleLaws.{no_marks}
 -- no epoch is made in a turn that doesn't close, so that its epochs are all the newest before it
 pub use Rattle.tk_schedule.proofs.TurnLaws.{none_made, epochs_of_open}
 -- the lines of a legal history tell its turns

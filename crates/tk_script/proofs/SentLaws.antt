@@ -2,8 +2,7 @@
 -- in range, and may be sealed.
 use Rattle.std.proofs.Common.{◌≡◌, ◌∙◌, refl, ap, sym, subst, arith}
 use Rattle.std.proofs.Common.{ℕ, ◌+◌, ◌<◌, ◌≤◌, ◌==◌, max, Bool, true, false, cond, ◌&&◌}
-use Rattle.std.proofs.Common.{List, [], ◌∷◌, filter, find, Some, eqb-true, eq-eqb, ne_eqb}
-use Rattle.std.proofs.Common.{ltb-true}
+use Rattle.std.proofs.Common.{List, [], ◌∷◌, filter, find, Some, eqb-true, eq-eqb, ne_eqb, ltb-true}
 use Rattle.std.specs.List.{All}
 use Rattle.std.proofs.lemmas.Bool.{and_parts}
 use Rattle.std.proofs.lemmas.Option.{same_Some}

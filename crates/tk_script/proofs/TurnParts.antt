@@ -6,10 +6,9 @@ use Rattle.std.proofs.Common.{Option, Some, None, ne_eqb, eq-eqb}
 use Rattle.std.specs.Prelude.{◌==◌}
 use Rattle.std.specs.List.{onto_first}
 use Rattle.std.specs.Str.{bytes_eq}
-use Rattle.tk_script.specs.Reading.{parts_of, number_spelled, numbers_spelled}
+use Rattle.tk_script.specs.Reading.{parts_of, number_spelled, numbers_spelled, items_spelled, no_turn, turn_parts}
 use Rattle.tk_script.proofs.CauseLaws.{differ}
 use Rattle.tk_script.proofs.PartLaws.{number_spelled-decimal}
-use Rattle.tk_script.specs.Reading.{items_spelled, no_turn, turn_parts}
 use Rattle.tk_script.specs.Reading.{order_said, reads_said, turn_said, read_turn}
 use Rattle.tk_script.specs.TurnHead.{HasHead}
 

@@ -9,11 +9,9 @@ use Rattle.tk_script.specs.declared.input.Input.{Input}
 use Rattle.tk_script.specs.declared.input.RawTape.{RawTape}
 use Rattle.tk_schedule.specs.declared.raw.RawKind.{RawKind}
 use Rattle.tk_shape.specs.declared.shape.Shape.{Shape}
-use Rattle.tk_script.specs.Grammar.{lines_of, BeginsWithScript, BeginsWithTape, IsTurn, Spells}
-use Rattle.tk_script.specs.Grammar.{kept_of}
+use Rattle.tk_script.specs.Grammar.{lines_of, BeginsWithScript, BeginsWithTape, IsTurn, Spells, kept_of}
 use Rattle.tk_script.specs.Reading.{numbered}
-use Rattle.tk_script.specs.Printing.{lines_of_script, printed, printed_turns, printed_tape}
-use Rattle.tk_script.specs.Printing.{tape_behind, HasKeys}
+use Rattle.tk_script.specs.Printing.{lines_of_script, printed, printed_turns, printed_tape, tape_behind, HasKeys}
 
 -- a text that begins with a printed script begins with that script
 abbrev pub ReadsPrinted : Script → Type 0

@@ -2,8 +2,7 @@
 -- Within a line the causes are tried in the order of the definitions below.
 use Rattle.std.specs.Prelude.{◌≡◌, ℕ, zero, suc, ◌+◌, ◌-◌, ◌*◌, ◌/◌, nat_le, nat_lt, ◌==◌, ◌&&◌}
 use Rattle.std.specs.Prelude.{◌||◌, not, Bool, true, false, cond, List, [], ◌∷◌, ◌++◌, length, find}
-use Rattle.std.specs.Prelude.{take, drop, replicate, codes, decimal, flat_map, Option, Some, None}
-use Rattle.std.specs.Prelude.{Result, Ok, Err}
+use Rattle.std.specs.Prelude.{take, drop, replicate, codes, decimal, flat_map, Option, Some, None, Result, Ok, Err}
 use Rattle.std.specs.Int.{w64, from_be_bytes}
 use Rattle.std.specs.Option.{option_map}
 use Rattle.std.specs.List.{join_with_byte, slice_split}

@@ -1,6 +1,5 @@
 -- How a run ends, from how its next packet does.
-use Rattle.std.proofs.Common.{◌≡◌, ℕ, ◌+◌, ◌⊎◌, refl, sym, ◌∙◌, inl, inr}
-use Rattle.std.proofs.Common.{[], ◌∷◌, ◌++◌, Bool, false, IsTrue, ◌↔◌}
+use Rattle.std.proofs.Common.{◌≡◌, ℕ, ◌+◌, ◌⊎◌, refl, sym, ◌∙◌, inl, inr, [], ◌∷◌, ◌++◌, Bool, false, IsTrue, ◌↔◌}
 use Rattle.tk_shape.specs.declared.shape.Shape.{Shape}
 use Rattle.tk_packets.specs.Lines.{Gone}
 use Rattle.tk_packets.proofs.Offers.{takes-nothing}

@@ -1,12 +1,10 @@
 -- The entries of turns, write after write.
-use Rattle.std.proofs.Common.{◌≡◌, ℕ, zero, suc, ◌+◌, ◌*◌, ◌<◌, ◌≤◌, refl, ap, ap₂, sym, ◌∙◌, arith, true, false}
-use Rattle.std.proofs.Common.{cond}
+use Rattle.std.proofs.Common.{◌≡◌, ℕ, zero, suc, ◌+◌, ◌*◌, ◌<◌, ◌≤◌, refl, ap, ap₂, sym, ◌∙◌, arith, true, false, cond}
 use Rattle.std.proofs.Common.{List, [], ◌∷◌, ◌++◌, length, map, replicate, count_by, append-nil, length-append}
 use Rattle.std.proofs.Common.{zero-add, add-one}
 use Rattle.std.proofs.Math.Nat.{mul-suc, mul-zero, mul-le-mul_left}
 use Rattle.std.specs.List.{range_with_len}
-use Rattle.std.proofs.lemmas.List.FromFn.{map-range_with_len_more, get_or-map-range_with_len}
-use Rattle.std.proofs.lemmas.List.FromFn.{length-map-range_with_len}
+use Rattle.std.proofs.lemmas.List.FromFn.{map-range_with_len_more, get_or-map-range_with_len, length-map-range_with_len}
 use Rattle.tk_shape.specs.declared.shape.Shape.{Shape}
 use Rattle.tk_shape.specs.Lengths.{turn_count}
 use Rattle.tk_schedule.specs.declared.item.Item.{Item}
@@ -14,8 +12,7 @@ use Rattle.tk_schedule.specs.declared.item.Item.TheVariants.{Client, Publish}
 use Rattle.tk_schedule.specs.declared.history.History.{History}
 use Rattle.tk_schedule.specs.Schedule.{is_closing, marks_due, phases_over, order_at, serial_turn}
 use Rattle.tk_schedule.specs.Schedule.{serial_history, blank_turn}
-use Rattle.tk_schedule.proofs.Offers.{serial-IsLegal}
-use Rattle.tk_schedule.proofs.Offers.{no_marks}
+use Rattle.tk_schedule.proofs.Offers.{serial-IsLegal, no_marks}
 use Rattle.tk_frames.specs.declared.write_frame.WriteFrame.{WriteFrame}
 use Rattle.tk_frames.specs.declared.entry.Placed.{Placed}
 use Rattle.tk_frames.specs.declared.entry.Entry.TheVariants.{Write, Mark}

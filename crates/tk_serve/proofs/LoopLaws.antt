@@ -1,8 +1,7 @@
 -- Desks that are changed one after the other.
 use Rattle.std.proofs.Common.{◌≡◌, ℕ, zero, suc, ◌+◌, ◌<◌, ◌≤◌, refl, ap, sym, ◌∙◌, arith, subst, List, [], ◌∷◌, ◌++◌}
 use Rattle.std.proofs.Common.{length, map, take, drop, get_or, cond, ◌*◌, append_assoc}
-use Rattle.std.specs.Prelude.{slice_index_or}
-use Rattle.std.specs.Prelude.{All, nat_le}
+use Rattle.std.specs.Prelude.{slice_index_or, All, nat_le}
 use Rattle.std.proofs.lemmas.List.{drop-drop, drop_all, take_all, length-drop, length-take, get_or-take, map_more}
 use Rattle.std.proofs.lemmas.List.Elements.{All-get_or}
 use Rattle.tk_frames.specs.declared.read_frame.ReadFrame.{ReadFrame}

@@ -1,9 +1,8 @@
 -- The epochs that a server keeps, and what it tells of them.
 use Rattle.std.proofs.Common.{◌≡◌, ℕ, ◌+◌, ◌*◌, ◌/◌, ◌^◌, ◌<◌, ◌≤◌, ap, ap₂, sym, ◌∙◌, subst, arith, true}
-use Rattle.std.proofs.Common.{List, [], ◌∷◌, length, take, flat_map}
+use Rattle.std.proofs.Common.{List, [], ◌∷◌, length, take, flat_map, inl, inr}
 use Rattle.std.specs.Prelude.{slice_index_or, All}
 use Rattle.std.specs.List.{range_with_len}
-use Rattle.std.proofs.Common.{inl, inr}
 use Rattle.std.proofs.lemmas.Bool.{eqb-true, cases_lt}
 use Rattle.std.proofs.lemmas.List.Elements.{All-from_get_or}
 use Rattle.std.proofs.Math.Nat.{div-mul-le_self}

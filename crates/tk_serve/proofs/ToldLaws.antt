@@ -1,11 +1,9 @@
 -- What a client is told, when more is taken.
 use Rattle.std.proofs.Common.{◌≡◌, ℕ, ◌+◌, ◌/◌, ◌%◌, ◌<◌, ◌≤◌, refl, ap, ap₂, sym, ◌∙◌, arith, inl, inr, subst}
 use Rattle.std.proofs.Common.{List, [], ◌∷◌, ◌++◌, length, get_or, take, drop, flat_map, map, Bool, true, false, cond}
-use Rattle.std.proofs.Common.{append-nil}
-use Rattle.std.proofs.Common.{take-add, eq-eqb}
+use Rattle.std.proofs.Common.{append-nil, take-add, eq-eqb, ◌-◌, ◌⊎◌, append_assoc, length-append}
 use Rattle.std.specs.Prelude.{slice_index_or, nat_le, ◌&&◌}
 use Rattle.std.proofs.lemmas.Grind.{flat_map-append}
-use Rattle.std.proofs.Common.{◌-◌, ◌⊎◌, append_assoc, length-append}
 use Rattle.std.proofs.lemmas.Bool.{cases_lt, cases_eq, le-leb, eqb-true}
 use Rattle.std.proofs.lemmas.Bool.Decides.{leb_tells}
 use Rattle.std.proofs.lemmas.List.{take_all, take_more, take-append-le, get_or-take, get_or-drop, length-take}

@@ -1,7 +1,6 @@
 -- Whether a write of each client waits.
 use Rattle.std.proofs.Common.{◌≡◌, ℕ, zero, suc, ◌+◌, ◌-◌, ◌<◌, ◌≤◌, refl, ap, ap₂, ◌∙◌, arith, inl, inr, true, false}
-use Rattle.std.proofs.Common.{Bool}
-use Rattle.std.proofs.Common.{List, [], ◌∷◌, length, map, get_or}
+use Rattle.std.proofs.Common.{Bool, List, [], ◌∷◌, length, map, get_or}
 use Rattle.std.specs.Prelude.{slice_index_or, nat_lt, ◌&&◌}
 use Rattle.std.specs.List.{list_all}
 use Rattle.std.proofs.lemmas.Bool.{cases_lt, lt-ltb, ltb-true}

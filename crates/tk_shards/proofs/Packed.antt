@@ -10,8 +10,7 @@ use Rattle.std.proofs.lemmas.List.{replicate-append-replicate, set-append_left, 
 use Rattle.std.proofs.lemmas.List.Folds.{concat-append}
 use Rattle.tk_kernel.specs.Pieces.{all_pieces, AllSized}
 use Rattle.tk_kernel.proofs.Offers.{all_pieces-concat, concat-all_pieces, AllSized-all_pieces, length-concat}
-use Rattle.tk_kernel.proofs.Offers.{AllSized-set}
-use Rattle.tk_kernel.proofs.Offers.{drop-pieces, take-pieces, concat-pieces}
+use Rattle.tk_kernel.proofs.Offers.{AllSized-set, drop-pieces, take-pieces, concat-pieces}
 use Rattle.tk_answer.specs.Runs.{IsRun}
 use Rattle.tk_answer.proofs.Offers.{run_of_slice, AllSized-take, AllSized-drop}
 use Rattle.tk_shards.specs.Ranged.{Ranged, zero_blocks, lacking, padded, range_in, most_blocks}

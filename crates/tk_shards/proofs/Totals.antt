@@ -1,7 +1,6 @@
 -- The sums over all ranges, added, are those over the whole list.
 use Rattle.std.proofs.Common.{◌≡◌, ℕ, zero, suc, ◌+◌, ◌*◌, ◌<◌, ◌≤◌, List, [], ◌∷◌, ◌++◌, length, map}
-use Rattle.std.proofs.Common.{replicate, take, drop}
-use Rattle.std.proofs.Common.{refl, ap, ap₂, sym, ◌∙◌, subst, arith}
+use Rattle.std.proofs.Common.{replicate, take, drop, refl, ap, ap₂, sym, ◌∙◌, subst, arith}
 use Rattle.std.specs.Prelude.{slice_index_or, Vec, Ok, Err, IfOk}
 use Rattle.std.specs.Global.{Global}
 use Rattle.std.specs.List.{All}
@@ -10,8 +9,7 @@ use Rattle.std.proofs.lemmas.List.Elements.{All-head, All-tail, All-take, All-dr
 use Rattle.tk_kernel.specs.Xor.{xor_bytes, xor_all}
 use Rattle.tk_kernel.specs.Pieces.{AllSized}
 use Rattle.tk_kernel.specs.Chosen.{chosen_from, chosen_sum}
-use Rattle.tk_kernel.proofs.Offers.{xor_all-append, xor_bytes_assoc, xor_bytes-zeros, length-xor_all}
-use Rattle.tk_kernel.proofs.Offers.{length-xor_bytes}
+use Rattle.tk_kernel.proofs.Offers.{xor_all-append, xor_bytes_assoc, xor_bytes-zeros, length-xor_all, length-xor_bytes}
 use Rattle.tk_kernel.proofs.Offers.{AllSized-chosen_from, AllSized-append, chosen_from-append}
 use Rattle.tk_shards.specs.Ranged.{Ranged, part_of}
 use Rattle.tk_shards.specs.Parts.{Part, HasParts, sum_in, xor_rows, HasLengths, AreAlike, AddUp, IsTotal}

@@ -1,7 +1,6 @@
 -- The slots of a pair's two buckets give the text that the earliest retained record gives.
 use Rattle.std.proofs.Common.{◌≡◌, ℕ, ◌⊎◌, inl, inr, refl, ap, sym, ◌∙◌, subst, arith, List, []}
-use Rattle.std.proofs.Common.{◌++◌, length, true, false, cond, eqb-true, ◌<◌, ◌≤◌, ◌&&◌, map}
-use Rattle.std.proofs.Common.{filter}
+use Rattle.std.proofs.Common.{◌++◌, length, true, false, cond, eqb-true, ◌<◌, ◌≤◌, ◌&&◌, map, filter}
 use Rattle.std.specs.Prelude.{◌==◌, Option, Some, None, not, option_map}
 use Rattle.std.proofs.lemmas.List.Sorted.{IsPermutation-sym, Contains-permutation}
 use Rattle.std.proofs.lemmas.Bool.{and_parts, cases_lt, ne_eqb}
@@ -12,18 +11,14 @@ use Rattle.tk_frames.specs.Order.{Record}
 use Rattle.tk_table.specs.Table.{Slot, SlotTable, bucket_at, is_empty, retained, layout, slot_of}
 use Rattle.tk_table.specs.Ordered.{AscendFrom}
 use Rattle.tk_table.specs.Laws.{entries_in, IsSlotOf, IsLaidOut, AsWritten}
-use Rattle.tk_frames.specs.Lists.{first_some}
+use Rattle.tk_frames.specs.Lists.{first_some, IsIn, IsFrom}
 use Rattle.tk_frames.specs.Slots.{Accepted, accepted, earliest, text_among, text_in}
-use Rattle.tk_frames.specs.Lists.{IsIn}
 use Rattle.tk_frames.proofs.Offers.{in_from_contains, contains_from_in, all_in, in-append}
-use Rattle.tk_frames.specs.Lists.{IsFrom}
 use Rattle.tk_frames.proofs.Offers.{in_front, in_back, in_map, from_map, in_filter}
-use Rattle.tk_frames.proofs.Offers.{from_filter, in_filter_map, from_filter_map, in_flat_map}
-use Rattle.tk_frames.proofs.Offers.{from_flat_map, nothing_in}
+use Rattle.tk_frames.proofs.Offers.{from_filter, in_filter_map, from_filter_map, in_flat_map, from_flat_map, nothing_in}
 use Rattle.tk_table.proofs.Ascending.{ascend-above, retained-ascend}
 use Rattle.tk_table.proofs.LaidOut.{layout-laid_out}
-use Rattle.tk_table.proofs.Earliest.{IsLeast, earliest-least, IsFirst, first_some-none}
-use Rattle.tk_table.proofs.Earliest.{first_some-first}
+use Rattle.tk_table.proofs.Earliest.{IsLeast, earliest-least, IsFirst, first_some-none, first_some-first}
 use Rattle.tk_lists.proofs.Offers.{option_map-from}
 
 -- ---- what a record's slot gives

@@ -4,8 +4,7 @@ use Rattle.std.proofs.Common.{false, cond, ◌≤◌, filter, append_assoc, appe
 use Rattle.tk_shape.specs.declared.shape.Shape.{Shape}
 use Rattle.tk_frames.specs.Order.{Record}
 use Rattle.tk_table.specs.Ordered.{AscendFrom}
-use Rattle.tk_table.specs.Table.{window, has_position, unexpired, fit_together, retained_with}
-use Rattle.tk_table.specs.Table.{retained}
+use Rattle.tk_table.specs.Table.{window, has_position, unexpired, fit_together, retained_with, retained}
 use Rattle.tk_frames.specs.Lists.{IsIn}
 use Rattle.tk_table.proofs.OneMore.{retained-append, retained-none, by_one_more}
 

@@ -14,9 +14,8 @@ use Rattle.tk_table.specs.Ordered.{HasBuckets}
 use Rattle.tk_table.specs.Laws.{IsSlotOf, IsLaidOut, IsSpellable, IsStorable, block_at}
 use Rattle.tk_table.specs.Laws.{IsSpelling, BucketsReadBack, AsRead}
 use Rattle.tk_frames.specs.Slots.{text_among, slots_in}
-use Rattle.tk_frames.proofs.Offers.{each-both}
+use Rattle.tk_frames.proofs.Offers.{each-both, in_from_contains, each-in}
 use Rattle.tk_frames.specs.Lists.{IsIn}
-use Rattle.tk_frames.proofs.Offers.{in_from_contains, each-in}
 use Rattle.tk_table.proofs.RetainedEach.{retained-each}
 use Rattle.tk_table.proofs.LaidOut.{layout-laid_out}
 use Rattle.tk_table.proofs.AsWritten.{entry-record, layout-as_written}

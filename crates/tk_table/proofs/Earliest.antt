@@ -6,9 +6,8 @@ use Rattle.std.proofs.lemmas.Bool.{cases_lt, lt-leb}
 use Rattle.std.specs.Option.{option_or}
 use Rattle.tk_frames.specs.Order.{Record}
 use Rattle.tk_table.specs.Ordered.{AscendFrom}
-use Rattle.tk_frames.specs.Lists.{first_some}
+use Rattle.tk_frames.specs.Lists.{first_some, IsIn}
 use Rattle.tk_frames.specs.Slots.{Accepted, earlier_of, earliest}
-use Rattle.tk_frames.specs.Lists.{IsIn}
 use Rattle.tk_table.proofs.Ascending.{ascend-above}
 
 -- no other comes earlier or at the same position

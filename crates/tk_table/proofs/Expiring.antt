@@ -5,8 +5,7 @@ use Rattle.std.proofs.Common.{◌∙◌, subst, arith, List, [], ◌∷◌, ◌+
 use Rattle.std.proofs.Common.{false, cond, eqb-true, ◌||◌}
 use Rattle.std.specs.Prelude.{◌==◌}
 use Rattle.std.proofs.lemmas.Bool.{or_left, ne_eqb}
-use Rattle.std.proofs.lemmas.List.{same_lists, get_or_default}
-use Rattle.std.proofs.lemmas.List.{length-map, length-drop, drop-append-le, drop-drop}
+use Rattle.std.proofs.lemmas.List.{same_lists, get_or_default, length-map, length-drop, drop-append-le, drop-drop}
 use Rattle.std.proofs.lemmas.List.Folds.{list_any-append}
 use Rattle.tk_shape.specs.declared.shape.Shape.{Shape}
 use Rattle.tk_frames.specs.Order.{Record}

@@ -1,6 +1,5 @@
 -- As many entries as a bucket has slots can all lie in the first bucket of their pairs.
-use Rattle.std.proofs.Common.{◌≡◌, refl, ap, arith, inl, ℕ, suc, ◌+◌, ◌≤◌, ◌==◌}
-use Rattle.std.proofs.Common.{List, [], ◌∷◌, ◌++◌, length, map, not}
+use Rattle.std.proofs.Common.{◌≡◌, refl, ap, arith, inl, ℕ, suc, ◌+◌, ◌≤◌, ◌==◌, List, [], ◌∷◌, ◌++◌, length, map, not}
 use Rattle.std.proofs.lemmas.List.Sums.{count_by-le-length}
 use Rattle.tk_place.specs.Pairs.{AreOwn, HasPlacement, FitsByPlacements}
 use Rattle.tk_frames.specs.Order.{Record}

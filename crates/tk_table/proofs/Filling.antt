@@ -3,8 +3,7 @@ use Rattle.std.proofs.Common.{◌≡◌, ℕ, zero, suc, ◌+◌, ◌<◌, ◌�
 use Rattle.std.proofs.Common.{set, take, drop, replicate, refl, sym, ap, ◌∙◌, arith, append-nil}
 use Rattle.std.specs.Prelude.{Option, None}
 use Rattle.std.proofs.lemmas.List.{get_or-set_same, set-set, take_all, drop_all, length-append}
-use Rattle.std.proofs.lemmas.List.{length-drop, length-take-le, length-replicate}
-use Rattle.std.proofs.lemmas.List.{get_or-replicate}
+use Rattle.std.proofs.lemmas.List.{length-drop, length-take-le, length-replicate, get_or-replicate}
 use Rattle.tk_place.specs.Place.{Others, slots_of}
 use Rattle.tk_table.specs.Rows.{with_other}
 use Rattle.tk_table.specs.Table.{SlotTable, bucket_at, other_in, others_from}

@@ -5,8 +5,7 @@ use Rattle.std.proofs.Common.{List, [], ◌∷◌, length, true, false, cond, ma
 use Rattle.std.specs.Prelude.{◌==◌, None}
 use Rattle.std.specs.List.{All}
 use Rattle.std.proofs.lemmas.Bool.{cases_eq}
-use Rattle.std.proofs.lemmas.List.{get_or-set_same, get_or-set_other, length-set}
-use Rattle.std.proofs.lemmas.List.{length-map}
+use Rattle.std.proofs.lemmas.List.{get_or-set_same, get_or-set_other, length-set, length-map}
 use Rattle.std.proofs.lemmas.List.Elements.{All-weaker, All-map}
 use Rattle.tk_shape.specs.declared.shape.Shape.{Shape}
 use Rattle.tk_place.specs.Place.{Spot, search_end}
@@ -15,8 +14,7 @@ use Rattle.tk_place.specs.declared.search.Found.TheVariants.{Chain}
 use Rattle.tk_place.specs.Table.{IsTable}
 use Rattle.tk_bucket.specs.Table.{Contents}
 use Rattle.tk_table.specs.Table.{Slot, SlotTable, bucket_at, slot_at}
-use Rattle.tk_table.specs.Table.{empty_slot as empty_slot_of, others_from, shifted, placed_at}
-use Rattle.tk_table.specs.Table.{placed_in}
+use Rattle.tk_table.specs.Table.{empty_slot as empty_slot_of, others_from, shifted, placed_at, placed_in}
 use Rattle.tk_table.specs.Table.{moved_up, is_empty}
 use Rattle.tk_table.specs.Steps.{AreSteps, IsFree, first_of, moved_by, cleared, cleared_in}
 use Rattle.tk_table.specs.Stands.{slot_with, IsPair}

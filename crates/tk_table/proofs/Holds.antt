@@ -11,8 +11,7 @@ use Rattle.tk_shape.specs.declared.shape.Shape.{Shape}
 use Rattle.tk_frames.specs.Order.{Record}
 use Rattle.tk_table.specs.Table.{Slot, SlotTable, bucket_at, empty_slot, is_empty, has_position}
 use Rattle.tk_table.specs.Table.{empty_table, slot_of, without_expired}
-use Rattle.tk_table.proofs.Buckets.{IsSized, EachSlot, total, sized-map, each-map, total-map}
-use Rattle.tk_table.proofs.Buckets.{total-same}
+use Rattle.tk_table.proofs.Buckets.{IsSized, EachSlot, total, sized-map, each-map, total-map, total-same}
 use Rattle.tk_table.proofs.Seen.{IsHome}
 use Rattle.tk_table.proofs.PairWeights.{entry_weight, EntriesWeigh}
 

@@ -8,8 +8,7 @@ use Rattle.std.proofs.lemmas.List.{length-append, drop-append-le}
 use Rattle.std.proofs.lemmas.List.Folds.{list_all-append}
 use Rattle.tk_shape.specs.declared.shape.Shape.{Shape}
 use Rattle.tk_frames.specs.Order.{Record}
-use Rattle.tk_table.specs.Table.{window, has_position, unexpired, fit_together, retained_with}
-use Rattle.tk_table.specs.Table.{retained}
+use Rattle.tk_table.specs.Table.{window, has_position, unexpired, fit_together, retained_with, retained}
 use Rattle.tk_table.specs.Laws.{RetainedInWindow}
 use Rattle.tk_table.proofs.OneMore.{retained-append, retained-none, by_one_more}
 

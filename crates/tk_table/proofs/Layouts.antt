@@ -3,13 +3,11 @@ use Rattle.std.proofs.Common.{sym, subst, List, [], ◌∷◌, ◌++◌}
 use Rattle.std.proofs.lemmas.Bool.{not_from_false, not-true}
 use Rattle.tk_shape.specs.declared.shape.Shape.{Shape}
 use Rattle.tk_frames.specs.Order.{Record}
-use Rattle.tk_table.specs.Table.{window, unexpired, fit_together, retained, empty_table}
-use Rattle.tk_table.specs.Table.{layout_with, layout}
+use Rattle.tk_table.specs.Table.{window, unexpired, fit_together, retained, empty_table, layout_with, layout}
 use Rattle.tk_table.specs.Ordered.{HasBuckets, AreOrdered}
 use Rattle.tk_table.specs.Laws.{left_for, DisplacedWithoutEnd}
 use Rattle.tk_frames.proofs.Offers.{each-split}
-use Rattle.tk_table.proofs.OneMore.{retained-append, retained-none, layout-append, layout-none}
-use Rattle.tk_table.proofs.OneMore.{by_one_more}
+use Rattle.tk_table.proofs.OneMore.{retained-append, retained-none, layout-append, layout-none, by_one_more}
 use Rattle.tk_table.proofs.Ascending.{ascend-front, ascend-last}
 use Rattle.tk_table.proofs.Searching.{search-exact}
 use Rattle.tk_table.proofs.Holds.{Holds, expired-holds, empty_table-holds}

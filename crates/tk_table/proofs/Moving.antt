@@ -3,8 +3,7 @@ use Rattle.std.proofs.Common.{◌≡◌, ℕ, ◌+◌, ◌<◌, ap, sym, ◌∙�
 use Rattle.std.proofs.Common.{◌∷◌, length, drop, false, set, get_or}
 use Rattle.std.specs.Prelude.{◌==◌, slice_index_or}
 use Rattle.std.proofs.lemmas.Bool.{or_parts, eqb-false}
-use Rattle.std.proofs.lemmas.List.{set-set, get_or-set_same, drop_more}
-use Rattle.std.proofs.lemmas.List.{length-set}
+use Rattle.std.proofs.lemmas.List.{set-set, get_or-set_same, drop_more, length-set}
 use Rattle.tk_place.specs.Place.{Spot}
 use Rattle.tk_place.specs.Chain.{is_on}
 use Rattle.tk_place.specs.Views.{spot_of}

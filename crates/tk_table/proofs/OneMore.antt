@@ -1,6 +1,5 @@
 -- What is retained, and where it lies, when one more write comes.
-use Rattle.std.proofs.Common.{◌≡◌, refl, ap, sym, ◌∙◌, List, [], ◌∷◌, ◌++◌, append_assoc}
-use Rattle.std.proofs.Common.{append-nil}
+use Rattle.std.proofs.Common.{◌≡◌, refl, ap, sym, ◌∙◌, List, [], ◌∷◌, ◌++◌, append_assoc, append-nil}
 use Rattle.tk_shape.specs.declared.shape.Shape.{Shape}
 use Rattle.tk_frames.specs.Order.{Record}
 use Rattle.tk_table.specs.Table.{SlotTable, retained_with, retained_on, retained, empty_table}

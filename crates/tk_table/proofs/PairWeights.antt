@@ -8,8 +8,7 @@ use Rattle.std.proofs.lemmas.Bool.{eqb-false}
 use Rattle.std.proofs.lemmas.List.Elements.{All-head, All-tail}
 use Rattle.tk_shape.specs.declared.shape.Shape.{Shape}
 use Rattle.tk_frames.specs.Order.{Record}
-use Rattle.tk_table.specs.Table.{Slot, SlotTable, bucket_at, is_empty, other_in, others_from}
-use Rattle.tk_table.specs.Table.{slot_of}
+use Rattle.tk_table.specs.Table.{Slot, SlotTable, bucket_at, is_empty, other_in, others_from, slot_of}
 use Rattle.tk_table.proofs.Fitting.{IsBlind}
 use Rattle.tk_table.proofs.Buckets.{EachSlot, total}
 use Rattle.tk_table.proofs.Seen.{IsHome}

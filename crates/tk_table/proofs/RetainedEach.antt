@@ -3,8 +3,7 @@ use Rattle.std.proofs.Common.{sym, subst, List, [], ◌∷◌, ◌++◌, true, f
 use Rattle.std.specs.List.{AllByRecursion}
 use Rattle.tk_shape.specs.declared.shape.Shape.{Shape}
 use Rattle.tk_frames.specs.Order.{Record}
-use Rattle.tk_table.specs.Table.{window, has_position, unexpired, fit_together, retained_with}
-use Rattle.tk_table.specs.Table.{retained}
+use Rattle.tk_table.specs.Table.{window, has_position, unexpired, fit_together, retained_with, retained}
 use Rattle.tk_frames.proofs.Offers.{each-filter, each-push, each-split}
 use Rattle.tk_table.proofs.OneMore.{retained-append, retained-none, by_one_more}
 

@@ -1,18 +1,15 @@
 -- A run of slots that is cut into buckets, and what a search sees of a table when a slot is set.
 use Rattle.std.proofs.Common.{◌≡◌, ℕ, zero, suc, ◌+◌, ◌*◌, ◌<◌, ◌≤◌, inl, inr, refl, ap, sym}
-use Rattle.std.proofs.Common.{◌∙◌, arith, List, [], ◌∷◌, length, take, drop, set, map, replicate}
-use Rattle.std.proofs.Common.{subst, cond}
+use Rattle.std.proofs.Common.{◌∙◌, arith, List, [], ◌∷◌, length, take, drop, set, map, replicate, subst, cond}
 use Rattle.std.specs.Prelude.{Option, Some, None, ◌==◌, IsSome, slice_index_or}
 use Rattle.std.proofs.lemmas.Bool.{cases_eq, cases_lt, ne_eqb}
 use Rattle.std.proofs.lemmas.List.{map-set, drop-drop, drop-set-lt, drop-set-add, take-set-le}
 use Rattle.std.proofs.lemmas.List.{length-drop, take-replicate, drop-replicate, length-set}
-use Rattle.std.proofs.lemmas.List.{get_or-set_same, get_or-set_other, set_past, length-take-le}
-use Rattle.std.proofs.lemmas.List.{get_or_past, length-map}
+use Rattle.std.proofs.lemmas.List.{get_or-set_same, get_or-set_other, set_past, length-take-le, get_or_past, length-map}
 use Rattle.std.proofs.Math.Nat.{mul-le-mul_left}
 use Rattle.std.proofs.Math.Seq.{take-set-lt}
 use Rattle.tk_place.specs.Place.{Others, Spot, slots_of}
-use Rattle.tk_bucket.specs.Table.{Contents, IsSized, empty_slot, empty_table, slot_at}
-use Rattle.tk_bucket.specs.Table.{with_moved}
+use Rattle.tk_bucket.specs.Table.{Contents, IsSized, empty_slot, empty_table, slot_at, with_moved}
 use Rattle.tk_bucket.proofs.Offers.{bucket_ends}
 use Rattle.tk_table.specs.Stands.{slot_with}
 use Rattle.tk_table.proofs.Seen.{length-others, slots_seen}

@@ -1,14 +1,10 @@
 -- A search has no end exactly where no placement exists.
-use Rattle.std.proofs.Common.{◌≡◌, ◌↔◌, ℕ, ◌<◌, refl, sym, ◌∙◌, ap, length}
-use Rattle.std.proofs.Common.{true, false, true≢false}
+use Rattle.std.proofs.Common.{◌≡◌, ◌↔◌, ℕ, ◌<◌, refl, sym, ◌∙◌, ap, length, true, false, true≢false}
 use Rattle.std.specs.Prelude.{Option, Some, None, is_some}
 use Rattle.tk_place.specs.Place.{Others, Reached, lowest_empty, fit, search_end, reached}
 use Rattle.tk_place.specs.Pairs.{pairs_with}
 use Rattle.tk_place.specs.Table.{IsTable}
-use Rattle.tk_place.proofs.Offers.{nothing_fits}
-use Rattle.tk_place.proofs.Offers.{fit_by_placement}
-use Rattle.tk_place.proofs.Offers.{path_to_end}
-use Rattle.tk_place.proofs.Offers.{placed_along}
+use Rattle.tk_place.proofs.Offers.{nothing_fits, fit_by_placement, path_to_end, placed_along}
 use Rattle.tk_lists.proofs.Offers.{found-passes}
 
 -- where it ends, there is an empty slot

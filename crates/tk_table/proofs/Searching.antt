@@ -10,8 +10,7 @@ use Rattle.std.proofs.lemmas.List.Elements.{All-map, All-weaker}
 use Rattle.tk_shape.specs.declared.shape.Shape.{Shape}
 use Rattle.tk_frames.specs.Order.{Record}
 use Rattle.tk_place.specs.Place.{search_end, fit}
-use Rattle.tk_table.specs.Table.{Slot, SlotTable, bucket_at, is_empty, other_in, others_from}
-use Rattle.tk_table.specs.Table.{fit_together, pair_in}
+use Rattle.tk_table.specs.Table.{Slot, SlotTable, bucket_at, is_empty, other_in, others_from, fit_together, pair_in}
 use Rattle.tk_table.proofs.Fitting.{PairAlike, placeable-alike}
 use Rattle.tk_table.proofs.Buckets.{IsSized, EachSlot}
 use Rattle.tk_table.proofs.Seen.{IsHome, length-others, others-each}

@@ -9,8 +9,7 @@ use Rattle.std.proofs.lemmas.Bool.{cases_lt}
 use Rattle.std.proofs.lemmas.List.Quantifiers.{position-Some}
 use Rattle.tk_shape.specs.declared.shape.Shape.{Shape}
 use Rattle.tk_place.specs.Place.{Spot, slots_of, lowest_empty}
-use Rattle.tk_table.specs.Table.{Slot, SlotTable, bucket_at, slot_at, empty_slot, is_empty}
-use Rattle.tk_table.specs.Table.{other_in, others_from}
+use Rattle.tk_table.specs.Table.{Slot, SlotTable, bucket_at, slot_at, empty_slot, is_empty, other_in, others_from}
 use Rattle.tk_bucket.specs.Table.{empty_slot as empty_slot_of}
 use Rattle.tk_table.proofs.Buckets.{EachSlot, IsWithin}
 

@@ -10,8 +10,7 @@ use Rattle.tk_table.specs.Table.{other_in, others_from, shifted}
 use Rattle.tk_bucket.specs.Table.{empty_slot as empty_slot_of}
 use Rattle.tk_place.specs.Chain.{is_on, IsPath}
 use Rattle.tk_table.proofs.Buckets.{IsSized, EachSlot, total, IsWithin, other_bucket-with_slot}
-use Rattle.tk_table.proofs.Buckets.{sized-with_slot, within-with_slot, each-with_slot}
-use Rattle.tk_table.proofs.Buckets.{total-with_slot}
+use Rattle.tk_table.proofs.Buckets.{sized-with_slot, within-with_slot, each-with_slot, total-with_slot}
 use Rattle.tk_table.proofs.Seen.{IsEntryIn, IsHome, slots_seen, seen}
 
 -- an entry may move to its other bucket

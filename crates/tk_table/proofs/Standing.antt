@@ -1,26 +1,22 @@
 -- A table that stands for records, when a write comes.
 use Rattle.std.proofs.Common.{◌≡◌, ℕ, ◌+◌, ◌-◌, ◌<◌, ◌≤◌, ◌↔◌, inl, inr, refl, ap, sym}
-use Rattle.std.proofs.Common.{◌∙◌, subst, arith, List, [], ◌∷◌, ◌++◌, length, drop, map, true}
-use Rattle.std.proofs.Common.{false}
+use Rattle.std.proofs.Common.{◌∙◌, subst, arith, List, [], ◌∷◌, ◌++◌, length, drop, map, true, false}
 use Rattle.std.proofs.Common.{cond, lt-ltb, le-ltb}
 use Rattle.std.specs.Prelude.{nat_lt, None}
 use Rattle.std.specs.List.{All}
 use Rattle.std.proofs.lemmas.Bool.{cases_lt}
 use Rattle.std.proofs.lemmas.List.{length-map, length-drop, length-append, drop_all}
-use Rattle.std.proofs.lemmas.List.Elements.{All-head, All-tail, All-push, All-nil}
-use Rattle.std.proofs.lemmas.List.Elements.{All-weaker}
+use Rattle.std.proofs.lemmas.List.Elements.{All-head, All-tail, All-push, All-nil, All-weaker}
 use Rattle.tk_shape.specs.declared.shape.Shape.{Shape}
 use Rattle.tk_frames.specs.Order.{Record}
 use Rattle.tk_place.specs.Place.{search_end}
 use Rattle.tk_table.specs.Ordered.{AreOrdered}
 use Rattle.tk_table.specs.Table.{Slot, SlotTable, slot_of, pair_in, window, layout}
-use Rattle.tk_table.specs.Table.{layout_with, without_expired, others_from, placed_in, is_displaced}
-use Rattle.tk_table.specs.Table.{empty_table}
+use Rattle.tk_table.specs.Table.{layout_with, without_expired, others_from, placed_in, is_displaced, empty_table}
 use Rattle.tk_table.specs.Laws.{left_for}
 use Rattle.tk_table.specs.Stands.{Kept, position_of, TableStandsFor, IsWrite, slot_with, IsPair}
 use Rattle.tk_table.specs.Steps.{cleared_all}
-use Rattle.tk_table.specs.Inside.{IsKept, LatestWrites, EachHas, HasPair, IsKnown, with_room}
-use Rattle.tk_table.specs.Inside.{without_first}
+use Rattle.tk_table.specs.Inside.{IsKept, LatestWrites, EachHas, HasPair, IsKnown, with_room, without_first}
 use Rattle.tk_table.proofs.OneMore.{layout-append, layout-none}
 use Rattle.tk_table.proofs.LaidOut.{layout-laid_out}
 use Rattle.tk_table.proofs.Layouts.{displaced-without_end}

@@ -1,7 +1,6 @@
 -- The window when one more write comes.
 use Rattle.std.proofs.Common.{◌≡◌, ℕ, zero, suc, ◌+◌, ◌-◌, ◌<◌, ◌≤◌, inl, inr, refl, ap, sym, ◌∙◌}
-use Rattle.std.proofs.Common.{subst, arith, List, [], ◌∷◌, ◌++◌, length, drop, map}
-use Rattle.std.proofs.Common.{length-append, length-drop}
+use Rattle.std.proofs.Common.{subst, arith, List, [], ◌∷◌, ◌++◌, length, drop, map, length-append, length-drop}
 use Rattle.std.specs.List.{All}
 use Rattle.std.proofs.lemmas.List.{drop-append-le, drop-drop, drop-map, length-map, map-append}
 use Rattle.tk_shape.specs.declared.shape.Shape.{Shape}
@@ -9,9 +8,8 @@ use Rattle.tk_frames.specs.Order.{Record}
 use Rattle.tk_table.specs.Ordered.{AscendFrom, HasBuckets, AreOrdered}
 use Rattle.tk_table.specs.Table.{window}
 use Rattle.tk_table.specs.Stands.{position_of}
-use Rattle.tk_frames.proofs.Offers.{each-push}
+use Rattle.tk_frames.proofs.Offers.{each-push, all_in, in_map}
 use Rattle.tk_frames.specs.Lists.{IsIn}
-use Rattle.tk_frames.proofs.Offers.{all_in, in_map}
 
 pub window-push : {X : Type 0} (shape : Shape) (xs : List X) (x : X) →
     window shape (xs ++ x ∷ []) ≡ drop (length xs + 1 - shape.retained) xs ++ x ∷ []

@@ -1,6 +1,5 @@
 -- What moves along a chain of slots do to a table.
-use Rattle.std.specs.Prelude.{◌≡◌, ℕ, ◌<◌, false, true, List, [], ◌∷◌, slice_index_or, slice_set}
-use Rattle.std.specs.Prelude.{cond, map, ◌==◌}
+use Rattle.std.specs.Prelude.{◌≡◌, ℕ, ◌<◌, false, true, List, [], ◌∷◌, slice_index_or, slice_set, cond, map, ◌==◌}
 use Rattle.tk_place.specs.Place.{Spot}
 use Rattle.tk_place.specs.Chain.{is_on}
 use Rattle.tk_bucket.specs.Table.{Slot, SlotTable, bucket_at, slot_at, is_empty, empty_slot}

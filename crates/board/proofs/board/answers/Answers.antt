@@ -1,6 +1,5 @@
 -- One more server has replied to its own frame.
-use Rattle.std.proofs.Common.{◌∙◌, ◌<◌, ◌∷◌, [], ◌++◌, ℕ, List, ap, arith, length, map, sym}
-use Rattle.std.proofs.Common.{subst, take}
+use Rattle.std.proofs.Common.{◌∙◌, ◌<◌, ◌∷◌, [], ◌++◌, ℕ, List, ap, arith, length, map, sym, subst, take}
 use Rattle.std.proofs.lemmas.List.{take_all}
 use Rattle.tk_replica.specs.Replica.{StandsFor}
 use Rattle.tk_replica.specs.Replies.{reply_bytes}

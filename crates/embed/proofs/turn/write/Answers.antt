@@ -1,6 +1,5 @@
 -- The record of the client's write is the next entry.
-use Rattle.std.proofs.Common.{◌∙◌, ◌+◌, ◌*◌, ◌<◌, ◌++◌, ℕ, List, ap, arith}
-use Rattle.std.proofs.Common.{sym, subst}
+use Rattle.std.proofs.Common.{◌∙◌, ◌+◌, ◌*◌, ◌<◌, ◌++◌, ℕ, List, ap, arith, sym, subst}
 use Rattle.tk_shape.specs.declared.shape.Shape.{Shape}
 use Rattle.tk_words.specs.Words.{words_of}
 use Rattle.tk_frames.specs.declared.entry.Entry.TheVariants.{Write}

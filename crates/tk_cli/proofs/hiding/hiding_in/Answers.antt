@@ -5,8 +5,7 @@ use Rattle.tk_shape.specs.declared.differs.Differs.{Differs}
 use Rattle.tk_cli.specs.declared.request.Request.TheVariants as request
 use Rattle.tk_cli.specs.declared.status.Status.{Status}
 use Rattle.tk_cli.specs.Errors.{book_status, history_status}
-use Rattle.tk_cli.specs.Inputs.{Refuses, bad_history_line, difference, shapes_refusal}
-use Rattle.tk_cli.specs.Inputs.{history_refusal, server_refusal}
+use Rattle.tk_cli.specs.Inputs.{Refuses, bad_history_line, difference, shapes_refusal, history_refusal, server_refusal}
 use Rattle.tk_cli.proofs.ErrorLaws.{err_then}
 use Rattle.tk_cli.proofs.HidingLaws.{told-legal}
 use Rattle.tk_cli.proofs.LiftLaws.{kept-whole}

@@ -5,8 +5,7 @@ use Rattle.tk_cli.specs.Endings.{Ends}
 use Rattle.tk_cli.specs.Outside.{outside}
 use Rattle.tk_cli.proofs.EndingLaws.{usage-is, ends-as}
 use Rattle.tk_cli.proofs.WordLaws.{text-ends, view-reads, mirror-reads, wrong-reads, lift-reads}
-use Rattle.tk_cli.proofs.WordLaws.{plain-view, plain-mirror, plain-wrong, plain-lift}
-use Rattle.tk_cli.proofs.WordLaws.{text-written, usage-ends}
+use Rattle.tk_cli.proofs.WordLaws.{plain-view, plain-mirror, plain-wrong, plain-lift, text-written, usage-ends}
 use Rattle.tk_cli.proofs.WordLaws.{handle-reads_nothing, make-reads_nothing, tally-reads_nothing}
 use Rattle.tk_cli.proofs.RequestLaws.{crew-of}
 use Rattle.tk_cli.proofs.top.talek.Goals as goal

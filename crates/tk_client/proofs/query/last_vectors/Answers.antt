@@ -1,6 +1,5 @@
 -- Either half of what is written completes its half of what is drawn.
-use Rattle.std.proofs.Common.{◌≡◌, ◌∙◌, ap, ap₂, sym, List, ℕ, ◌++◌, ◌-◌, ◌*◌, take, drop, length, arith}
-use Rattle.std.proofs.Common.{length-append}
+use Rattle.std.proofs.Common.{◌≡◌, ◌∙◌, ap, ap₂, sym, List, ℕ, ◌++◌, ◌-◌, ◌*◌, take, drop, length, arith, length-append}
 use Rattle.std.proofs.lemmas.List.{take_at, drop_at}
 use Rattle.tk_shape.specs.Lengths.{vector_len}
 use Rattle.tk_kernel.specs.Pieces.{all_pieces}

@@ -1,6 +1,5 @@
 -- One log more of which nothing is tried.
-use Rattle.std.proofs.Common.{◌∙◌, ap, sym, ◌<◌, ◌≤◌, arith, add-one}
-use Rattle.std.proofs.Common.{List, length, get_or, set}
+use Rattle.std.proofs.Common.{◌∙◌, ap, sym, ◌<◌, ◌≤◌, arith, add-one, List, length, get_or, set}
 use Rattle.tk_client.specs.Reader.{Follow}
 use Rattle.tk_client.proofs.ReaderLaws.{renewed, renewed-next, renewed-all}
 use Rattle.tk_client.proofs.record.forget_tried.Goals as goal

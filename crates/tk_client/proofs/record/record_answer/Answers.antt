@@ -1,8 +1,7 @@
 -- A text settles its log, whether the logs were new before or after.
 use Rattle.std.proofs.Common.{◌∙◌, ap, sym, List, ℕ, Option}
 use Rattle.std.specs.Prelude.{slice_set}
-use Rattle.tk_client.specs.Reader.{follow_after}
-use Rattle.tk_client.specs.Reader.{follow_in}
+use Rattle.tk_client.specs.Reader.{follow_after, follow_in}
 use Rattle.tk_client.specs.Searching.{follows_anew}
 use Rattle.tk_client.proofs.ReaderLaws.{settled-anew}
 use Rattle.tk_client.proofs.record.record_answer.Goals as goal

@@ -1,6 +1,5 @@
 -- One reply further, or the first that can't be read.
-use Rattle.std.proofs.Common.{◌≡◌, ◌∙◌, ap, sym, subst, rules, add-one}
-use Rattle.std.proofs.Common.{ℕ, ◌+◌, List, length, take, drop, Err}
+use Rattle.std.proofs.Common.{◌≡◌, ◌∙◌, ap, sym, subst, rules, add-one, ℕ, ◌+◌, List, length, take, drop, Err}
 use Rattle.tk_client.specs.Replies.{unread, first_unread, IsRefusedForOrMemory, AreWholeReplies}
 use Rattle.tk_shape.specs.Lengths.{reply_len}
 use Rattle.tk_client.proofs.RepliesLaws.{first_unread-here, refused-first, none-first, whole-more}

@@ -1,8 +1,7 @@
 -- Where something is said on one more log, it stands after the others.
 use Rattle.tk_make.specs.Making.{is_said, made_say}
 use Rattle.tk_make.proofs.Ranges.{passes_next, passed_over}
-use Rattle.tk_make.proofs.says.push_tick.Goals.{then-is_said+in_ok-make_say+in_ok-push}
-use Rattle.tk_make.proofs.says.push_tick.Goals.{else-is_said}
+use Rattle.tk_make.proofs.says.push_tick.Goals.{then-is_said+in_ok-make_say+in_ok-push, else-is_said}
 use Rattle.tk_make.proofs.says.push_tick.Goals as goal
 
 pub loop-log-preserved : goal.loop-log-preserved

@@ -1,6 +1,5 @@
 -- A page that was made ahead has the right length, as each of those after it.
-use Rattle.std.proofs.Common.{◌≡◌, ℕ, List, length, ◌∷◌, ◌++◌, [], sym, ap, ◌∙◌, arith}
-use Rattle.std.proofs.Common.{length-append}
+use Rattle.std.proofs.Common.{◌≡◌, ℕ, List, length, ◌∷◌, ◌++◌, [], sym, ap, ◌∙◌, arith, length-append}
 use Rattle.std.proofs.lemmas.List.Elements.{All-same, All-head, All-rest, All-push}
 use Rattle.tk_pool.proofs.pool.make_spare.Goals as goal
 

@@ -1,6 +1,5 @@
 -- The one at the place is asked, and stays as it is.
-use Rattle.std.proofs.Common.{◌≡◌, ◌<◌, ◌∙◌, ◌++◌, ◌∷◌, [], ap, ap₂, sym, arith}
-use Rattle.std.proofs.Common.{ℕ, List, length, set, map, zero-add}
+use Rattle.std.proofs.Common.{◌≡◌, ◌<◌, ◌∙◌, ◌++◌, ◌∷◌, [], ap, ap₂, sym, arith, ℕ, List, length, set, map, zero-add}
 use Rattle.std.specs.Prelude.{slice_index_or}
 use Rattle.std.specs.List.{range_with_len}
 use Rattle.std.proofs.lemmas.List.{set-get_or}

@@ -1,6 +1,5 @@
 -- The words, the masked pad and the tag are the masked cell.
-use Rattle.std.proofs.Common.{◌≡◌, ◌∙◌}
-use Rattle.std.proofs.Common.{length, arith}
+use Rattle.std.proofs.Common.{◌≡◌, ◌∙◌, length, arith}
 use Rattle.std.proofs.lemmas.List.{with_items_is}
 use Rattle.tk_privacy.proofs.ExchangingLaws.{masked_parts}
 use Rattle.tk_privacy.proofs.exchange.push_masked.Goals as goal

@@ -11,8 +11,7 @@ use Rattle.tk_client.specs.Client.{target_over}
 use Rattle.tk_report.specs.Turns.{placed_before}
 use Rattle.tk_relay.specs.Relayed.{frames_read}
 use Rattle.tk_report.proofs.Offers.{epoch-most}
-use Rattle.tk_relay.proofs.AskedTurns.{wrote-shape, wrote-closed, client-asks, client-opens}
-use Rattle.tk_relay.proofs.AskedTurns.{reads-in_range}
+use Rattle.tk_relay.proofs.AskedTurns.{wrote-shape, wrote-closed, client-asks, client-opens, reads-in_range}
 use Rattle.tk_io.proofs.Offers.{always}
 use Rattle.tk_relay.proofs.asked_reads.ask.Goals as goal
 

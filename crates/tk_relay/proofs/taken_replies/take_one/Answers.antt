@@ -12,8 +12,7 @@ use Rattle.tk_relay.specs.Parts.{halves_of}
 use Rattle.tk_relay.specs.Replies.{replies_from}
 use Rattle.tk_relay.specs.Serving.{gathered_part}
 use Rattle.tk_relay.proofs.RelayedReads.{replied-counted}
-use Rattle.tk_relay.proofs.TakenTurns.{asked-shape, asked-open, made-counted, served-are, served-sized}
-use Rattle.tk_relay.proofs.TakenTurns.{client-takes}
+use Rattle.tk_relay.proofs.TakenTurns.{asked-shape, asked-open, made-counted, served-are, served-sized, client-takes}
 use Rattle.tk_relay.proofs.taken_replies.take_one.Goals as goal
 
 pub replies_to-requires-clause-one_shape : goal.replies_to-requires-clause-one_shape

@@ -1,6 +1,5 @@
 use Rattle.tk_report.proofs.MarkedLaws.{entries-agree, turn_entries-agree}
-use Rattle.tk_report.proofs.AgreementLaws.{marked-so_far, readers-agree, reads-agree, frames-agree}
-use Rattle.tk_report.proofs.AgreementLaws.{views-agree}
+use Rattle.tk_report.proofs.AgreementLaws.{marked-so_far, readers-agree, reads-agree, frames-agree, views-agree}
 use Rattle.tk_report.proofs.AgreementLaws.{alike-after_turn, alike-where_open, alike-where_old}
 use Rattle.tk_report.proofs.laws.agreement.Goals as goal
 

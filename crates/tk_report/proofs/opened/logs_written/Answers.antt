@@ -1,14 +1,12 @@
 -- A log that is written comes after the earlier ones, and another changes nothing.
-use Rattle.std.proofs.Common.{◌≡◌, ◌∙◌, sym, ap, List, ℕ, [], ◌∷◌, ◌++◌, Vec, Global, eq-eqb}
-use Rattle.std.proofs.Common.{ne_eqb}
+use Rattle.std.proofs.Common.{◌≡◌, ◌∙◌, sym, ap, List, ℕ, [], ◌∷◌, ◌++◌, Vec, Global, eq-eqb, ne_eqb}
 use Rattle.std.specs.Prelude.{◌==◌}
 use Rattle.std.proofs.lemmas.Option.{get_or_from_slice_get}
 use Rattle.tk_script.specs.declared.role.Role.{Role}
 use Rattle.tk_script.specs.Sent.{blank_role, writer_of}
 use Rattle.tk_report.proofs.ClientsLaws.{passes-next, fails-next}
 use Rattle.tk_report.proofs.opened.logs_written.Goals as goal
-use Rattle.tk_report.proofs.opened.logs_written.Goals.{then-role-client+in_ok-push}
-use Rattle.tk_report.proofs.opened.logs_written.Goals.{else-role-client}
+use Rattle.tk_report.proofs.opened.logs_written.Goals.{then-role-client+in_ok-push, else-role-client}
 
 pub loop-log-preserved : goal.loop-log-preserved
 loop-log-preserved c =

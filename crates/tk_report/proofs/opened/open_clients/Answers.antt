@@ -1,8 +1,7 @@
 -- One more client is open, and at the end all are.
 use Rattle.std.proofs.Common.{◌≡◌, ◌∙◌, ap, sym, subst, length, arith}
 use Rattle.tk_lists.proofs.Offers.{length-next}
-use Rattle.tk_report.proofs.ClientsLaws.{AreSoFar, opened, none-yet, one-next}
-use Rattle.tk_report.proofs.ClientsLaws.{open-all}
+use Rattle.tk_report.proofs.ClientsLaws.{AreSoFar, opened, none-yet, one-next, open-all}
 use Rattle.tk_report.proofs.opened.open_clients.Goals as goal
 
 pub loop-number-init : goal.loop-number-init

@@ -1,6 +1,5 @@
 -- What the lines tell is what the bytes show.
-use Rattle.std.proofs.Common.{◌≡◌, ◌∙◌, ap, sym, subst, List, ℕ, Bool, true, false, codes}
-use Rattle.std.proofs.Common.{Option, None, refl}
+use Rattle.std.proofs.Common.{◌≡◌, ◌∙◌, ap, sym, subst, List, ℕ, Bool, true, false, codes, Option, None, refl}
 use Rattle.std.specs.Prelude.{not}
 use Rattle.std.specs.Str.{bytes_eq}
 use Rattle.std.proofs.lemmas.Bool.{true≢false}
@@ -11,8 +10,7 @@ use Rattle.tk_schedule.specs.Told.{Tells, Names}
 use Rattle.tk_script.specs.Grammar.{lines_of}
 use Rattle.tk_report.specs.ReportLines.{bad_report_line}
 use Rattle.std.proofs.lemmas.Result.{IfOk-weaker}
-use Rattle.tk_report.proofs.RawLaws.{bad-none, bad-first, bad-behind, shows-first, shows-some}
-use Rattle.tk_report.proofs.RawLaws.{shown-told}
+use Rattle.tk_report.proofs.RawLaws.{bad-none, bad-first, bad-behind, shows-first, shows-some, shown-told}
 use Rattle.tk_report.proofs.parse.parse_history.Goals as goal
 
 pub returns-in_default-clause-only : goal.returns-in_default-clause-only

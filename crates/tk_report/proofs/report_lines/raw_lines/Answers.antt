@@ -1,6 +1,5 @@
 -- One line more is told, and at one that stops, or after all, the end.
-use Rattle.std.proofs.Common.{◌≡◌, ◌∙◌, ◌+◌, ap, sym, subst, ◌∷◌, ◌++◌, [], List, ℕ, arith}
-use Rattle.std.proofs.Common.{append_assoc, IsTrue}
+use Rattle.std.proofs.Common.{◌≡◌, ◌∙◌, ◌+◌, ap, sym, subst, ◌∷◌, ◌++◌, [], List, ℕ, arith, append_assoc, IsTrue}
 use Rattle.tk_schedule.specs.declared.raw.RawLine.{RawLine}
 use Rattle.tk_schedule.specs.declared.raw.RawKind.{RawKind}
 use Rattle.tk_schedule.specs.declared.raw.RawKind.TheVariants.{End}

@@ -2,8 +2,7 @@
 use Rattle.std.proofs.Common.{ℕ, ◌∷◌, [], flat_map, codes}
 use Rattle.std.specs.List.{range_with_len}
 use Rattle.tk_report.specs.Leaving.{got_by, unsent_by}
-use Rattle.tk_report.specs.Report.{line, history_lines, log_lines, role_in, unsent_line}
-use Rattle.tk_report.specs.Report.{report_text}
+use Rattle.tk_report.specs.Report.{line, history_lines, log_lines, role_in, unsent_line, report_text}
 use Rattle.tk_report.proofs.ReportLaws.{five_parts}
 use Rattle.tk_report.proofs.report_text.push_told.Goals as goal
 

@@ -1,12 +1,10 @@
 -- The text comes too late for its writer, or is the next that it sends.
-use Rattle.std.proofs.Common.{◌≡◌, ◌∙◌, ◌<◌, ℕ, ap, sym, subst, refl, arith, List, [], ◌∷◌, ◌++◌}
-use Rattle.std.proofs.Common.{get_or, set, max}
+use Rattle.std.proofs.Common.{◌≡◌, ◌∙◌, ◌<◌, ℕ, ap, sym, subst, refl, arith, List, [], ◌∷◌, ◌++◌, get_or, set, max}
 use Rattle.std.specs.List.Sorted.{IsNonDecreasingBy}
 use Rattle.std.proofs.lemmas.List.{get_or_default}
 use Rattle.tk_shape.specs.Lengths.{turn_count}
 use Rattle.tk_script.specs.Sent.{Sending}
-use Rattle.tk_report.proofs.ListingLaws.{writer-of, due, sending, few_listed, listing-late}
-use Rattle.tk_report.proofs.ListingLaws.{own-ascends, listing-own}
+use Rattle.tk_report.proofs.ListingLaws.{writer-of, due, sending, few_listed, listing-late, own-ascends, listing-own}
 use Rattle.tk_report.proofs.sent_list.list_text.Goals as goal
 
 pub returns-then-free-turns : goal.returns-then-free-turns

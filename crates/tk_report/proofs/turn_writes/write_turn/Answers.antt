@@ -14,8 +14,7 @@ use Rattle.tk_report.specs.Turns.{placed_before, placed_in, entry_due}
 use Rattle.tk_report.proofs.ListTests.{list_all-at}
 use Rattle.tk_report.proofs.ComingLaws.{item-due}
 use Rattle.tk_report.proofs.PlacingLaws.{took-none, took-more, took-all}
-use Rattle.tk_report.proofs.WritingLaws.{after-none, after-next, after-all, after-item}
-use Rattle.tk_report.proofs.WritingLaws.{client-below}
+use Rattle.tk_report.proofs.WritingLaws.{after-none, after-next, after-all, after-item, client-below}
 use Rattle.tk_report.proofs.turn_writes.write_turn.Goals as goal
 
 pub items-init : goal.items-init

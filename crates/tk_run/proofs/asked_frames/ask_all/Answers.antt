@@ -1,6 +1,5 @@
 -- The client at the place asks, and its frames are dealt to the lists of the servers.
-use Rattle.std.proofs.Common.{◌≡◌, ◌∙◌, ◌+◌, ◌<◌, ◌≤◌, ℕ, refl, arith, ap, sym, subst, length}
-use Rattle.std.proofs.Common.{length-set}
+use Rattle.std.proofs.Common.{◌≡◌, ◌∙◌, ◌+◌, ◌<◌, ◌≤◌, ℕ, refl, arith, ap, sym, subst, length, length-set}
 use Rattle.std.proofs.lemmas.List.{with_items_is}
 use Rattle.tk_run.specs.Rows.{AreRows, no_frames}
 use Rattle.tk_run.specs.Under.{posed}

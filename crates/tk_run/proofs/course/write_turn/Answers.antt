@@ -8,11 +8,10 @@ use Rattle.tk_schedule.specs.declared.history.History.{History}
 use Rattle.tk_schedule.specs.declared.history.TurnOrder.{TurnOrder}
 use Rattle.tk_schedule.specs.Schedule.{phase_of}
 use Rattle.tk_report.specs.Entries.{placed_from}
-use Rattle.tk_report.specs.Clients.{client_told, client_knowing}
+use Rattle.tk_report.specs.Clients.{client_told, client_knowing, AreClients}
 use Rattle.tk_report.specs.Serving.{reader_under}
 use Rattle.tk_report.specs.declared.group.Group.{Group}
 use Rattle.tk_run.specs.declared.actors.Desk.{Desk}
-use Rattle.tk_report.specs.Clients.{AreClients}
 use Rattle.tk_run.specs.Acting.{Acted, AreFrames, frames_on, deeds_on}
 use Rattle.tk_run.specs.Ran.{turn_of}
 use Rattle.tk_run.specs.Ranging.{over_ranges}

@@ -1,6 +1,5 @@
 -- The server at the place answers, and its replies are dealt to the lists of the clients.
-use Rattle.std.proofs.Common.{◌≡◌, ◌∙◌, ◌+◌, ◌<◌, ◌≤◌, ℕ, refl, arith, ap, sym, subst}
-use Rattle.std.proofs.Common.{length, length-set}
+use Rattle.std.proofs.Common.{◌≡◌, ◌∙◌, ◌+◌, ◌<◌, ◌≤◌, ℕ, refl, arith, ap, sym, subst, length, length-set}
 use Rattle.std.proofs.lemmas.List.{with_items_is}
 use Rattle.tk_words.specs.Words.{words_of}
 use Rattle.tk_report.specs.Turns.{placed_before}

@@ -8,8 +8,7 @@ use Rattle.tk_checkpoint.specs.Saved.{saved}
 use Rattle.tk_report.specs.Turns.{placed_before}
 use Rattle.tk_report.proofs.Offers.{group-first}
 use Rattle.tk_run.specs.declared.resume_error.ResumeError.TheVariants as resume
-use Rattle.tk_run.specs.Keeping.{AreAccepted, AreGiven, IsAccepted, OneRefuses, is_due, saved_before}
-use Rattle.tk_run.specs.Keeping.{turn_due}
+use Rattle.tk_run.specs.Keeping.{AreAccepted, AreGiven, IsAccepted, OneRefuses, is_due, saved_before, turn_due}
 use Rattle.tk_run.specs.declared.servers.Servers.{Servers}
 use Rattle.tk_run.specs.Servers.{AreServers, alike, nothing_seen}
 use Rattle.tk_run.proofs.HoldingLaws.{run-due, run-first}

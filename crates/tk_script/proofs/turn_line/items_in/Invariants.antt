@@ -1,7 +1,6 @@
 -- The items so far stand in front of those that are left.
 use Rattle.std.proofs.Common.{◌≡◌, length}
-use Rattle.tk_script.specs.Reading.{parts_of}
-use Rattle.tk_script.specs.Reading.{items_spelled}
+use Rattle.tk_script.specs.Reading.{parts_of, items_spelled}
 use Rattle.tk_script.proofs.TurnParts.{in_front}
 use Rattle.tk_script.proofs.turn_line.items_in.Given as goal
 

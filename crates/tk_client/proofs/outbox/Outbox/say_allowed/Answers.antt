@@ -1,6 +1,5 @@
 -- A text that may be said waits after the others.
-use Rattle.std.proofs.Common.{◌≡◌, sym, ap, subst, ◌∙◌, map, List}
-use Rattle.std.proofs.Common.{arith}
+use Rattle.std.proofs.Common.{◌≡◌, sym, ap, subst, ◌∙◌, map, List, arith}
 use Rattle.std.specs.Prelude.{position, Some, None, set}
 use Rattle.tk_client.specs.declared.waiting.Waiting.{Waiting}
 use Rattle.tk_client.specs.declared.written.Written.{Written}

@@ -1,8 +1,7 @@
 -- The logs are as the answer has them, and the cursor stands after the place.
 use Rattle.std.proofs.Common.{◌≡◌, ◌∙◌, ap, ◌+◌, ◌%◌, arith, rules, List, length}
 use Rattle.std.specs.Prelude.{◌==◌, not, slice_set}
-use Rattle.tk_client.specs.Reader.{Follow, Reader, follow_after}
-use Rattle.tk_client.specs.Reader.{follow_in}
+use Rattle.tk_client.specs.Reader.{Follow, Reader, follow_after, follow_in}
 use Rattle.tk_client.specs.Searching.{follows_anew}
 use Rattle.tk_client.proofs.AskingLaws.{written_back}
 use Rattle.tk_client.proofs.ReaderLaws.{after-nothing, after-target}

@@ -1,6 +1,5 @@
 -- The first seat is the publisher's, and the others are the clients', by number.
-use Rattle.std.proofs.Common.{◌≡◌, ◌∷◌, [], Some, length, map, ap}
-use Rattle.std.proofs.Common.{sym, ◌∙◌, subst, arith}
+use Rattle.std.proofs.Common.{◌≡◌, ◌∷◌, [], Some, length, map, ap, sym, ◌∙◌, subst, arith}
 use Rattle.std.specs.Prelude.{slice_index_or}
 use Rattle.std.specs.Arc.{arc_value}
 use Rattle.std.specs.List.{range_with_len, remove}

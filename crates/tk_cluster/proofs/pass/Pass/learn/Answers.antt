@@ -4,8 +4,7 @@ use Rattle.std.specs.Arc.{arc_value}
 use Rattle.tk_board.specs.Boards.{IsLast}
 use Rattle.tk_cluster.specs.declared.set.EpochSet.{EpochSet}
 use Rattle.tk_cluster.specs.Passes.{Passing, ReadsOnly, Learns}
-use Rattle.tk_cluster.proofs.Passing.{passing, reading, reads_on, still, learns_old, learns_new}
-use Rattle.tk_cluster.proofs.Passing.{holds_told}
+use Rattle.tk_cluster.proofs.Passing.{passing, reading, reads_on, still, learns_old, learns_new, holds_told}
 use Rattle.tk_cluster.proofs.pass.Pass.learn.Goals as goal
 
 pub invariant_of-self-then-number : goal.invariant_of-self-then-number

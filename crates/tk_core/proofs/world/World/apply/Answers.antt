@@ -1,11 +1,9 @@
 -- The next entry is the one after those that the server has applied.
-use Rattle.std.proofs.Common.{◌∙◌, ◌-◌}
-use Rattle.std.proofs.Common.{ap, arith}
+use Rattle.std.proofs.Common.{◌∙◌, ◌-◌, ap, arith}
 use Rattle.tk_core.specs.declared.event.Event.TheVariants as events
 use Rattle.tk_core.specs.Machine.{world_step}
 use Rattle.tk_core.specs.World.{WorldView, world_with, machine_of}
-use Rattle.tk_core.proofs.Steps.{server-there, step-up_to_date, step-applied, may-apply}
-use Rattle.tk_core.proofs.Steps.{world-next}
+use Rattle.tk_core.proofs.Steps.{server-there, step-up_to_date, step-applied, may-apply, world-next}
 use Rattle.tk_core.proofs.world.World.apply.Goals as goal
 
 pub returns-then-applied-len-clause-step : goal.returns-then-applied-len-clause-step

@@ -1,6 +1,5 @@
 -- No replica has applied anything.
-use Rattle.std.proofs.Common.{◌≡◌, ◌∙◌, ◌+◌, ap, ap₂, arith, List, [], ◌∷◌, ℕ, length}
-use Rattle.std.proofs.Common.{length-append}
+use Rattle.std.proofs.Common.{◌≡◌, ◌∙◌, ◌+◌, ap, ap₂, arith, List, [], ◌∷◌, ℕ, length, length-append}
 use Rattle.tk_frames.specs.declared.entry.Placed.{Placed}
 use Rattle.tk_core.proofs.Worlds.{new-push, applied-opened}
 use Rattle.tk_core.proofs.world.World.open.Goals as goal

@@ -1,6 +1,5 @@
 -- Each event comes after those before it.
-use Rattle.std.proofs.Common.{◌≡◌, ◌∙◌, ap, ap₂, sym, subst, refl, List, [], ◌∷◌, ◌++◌}
-use Rattle.std.proofs.Common.{append_assoc}
+use Rattle.std.proofs.Common.{◌≡◌, ◌∙◌, ap, ap₂, sym, subst, refl, List, [], ◌∷◌, ◌++◌, append_assoc}
 use Rattle.tk_shape.specs.declared.shape.Shape.{Shape}
 use Rattle.tk_core.specs.declared.event.Event.{Event}
 use Rattle.tk_core.specs.declared.reply.Reply.{Reply}

@@ -1,6 +1,5 @@
 -- The cell stays where nothing is sent; else it becomes the cell of the number.
-use Rattle.std.proofs.Common.{◌∙◌, ◌+◌, ◌≤◌, ap, sym, subst, arith, ℕ, List}
-use Rattle.std.proofs.Common.{length, IsTrue}
+use Rattle.std.proofs.Common.{◌∙◌, ◌+◌, ◌≤◌, ap, sym, subst, arith, ℕ, List, length, IsTrue}
 use Rattle.std.specs.Option.{option_copied}
 use Rattle.tk_shape.specs.declared.shape.Shape.{Shape}
 use Rattle.tk_shape.specs.Lengths.{turn_count}

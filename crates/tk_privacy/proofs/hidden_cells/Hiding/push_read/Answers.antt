@@ -1,6 +1,5 @@
 -- The read frame of the client's turn lies at its place.
-use Rattle.std.proofs.Common.{◌≡◌, ◌∙◌, ◌<◌, ◌++◌, ap, ap₂, subst, arith, List, ℕ}
-use Rattle.std.proofs.Common.{length, get_or, OnOk}
+use Rattle.std.proofs.Common.{◌≡◌, ◌∙◌, ◌<◌, ◌++◌, ap, ap₂, subst, arith, List, ℕ, length, get_or, OnOk}
 use Rattle.std.proofs.lemmas.List.{get_or_default}
 use Rattle.tk_shape.specs.Lengths.{turn_count}
 use Rattle.tk_frames.specs.declared.read_frame.ReadFrame.{ReadFrame}

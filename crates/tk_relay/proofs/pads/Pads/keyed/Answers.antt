@@ -1,10 +1,8 @@
 -- One more server's pads come after those before them, and all of them are the pads of the seed.
 use Rattle.std.proofs.Common.{◌≡◌, ◌∙◌, ◌≤◌, length, take, drop, ap, arith}
 use Rattle.tk_handle.specs.Handle.{key_bytes}
-use Rattle.tk_relay.specs.Pads.{PadLists, pads_in, request_len, secret_of}
-use Rattle.tk_relay.specs.Pads.{both_pads, request_bytes, reply_bytes}
-use Rattle.tk_relay.proofs.PadLaws.{pads-are, made-next, length-keyed_bytes, keyed-in}
-use Rattle.tk_relay.proofs.PadLaws.{keyed-joined}
+use Rattle.tk_relay.specs.Pads.{PadLists, pads_in, request_len, secret_of, both_pads, request_bytes, reply_bytes}
+use Rattle.tk_relay.proofs.PadLaws.{pads-are, made-next, length-keyed_bytes, keyed-in, keyed-joined}
 use Rattle.tk_relay.proofs.pads.Pads.keyed.Goals as goal
 
 pub loop-server-preserved : goal.loop-server-preserved

@@ -1,6 +1,5 @@
 -- Each frame comes after those that were read.
-use Rattle.std.proofs.Common.{◌≡◌, ◌∙◌, ap, sym, subst, List, [], ◌∷◌, ◌++◌, ℕ, ◌+◌, take, Err}
-use Rattle.std.proofs.Common.{IfErr, rules}
+use Rattle.std.proofs.Common.{◌≡◌, ◌∙◌, ap, sym, subst, List, [], ◌∷◌, ◌++◌, ℕ, ◌+◌, take, Err, IfErr, rules}
 use Rattle.std.proofs.lemmas.List.{take_more}
 use Rattle.tk_frames.specs.declared.read_frame.ReadFrame.{ReadFrame}
 use Rattle.tk_replica.specs.Refusals.{serve_refusal, first_refusal, IsServeRefusal}

@@ -1,7 +1,6 @@
 -- A write is counted where the table displaces it, and a mark is passed over.
 use Rattle.std.proofs.Common.{◌+◌, arith}
-use Rattle.tk_report.proofs.CountedLaws.{count-room, counted-write, counted-mark}
-use Rattle.tk_report.proofs.CountedLaws.{placed-adds, displaced-adds}
+use Rattle.tk_report.proofs.CountedLaws.{count-room, counted-write, counted-mark, placed-adds, displaced-adds}
 use Rattle.tk_report.proofs.count.Count.take.Goals as goal
 
 pub overflow_add-self : goal.overflow_add-self

@@ -1,6 +1,5 @@
 -- What is next for a server its replica may take, and then it keeps no epoch before the last two.
-use Rattle.std.proofs.Common.{◌≡◌, ◌∙◌, ◌+◌, ◌-◌, ◌≤◌, ◌++◌, ◌∷◌, [], ℕ, List, ap, sym, subst, arith}
-use Rattle.std.proofs.Common.{length-append}
+use Rattle.std.proofs.Common.{◌≡◌, ◌∙◌, ◌+◌, ◌-◌, ◌≤◌, ◌++◌, ◌∷◌, [], ℕ, List, ap, sym, subst, arith, length-append}
 use Rattle.tk_frames.specs.Spelling.{placed_frame}
 use Rattle.tk_frames.specs.InOrder.{mark_count}
 use Rattle.tk_frames.proofs.Offers.{marks-push}

@@ -1,9 +1,8 @@
-use Rattle.std.proofs.Common.{◌≡◌, ◌-◌, ◌*◌, ◌/◌, ◌<◌, ◌≤◌, length, arith, rules, ◌∙◌}
+use Rattle.std.proofs.Common.{◌≡◌, ◌-◌, ◌*◌, ◌/◌, ◌<◌, ◌≤◌, length, arith, rules, ◌∙◌, take, drop}
 use Rattle.tk_kernel.specs.Pieces.{all_pieces}
 use Rattle.tk_kernel.proofs.Offers.{length-pieces}
 use Rattle.tk_answer.proofs.Offers.{run_of_slice}
 use Rattle.tk_answer.specs.Runs.{IsRun}
-use Rattle.std.proofs.Common.{take, drop}
 use Rattle.tk_sum_tests.proofs.answer_tests.PagedBlocks.run.Goals as goal
 
 pub returns : goal.returns
