@@ -4,7 +4,7 @@ pub mod Limits
 pub mod Requests
 pub mod Outside
 pub mod Handles
-pub mod PutsText
+pub mod Puts
 pub mod Texts
 pub mod Errors
 pub mod Inputs

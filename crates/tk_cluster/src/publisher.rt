@@ -125,7 +125,7 @@ impl<B: Naming> Publisher<B> {
         cluster.set(rt, &mut self.seat, self.ordered, self.marked)
     }
 
-    /// AreShown the set of the mark that stands in the order.
+    /// Shows the set of the mark that stands in the order.
     fn show<R: Wait + AllocGlobal>(
         &mut self,
         rt: &R,

@@ -32,7 +32,7 @@ pub fn wrong_logs(
         let book = ⟦<DrawnDraws as Draws>⟧.book draws.now in
         let F = sums_at replies.now in
         IfOk result (λ clients.
-        told.AreClientsAtEnd S book history.now hidden F clients.items) }
+        told.AreWrongedClients S book history.now hidden F clients.items) }
 {
     let plan = Plan {
         script,

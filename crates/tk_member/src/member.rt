@@ -292,7 +292,7 @@ impl Member {
         ensures told { let words = words_of self.old.client.shape (D.book draws.now) in
             IfOk result (λ told. told.items ≡ steps.told_after words replies.now self.old) }
         ensures may { OnOk result (refusal_in replies.now self.old.client ≡ None) }
-        ensures refused { IfErr result (steps.IsRefused (refusal_in replies.now self.old.client)) }
+        ensures refused { IfErr result (steps.EndsRefused (refusal_in replies.now self.old.client)) }
         ensures same { self.new.client.shape ≡ self.old.client.shape }
     {
         let known = known_numbers(alloc, &self.client)?;

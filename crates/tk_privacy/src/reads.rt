@@ -48,7 +48,7 @@ pub(crate) fn all_reads<D: Draws>(
 /// A history before its first turn.
 fn open_fold(alloc: Global, script: &Script) -> Result<Followed, Memory>
     ensures { (b : WordBook) (H : History) (j : ℕ)
-        → IfOk result (reads.IsFoldBefore script.now b H j 0) }
+        → IfOk result (reads.IsFollowedBefore script.now b H j 0) }
 {
     Ok(Followed {
         group: Group::open(alloc, script)?,
@@ -69,9 +69,9 @@ fn take_turn<D: Draws>(
     requires turn_in { spot.turn < turn_count plan.now.script.now.shape }
     requires low { 1 ≤ spot.server }
     requires high { spot.server ≤ plan.now.script.now.shape.servers }
-    requires fold { reads.IsFoldBefore plan.now.script.now (D.book plan.now.draws.now)
+    requires fold { reads.IsFollowedBefore plan.now.script.now (D.book plan.now.draws.now)
         plan.now.history.now spot.server spot.turn fold.old }
-    ensures { OnOk result (reads.IsFoldBefore plan.now.script.now (D.book plan.now.draws.now)
+    ensures { OnOk result (reads.IsFollowedBefore plan.now.script.now (D.book plan.now.draws.now)
         plan.now.history.now spot.server (spot.turn + 1) fold.new) }
 {
     fold.group.write(alloc, plan, spot.turn, &mut fold.ledger)?;

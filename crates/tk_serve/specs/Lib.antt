@@ -6,7 +6,7 @@ pub mod Steps
 pub mod Answering
 pub mod Setup
 pub mod Desks
-pub mod HasApplied
+pub mod Stands
 pub mod Releasing
 pub mod Courses
 pub mod Faults

@@ -63,7 +63,7 @@ pub fn serve<L: Line>(alloc: Global, line: &mut L) -> Result<(), Fault>
     serve_clients(alloc, &mut server, line)
 }
 
-/// StandsForSome clients.
+/// Serves clients.
 fn serve_clients<L: Line>(alloc: Global, server: &mut Server, line: &mut L) -> Result<(), Fault>
     requires { HasApplied server.old.shape (empty_seats server.old.shape) server.old }
     ensures done { OnOk result (RanDone server.old.shape (L.left line.old) (L.left line.new)
