@@ -1,5 +1,5 @@
 -- What a member writes and asks, and when. What it has to say or to read decides nothing of when.
-use Rattle.std.specs.Prelude.{ℕ, zero, suc, ◌+◌, ◌-◌, ◌*◌, min, nat_le, nat_lt, Bool, ◌&&◌, cond}
+use Rattle.std.specs.Prelude.{◌≡◌, ℕ, zero, suc, ◌+◌, ◌-◌, ◌*◌, min, nat_le, nat_lt, Bool, ◌&&◌, cond}
 use Rattle.std.specs.Prelude.{List, [], ◌∷◌, ◌++◌, map, replicate}
 use Rattle.std.specs.Option.{is_none}
 use Rattle.tk_shape.specs.declared.shape.Shape.{Shape}
@@ -28,6 +28,10 @@ unmoved m = record { member = m; packets = [] }
 abbrev pub behind : List PacketView → ActedMember → ActedMember
 behind packets t = record { member = t.member; packets = packets ++ t.packets }
 
+-- it acted so behind these packets, and then stands as this member, with these packets in all
+abbrev pub HasActed : List PacketView → ActedMember → MemberState → List PacketView → Type 0
+HasActed front t m packets = behind front t ≡ record { member = m; packets = packets }
+
 -- and then it acts so
 abbrev pub followed_by : ActedMember → (MemberState → ActedMember) → ActedMember
 followed_by t act = behind t.packets (act t.member)
@@ -42,6 +46,10 @@ abbrev pub epoch_due : Shape → ℕ → ℕ
 epoch_due shape turn = phases_over shape turn
 
 -- ---- writes
+
+-- the words of a book for its shape
+abbrev pub words_for : WordBook → MemberState → BookWords
+words_for b m = words_of m.client.shape b
 
 -- its write of the next turn goes to every server
 abbrev pub write_packets : BookWords → MemberState → List PacketView

@@ -1,10 +1,11 @@
 -- What a member keeps of epochs: the marks that servers agree on, and how far each server told them.
 use Rattle.std.specs.Prelude.{◌≡◌, ℕ, ◌*◌, ◌<◌, ◌≤◌, nat_lt, All, cond, List, [], ◌∷◌}
-use Rattle.std.specs.Prelude.{◌++◌, length, map, take, replicate, slice_index, slice_index_or, Result, Ok, Err}
+use Rattle.std.specs.Prelude.{◌++◌, length, map, take, replicate, slice_index, slice_index_or}
+use Rattle.std.specs.Prelude.{Result, Ok, Err, MatchResult, ◌⊎◌}
 use Rattle.std.specs.Str.{bytes_eq}
 use Rattle.tk_shape.specs.declared.shape.Shape.{Shape}
 use Rattle.tk_member.specs.declared.fault.Fault.{Fault}
-use Rattle.tk_member.specs.declared.fault.Fault.TheVariants.{Differ}
+use Rattle.tk_member.specs.declared.fault.Fault.TheVariants.{Memory, Differ}
 use Rattle.tk_member.specs.Epochs.{Marks, ToldMarks, no_marks}
 
 pub record EpochsState : Type 0 where
@@ -41,3 +42,8 @@ kept_with all n marks =
     cond (nat_lt n (length all))
     (cond (bytes_eq (slice_index_or all n []) marks) (Ok all) (Err Differ))
     (Ok (all ++ marks ∷ []))
+
+-- what is kept is then as it is defined, or the call ends as it is defined, or because memory ran out
+abbrev pub KeepsAs : {X Y : Type 0} → Result X Fault → X → Result Y Fault → Type 0
+KeepsAs defined now result =
+    MatchResult result (λ _. defined ≡ Ok now) (λ e. (e ≡ Memory) ⊎ (defined ≡ Err e))

@@ -33,6 +33,10 @@ said b m log text None =
     let writing = with_text log text m.client.writing in
     tells_and_acts b [] (record m { client = record m.client { writing = writing } })
 
+-- a text is said on a log, or the host is told why it may not be said
+abbrev pub says : WordBook → MemberState → ℕ → List ℕ → Result ActedMember Fault
+says b m log text = said b m log text (fault_of m.client.shape m.client.writing.logs log text)
+
 -- no more ticks, nor turns ahead, are counted than there are turns
 abbrev pub counted_up : MemberState → ℕ → ℕ
 counted_up m n = min n (turn_count m.client.shape)
@@ -41,8 +45,7 @@ counted_up m n = min n (turn_count m.client.shape)
 -- it may not go on, since it would use words twice.
 abbrev pub heard : WordBook → MemberState → Option HostWord → Result ActedMember Fault
 heard b m None = Err Peer
-heard b m (Some (Say log text)) =
-    said b m log text (fault_of m.client.shape m.client.writing.logs log text)
+heard b m (Some (Say log text)) = says b m log text
 heard b m (Some Tick) = tells_and_acts b [] (record m { ticks = counted_up m (m.ticks + 1) })
 heard b m (Some (Ahead turns)) =
     tells_and_acts b [] (record m { ahead = counted_up m (m.ahead + turns) })
@@ -81,26 +84,33 @@ abbrev pub settled_by : WordBook → MemberState → Option (List (List ℕ)) �
 settled_by b m None = tells_and_acts b [] m
 settled_by b m (Some replies) = settled b m replies (refusal_in replies m.client)
 
+-- where all replies to it are there
+abbrev pub settled_if_all : WordBook → MemberState → Result ActedMember Fault
+settled_if_all b m = settled_by b m (all_of m.replies)
+
 abbrev pub with_reply : MemberState → ℕ → List ℕ → MemberState
 with_reply m j reply = record m { replies = slice_set m.replies (j - 1) (Some reply) }
 
 -- server j's reply to the read that is open, which it has not yet
 abbrev pub replied : WordBook → MemberState → ℕ → List ℕ → Result ActedMember Fault
 replied b m j reply =
-    let now = with_reply m j reply in
     cond (is_none m.client.read || is_some (slice_index_or m.replies (j - 1) None)) (Err Peer)
-    (settled_by b now (all_of now.replies))
+    (settled_if_all b (with_reply m j reply))
 
 abbrev pub told_epoch : WordBook → MemberState → Result (List ToldMarks) Fault → Result ActedMember Fault
 told_epoch b m (Err fault) = Err fault
 told_epoch b m (Ok told) = tells_and_acts b [] (record m { told = told })
+
+-- server j tells its next epoch
+abbrev pub takes_epoch : WordBook → MemberState → ℕ → List ℕ → Result ActedMember Fault
+takes_epoch b m j frame = told_epoch b m (with_epoch m.client.shape m.told j frame)
 
 -- a reply, an epoch, or that a frame was refused
 abbrev pub served : WordBook → MemberState → ℕ → List ℕ → Result ActedMember Fault
 served b m j frame =
     let kind = slice_index frame 0 in
     cond (kind == 3) (replied b m j frame)
-    (cond (kind == 0x0b) (told_epoch b m (with_epoch m.client.shape m.told j frame))
+    (cond (kind == 0x0b) (takes_epoch b m j frame)
     (cond (kind == 0x0c) (Err Refused) (Err Peer)))
 
 -- ---- any packet

@@ -1,6 +1,6 @@
-ghost use Rattle.std.specs.Prelude.{◌≡◌, ◌≤◌, ◌<◌, ◌+◌, ◌⊎◌, IfOk, MatchResult, OnErr, length, Ok, Err};
+ghost use Rattle.std.specs.Prelude.{◌≡◌, ◌≤◌, ◌<◌, ◌+◌, IfOk, OnErr, length};
 ghost use Rattle.tk_member.specs.Epochs.{known, least_of, filter_of, marks_at, with_epoch, is_epoch_frame};
-ghost use Rattle.tk_member.specs.Keeping.{kept_with, new_epochs};
+ghost use Rattle.tk_member.specs.Keeping.{kept_with, new_epochs, KeepsAs};
 
 use crate::fault::Fault;
 use crate::marks::filter_of;
@@ -76,8 +76,7 @@ impl Epochs {
         requires high { server ≤ self.old.shape.servers }
         ensures shape { self.new.shape ≡ self.old.shape }
         ensures taken { let said = with_epoch self.old.shape self.old.told server frame.now in
-            MatchResult result (λ _. said ≡ Ok self.new.told)
-            (λ e. (e ≡ Fault.Memory) ⊎ (said ≡ Err e)) }
+            KeepsAs said self.new.told result }
     {
         let place = server as usize - 1;
         let last = self.last[place];
@@ -112,9 +111,7 @@ fn is_epoch_frame(shape: &Shape, epoch: u32, frame: &[u8]) -> bool
 /// Keeps the marks of the epoch that is behind so many others, where they aren't there yet.
 fn keep(alloc: Global, all: &mut Vec<Bytes>, last: u32, marks: &[u8]) -> Result<(), Fault>
     requires { last ≤ length all.old.items }
-    ensures kept { let kept = kept_with all.old.items last marks.now in
-        MatchResult result (λ _. kept ≡ Ok all.new.items)
-        (λ e. (e ≡ Fault.Memory) ⊎ (kept ≡ Err e)) }
+    ensures kept { KeepsAs (kept_with all.old.items last marks.now) all.new.items result }
     ensures err { OnErr result (all.new.items ≡ all.old.items) }
 {
     let place = last as usize;

@@ -2,11 +2,10 @@ ghost use Rattle.std.specs.Prelude.{◌≡◌, ◌+◌, ◌<◌, ◌≤◌, ◌+
 ghost use Rattle.std.specs.Prelude.{None, Some};
 ghost use Rattle.tk_shape.specs.Lengths.{turn_count};
 ghost use Rattle.tk_words.specs.Words.{words_of};
-ghost use Rattle.tk_client.specs.Saying.{fault_of};
 ghost use Rattle.tk_client.specs.Client.{refusal_in};
-ghost use Rattle.tk_member.specs.Epochs.{with_epoch};
 ghost use Rattle.tk_member.specs.Members.{new_member, no_replies, is_over};
 ghost use Rattle.tk_member.specs.Acting as acting;
+ghost use Rattle.tk_member.specs.Acting.{HasActed, words_for};
 ghost use Rattle.tk_member.specs.Steps as steps;
 ghost use Rattle.tk_member.specs.Steps.{IsTurned, IsEnded};
 ghost use Rattle.tk_member.specs.Pacing.{IsFresh};
@@ -171,9 +170,8 @@ impl Member {
     ) -> Result<Vec<Packet>, Fault>
         requires { D.shape draws.now ≡ self.old.client.shape }
         ensures same { self.new.client.shape ≡ self.old.client.shape }
-        ensures sent { let b = D.book draws.now in
-            let error = fault_of self.old.client.shape self.old.client.writing.logs log text.now in
-            IfOk result (λ sent. IsTurned (steps.said b self.old log text.now error) self.new sent.items) }
+        ensures sent { let defined = steps.says (D.book draws.now) self.old log text.now in
+            IfOk result (λ sent. IsTurned defined self.new sent.items) }
         ensures ended { IfErr result (λ e. e ≡ Fault.Memory) }
     {
         let mut told = Vec::new(alloc);
@@ -222,11 +220,9 @@ impl Member {
         requires low { 1 ≤ server }
         requires high { server ≤ self.old.client.shape.servers }
         ensures same { self.new.client.shape ≡ self.old.client.shape }
-        ensures sent { let told = with_epoch self.old.client.shape self.old.told server frame.now in
-            IfOk result (λ sent.
-            IsTurned (steps.told_epoch (D.book draws.now) self.old told) self.new sent.items) }
-        ensures ended { let told = with_epoch self.old.client.shape self.old.told server frame.now in
-            IfErr result (IsEnded (steps.told_epoch (D.book draws.now) self.old told)) }
+        ensures sent { let defined = steps.takes_epoch (D.book draws.now) self.old server frame.now in
+            IfOk result (λ sent. IsTurned defined self.new sent.items) }
+        ensures ended { IfErr result (IsEnded (steps.takes_epoch (D.book draws.now) self.old server frame.now)) }
     {
         self.epochs.take(alloc, server, frame)?;
         let sent = self.act(alloc, draws, Vec::new(alloc))?;
@@ -262,11 +258,9 @@ impl Member {
         requires one_shape { D.shape draws.now ≡ self.old.client.shape }
         requires open { IsSome self.old.client.read }
         ensures same { self.new.client.shape ≡ self.old.client.shape }
-        ensures sent { let replies = steps.all_of self.old.replies in
-            IfOk result (λ sent.
-            IsTurned (steps.settled_by (D.book draws.now) self.old replies) self.new sent.items) }
-        ensures ended { let replies = steps.all_of self.old.replies in
-            IfErr result (IsEnded (steps.settled_by (D.book draws.now) self.old replies)) }
+        ensures sent { let defined = steps.settled_if_all (D.book draws.now) self.old in
+            IfOk result (λ sent. IsTurned defined self.new sent.items) }
+        ensures ended { IfErr result (IsEnded (steps.settled_if_all (D.book draws.now) self.old)) }
     {
         let Some(replies) = all_of(alloc, self.replies.as_slice())? else {
             let sent = self.act(alloc, draws, Vec::new(alloc))?;
@@ -315,8 +309,8 @@ impl Member {
         told: Vec<Packet>,
     ) -> Result<Vec<Packet>, Memory>
         requires { D.shape draws.now ≡ self.old.client.shape }
-        ensures acts { let turned = acting.behind told.items (acting.acts (D.book draws.now) self.old) in
-            IfOk result (λ sent. turned ≡ record { member = self.new; packets = sent.items }) }
+        ensures acts { let acts = acting.acts (D.book draws.now) self.old in
+            IfOk result (λ sent. HasActed told.items acts self.new sent.items) }
         ensures same { self.new.client.shape ≡ self.old.client.shape }
     {
         let mut sent = told;
@@ -336,9 +330,8 @@ impl Member {
         sent: &mut Vec<Packet>,
     ) -> Result<(), Memory>
         requires { D.shape draws.now ≡ self.old.client.shape }
-        ensures wrote { let words = words_of self.old.client.shape (D.book draws.now) in
-            OnOk result (acting.behind sent.old.items (acting.goes_ahead words self.old)
-            ≡ record { member = self.new; packets = sent.new.items }) }
+        ensures wrote { OnOk result (HasActed sent.old.items
+            (acting.goes_ahead (words_for (D.book draws.now) self.old) self.old) self.new sent.new.items) }
         ensures same { self.new.client.shape ≡ self.old.client.shape }
     {
         let turns = self.client.shape().turns();
@@ -355,9 +348,8 @@ impl Member {
         sent: &mut Vec<Packet>,
     ) -> Result<(), Memory>
         requires { D.shape draws.now ≡ self.old.client.shape }
-        ensures wrote { let words = words_of self.old.client.shape (D.book draws.now) in
-            OnOk result (acting.behind sent.old.items (acting.goes_by_ticks words self.old)
-            ≡ record { member = self.new; packets = sent.new.items }) }
+        ensures wrote { OnOk result (HasActed sent.old.items
+            (acting.goes_by_ticks (words_for (D.book draws.now) self.old) self.old) self.new sent.new.items) }
         ensures same { self.new.client.shape ≡ self.old.client.shape }
     {
         let shape = self.client.shape();
@@ -377,9 +369,8 @@ impl Member {
     ) -> Result<(), Memory>
         requires one_shape { D.shape draws.now ≡ self.old.client.shape }
         requires room { self.old.written + count ≤ turn_count self.old.client.shape }
-        ensures wrote { let words = words_of self.old.client.shape (D.book draws.now) in
-            OnOk result (acting.behind sent.old.items (acting.wrote words count self.old)
-            ≡ record { member = self.new; packets = sent.new.items }) }
+        ensures wrote { OnOk result (HasActed sent.old.items
+            (acting.wrote (words_for (D.book draws.now) self.old) count self.old) self.new sent.new.items) }
         ensures same { self.new.client.shape ≡ self.old.client.shape }
     {
         'turns: for turn in 0..count {
@@ -437,8 +428,8 @@ impl Member {
     ) -> Result<(), Memory>
         requires one_shape { D.shape draws.now ≡ self.old.client.shape }
         requires due { IsTrue (acting.may_ask self.old) }
-        ensures asked { OnOk result (acting.behind sent.old.items (acting.asks (D.book draws.now) self.old)
-            ≡ record { member = self.new; packets = sent.new.items }) }
+        ensures asked { OnOk result (HasActed sent.old.items
+            (acting.asks (D.book draws.now) self.old) self.new sent.new.items) }
         ensures same { self.new.client.shape ≡ self.old.client.shape }
     {
         let epoch = self.epoch_due();
