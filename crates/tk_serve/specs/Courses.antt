@@ -1,11 +1,14 @@
 -- What a server took and put, until it ended.
 use Rattle.std.specs.Prelude.{◌≡◌, ℕ, ◌+◌, ◌^◌, ◌≤◌, ◌<◌, ◌⊎◌, List, ◌++◌, length, take, Option, Some}
+use Rattle.std.specs.Prelude.{Result, Err, OnOk}
 use Rattle.std.specs.List.{AllByRecursion}
 pub use Rattle.tk_io.specs.Content.{Told}
 use Rattle.tk_io.specs.Content.{before_taking, emptied, gained}
 use Rattle.tk_shape.specs.declared.shape.Shape.{Shape}
 use Rattle.tk_packets.specs.Packets.{PacketView, packet_bytes, packets_bytes, EndsWithin, ComesLong, TakesAtMost}
 use Rattle.tk_packets.specs.Lines.{Passing, Gone, passed, taken, after_taking, exchanges}
+use Rattle.tk_serve.specs.declared.fault.Fault.{Fault}
+use Rattle.tk_serve.specs.declared.fault.Fault.TheVariants as fault
 use Rattle.tk_serve.specs.Seats.{Seat, empty_seats}
 use Rattle.tk_serve.specs.Steps.{IsOfClient, step_on, answers, seats_after, IsOver}
 use Rattle.tk_serve.specs.Setup.{setup, setup_len, longest_frame}
@@ -117,6 +120,16 @@ pub record RanFront (shape : Shape) (left rest : Told) (gone new : Gone) : Type 
   pub takes : TakesAtMost (8 + longest_frame shape) middle rest
   pub over : IsOver shape (seats_after shape (empty_seats shape) frames) → rest ≡ middle
 
+-- how it ended, by what it answers
+pub record HasRun {X : Type 0} (result : Result X Fault) (shape : Shape) (left rest : Told) (gone new : Gone)
+    : Type 0 where
+  pub done : OnOk result (RanDone shape left rest gone new)
+  pub setup : result ≡ Err fault.Setup → ⊥
+  pub cut : result ≡ Err fault.Cut → RanCut shape left rest gone new
+  pub long : result ≡ Err fault.Long → RanLong shape left rest gone new
+  pub peer : result ≡ Err fault.Peer → RanPeer shape left rest gone new
+  pub whole : result ≡ Err fault.Read → RanRead shape left rest gone new
+
 -- ---- from the first packet on
 
 -- the first packet set the server up, and what is left then
@@ -171,3 +184,22 @@ pub record CutFirst (left rest : Told) (gone new : Gone) : Type 0 where
 pub record LongFirst (left rest : Told) (gone new : Gone) : Type 0 where
   pub long : ComesLong setup_len left rest
   pub unchanged : IsStill gone new
+
+-- a run once the first packet set the server up
+abbrev pub RanBehind : (Shape → Told → Told → Gone → Gone → Type 0) → Told → Told → Gone → Gone → Type 0
+RanBehind Ran left rest gone new =
+    SetUpThen (λ shape middle. Ran shape middle rest (after_setup shape gone) new) left
+
+-- a front of what goes out was put
+abbrev pub ServedFront : Told → Told → Gone → Gone → Type 0
+ServedFront left rest gone new = StopsBehind (8 + setup_len) left rest gone new ⊎ RanBehind RanFront left rest gone new
+
+-- how a server ended, by what it answers
+pub record HasServed {X : Type 0} (result : Result X Fault) (left rest : Told) (gone new : Gone) : Type 0 where
+  pub done : OnOk result (NothingCame left rest gone new ⊎ RanBehind RanDone left rest gone new)
+  pub setup : result ≡ Err fault.Setup → IsNoSetup left rest gone new
+  pub cut : result ≡ Err fault.Cut → CutFirst left rest gone new ⊎ RanBehind RanCut left rest gone new
+  pub long : result ≡ Err fault.Long → LongFirst left rest gone new ⊎ RanBehind RanLong left rest gone new
+  pub peer : result ≡ Err fault.Peer → RanBehind RanPeer left rest gone new
+  pub whole : result ≡ Err fault.Read →
+      StopsWithin (8 + setup_len) left rest gone new ⊎ RanBehind RanRead left rest gone new

@@ -64,6 +64,12 @@ pub record TakesTurn (state : ReplicaView) (desks : List DeskView) : Type 0 wher
   pub write_of : ℕ → WriteFrame
   pub may : MayTakeTurn shape_of entries_of write_of state desks
 
+-- this holds of all writes that may be the turn that is taken
+abbrev pub ForWaiting : ReplicaView → List DeskView → (Shape → List Placed → (ℕ → WriteFrame) → Type 0) → Type 0
+ForWaiting state desks Holds =
+    (shape : Shape) (E : List Placed) (write : ℕ → WriteFrame) → MayTakeTurn shape E write state desks →
+    Holds shape E write
+
 -- the entries with the writes of the first i clients of a turn
 abbrev pub with_writes : List Placed → (ℕ → WriteFrame) → ℕ → List Placed
 with_writes E write i = E ++ placed_after write E (map Client (range_with_len 0 i))
@@ -83,3 +89,12 @@ turn_writes shape write g = with_writes (entries_before write (serial_history sh
 pub record HasWrites (shape : Shape) (g : ℕ) (state : ReplicaView) : Type 0 where
   pub write_of : ℕ → ℕ → WriteFrame
   pub stands : StandsFor shape (turn_writes shape write_of g) state
+
+-- this holds of all writes for which it has
+abbrev pub ForWritten : Shape → ℕ → ReplicaView → ((ℕ → ℕ → WriteFrame) → Type 0) → Type 0
+ForWritten shape g state Holds =
+    (write : ℕ → ℕ → WriteFrame) → StandsFor shape (turn_writes shape write g) state → Holds write
+
+-- the entries up to a turn's end
+abbrev pub turns_through : Shape → (ℕ → ℕ → WriteFrame) → ℕ → List Placed
+turns_through shape write g = entries_before write (serial_history shape) (g + 1)

@@ -25,6 +25,26 @@ pub record StandsAt (shape : Shape) (seats : List Seat) (g n : ℕ) (s : Server)
 abbrev pub HasApplied : Shape → List Seat → Server → Type 0
 HasApplied shape seats s = StandsAt shape seats (turns_written shape seats) (newest shape seats) s
 
+-- this holds of all seats that a server stands for
+abbrev pub ForSeats : Server → (Shape → List Seat → Type 0) → Type 0
+ForSeats s Holds = (shape : Shape) (seats : List Seat) → HasApplied shape seats s → Holds shape seats
+
+-- of all those of its own shape
+abbrev pub ForOwnSeats : Server → (List Seat → Type 0) → Type 0
+ForOwnSeats s Holds = (seats : List Seat) → HasApplied s.shape seats s → Holds seats
+
+-- of all those with a turn that all have written, and that it hasn't applied
+abbrev pub ForTurn : Server → (Shape → List Seat → ℕ → ℕ → Type 0) → Type 0
+ForTurn s Holds =
+    (shape : Shape) (seats : List Seat) (g n : ℕ) → StandsAt shape seats g n s →
+    g < turns_written shape seats → Holds shape seats g n
+
+-- and of all those with a new epoch, which it hasn't told
+abbrev pub ForEpoch : Server → (Shape → List Seat → ℕ → ℕ → Type 0) → Type 0
+ForEpoch s Holds =
+    (shape : Shape) (seats : List Seat) (g n : ℕ) → StandsAt shape seats g n s →
+    phases_over shape g ≡ n + 1 → Holds shape seats g n
+
 -- a server that stands for some seats
 pub record StandsForSome (s : Server) : Type 0 where
   pub shape_of : Shape

@@ -4,17 +4,27 @@ use Rattle.std.specs.Prelude.{Option, Some, None, slice_index}
 use Rattle.std.specs.List.{AllByRecursion, range_with_len}
 use Rattle.tk_shape.specs.declared.shape.Shape.{Shape}
 use Rattle.tk_shape.specs.Lengths.{turn_count}
+use Rattle.tk_frames.specs.declared.read_frame.ReadFrame.{ReadFrame}
 use Rattle.tk_frames.specs.Fields.{write_in, read_in}
 use Rattle.tk_packets.specs.Packets.{PacketView, packet}
 use Rattle.tk_packets.specs.Frames.{refused_frame}
 use Rattle.tk_serve.specs.declared.refusal.Refusal.{Refusal}
-use Rattle.tk_serve.specs.Seats.{Seat, with_write, with_read, turns_written}
+use Rattle.tk_serve.specs.Seats.{Seat, with_write, with_read, turns_written, placed, newest}
 use Rattle.tk_serve.specs.Refusals.{refusal_of, code_of}
-use Rattle.tk_serve.specs.Told.{told}
+use Rattle.tk_serve.specs.Told.{told, told_of, closing_told}
 
 -- client c is peer c + 1
 abbrev pub packets_to : ℕ → List (List ℕ) → List PacketView
 packets_to c frames = map (packet (c + 1)) frames
+
+-- what goes out for a read that is taken, and for the end of its phase alone
+abbrev pub read_packets : Shape → List Seat → ReadFrame → List PacketView
+read_packets shape seats r =
+    packets_to r.client (told_of shape (placed shape seats) (newest shape seats) r)
+
+abbrev pub closing_packets : Shape → List Seat → ReadFrame → List PacketView
+closing_packets shape seats r =
+    packets_to r.client (closing_told shape (placed shape seats) (newest shape seats) r.turn)
 
 -- what a client is told when more was taken
 unfoldable pub gain : Shape → List Seat → List Seat → ℕ → List (List ℕ)

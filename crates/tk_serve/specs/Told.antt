@@ -1,6 +1,7 @@
 -- What a server told a client so far. It only grows at its end, and doesn't depend on how the frames of different
 -- clients are mixed.
 use Rattle.std.specs.Prelude.{ℕ, ◌+◌, ◌*◌, nat_le, ◌&&◌, cond, List, [], ◌∷◌, ◌++◌, length, take, drop, map, flat_map}
+use Rattle.std.specs.List.{range_with_len}
 use Rattle.tk_shape.specs.declared.shape.Shape.{Shape}
 use Rattle.tk_schedule.specs.Schedule.{is_closing, phase_of}
 use Rattle.tk_frames.specs.declared.read_frame.ReadFrame.{ReadFrame}
@@ -13,7 +14,7 @@ use Rattle.tk_packets.specs.declared.epoch_frame.EpochFrame.{EpochFrame}
 use Rattle.tk_packets.specs.Frames.{epoch_frame, marks_len}
 use Rattle.tk_packets.specs.Marks.{mark_bytes}
 use Rattle.tk_packets.specs.Packets.{PacketView, packet}
-use Rattle.tk_serve.specs.Seats.{Seat, seat_of, placed, newest}
+use Rattle.tk_serve.specs.Seats.{Seat, seat_of, placed, placed_to, newest}
 
 -- an epoch, with the filter of the writes before its mark
 abbrev pub epoch_told : Shape → List Placed → ℕ → EpochFrame
@@ -59,3 +60,8 @@ told shape seats c =
 abbrev pub packets_brought : Shape → List Seat → List Placed → ℕ → ℕ → List PacketView
 packets_brought shape seats E n c =
     map (packet (c + 1)) (brought shape E n (seat_of seats c).reads)
+
+-- what epoch n brings to all clients, by number, where g turns are in the order
+abbrev pub all_brought : Shape → List Seat → ℕ → ℕ → List PacketView
+all_brought shape seats g n =
+    flat_map (packets_brought shape seats (placed_to shape seats g) n) (range_with_len 0 shape.clients)

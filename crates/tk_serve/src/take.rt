@@ -15,11 +15,10 @@ use tk_schedule::closes;
 use tk_shape::{Bytes, Memory};
 
 impl Server {
-    ghost use Rattle.std.specs.Prelude.{◌≡◌, ◌<◌, ◌++◌, List, length, OnOk};
-    ghost use Rattle.tk_shape.specs.declared.shape.Shape.{Shape};
-    ghost use Rattle.tk_serve.specs.Seats.{Seat, with_write, with_read};
+    ghost use Rattle.std.specs.Prelude.{◌≡◌, ◌<◌, ◌++◌, length, OnOk};
+    ghost use Rattle.tk_serve.specs.Seats.{with_write, with_read};
     ghost use Rattle.tk_serve.specs.Steps.{step, all_gained};
-    ghost use Rattle.tk_serve.specs.Stands.{HasApplied, StandsForSome, IsDueWrite, IsDueRead, due_at};
+    ghost use Rattle.tk_serve.specs.Stands.{HasApplied, ForSeats, StandsForSome, IsDueWrite, IsDueRead, due_at};
 
     /// Takes a frame of a client. The packets that go out are appended.
     pub(crate) fn take(
@@ -32,10 +31,10 @@ impl Server {
         requires serves { StandsForSome self.old }
         requires client { client < self.old.shape.clients }
         ensures shape { self.new.shape ≡ self.old.shape }
-        ensures stands { (shape : Shape) (seats : List Seat) → HasApplied shape seats self.old
-            → OnOk result (HasApplied shape (step shape seats client frame.now).seats self.new) }
-        ensures told { (shape : Shape) (seats : List Seat) → HasApplied shape seats self.old
-            → OnOk result (out.new.items ≡ out.old.items ++ (step shape seats client frame.now).packets) }
+        ensures stands { ForSeats self.old (λ shape seats.
+            OnOk result (HasApplied shape (step shape seats client frame.now).seats self.new)) }
+        ensures told { ForSeats self.old (λ shape seats.
+            OnOk result (out.new.items ≡ out.old.items ++ (step shape seats client frame.now).packets)) }
     {
         let due = self.due(client);
         match check(alloc, &self.shape, &due, frame)? {
@@ -69,11 +68,11 @@ impl Server {
         requires serves { StandsForSome self.old }
         requires due { IsDueWrite self.old write }
         ensures shape { self.new.shape ≡ self.old.shape }
-        ensures stands { (shape : Shape) (seats : List Seat) → HasApplied shape seats self.old
-            → OnOk result (HasApplied shape (with_write seats write.client write) self.new) }
-        ensures told { (shape : Shape) (seats : List Seat) → HasApplied shape seats self.old
-            → OnOk result (out.new.items
-            ≡ out.old.items ++ all_gained shape seats (with_write seats write.client write)) }
+        ensures stands { ForSeats self.old (λ shape seats.
+            OnOk result (HasApplied shape (with_write seats write.client write) self.new)) }
+        ensures told { ForSeats self.old (λ shape seats.
+            OnOk result (out.new.items
+            ≡ out.old.items ++ all_gained shape seats (with_write seats write.client write))) }
     {
         let client = write.client as usize;
         self.desks[client].put_write(write)?;
@@ -100,11 +99,11 @@ impl Server {
         requires serves { StandsForSome self.old }
         requires due { IsDueRead self.old read }
         ensures shape { self.new.shape ≡ self.old.shape }
-        ensures stands { (shape : Shape) (seats : List Seat) → HasApplied shape seats self.old
-            → OnOk result (HasApplied shape (with_read seats read.client read) self.new) }
-        ensures told { (shape : Shape) (seats : List Seat) → HasApplied shape seats self.old
-            → OnOk result (out.new.items
-            ≡ out.old.items ++ all_gained shape seats (with_read seats read.client read)) }
+        ensures stands { ForSeats self.old (λ shape seats.
+            OnOk result (HasApplied shape (with_read seats read.client read) self.new)) }
+        ensures told { ForSeats self.old (λ shape seats.
+            OnOk result (out.new.items
+            ≡ out.old.items ++ all_gained shape seats (with_read seats read.client read))) }
     {
         let client = read.client as usize;
         if read.epoch > self.state.last() {

@@ -16,26 +16,20 @@ use tk_schedule::closes;
 use tk_shape::{Bytes, Memory, Shape};
 
 impl Server {
-    ghost use Rattle.std.specs.Prelude.{◌≡◌, ◌+◌, ◌≤◌, ◌++◌, ℕ, List, flat_map, OnOk};
-    ghost use Rattle.std.specs.List.{range_with_len};
-    ghost use Rattle.tk_shape.specs.declared.shape.Shape.{Shape};
-    ghost use Rattle.tk_schedule.specs.Schedule.{phases_over};
-    ghost use Rattle.tk_serve.specs.Seats.{Seat, placed, placed_to, newest};
-    ghost use Rattle.tk_serve.specs.Told.{told_of, closing_told, packets_brought};
-    ghost use Rattle.tk_serve.specs.Steps.{packets_to};
-    ghost use Rattle.tk_serve.specs.Stands.{StandsAt, HasApplied, StandsForSome, MayTell, IsDueRead};
+    ghost use Rattle.std.specs.Prelude.{◌≡◌, ◌+◌, ◌≤◌, ◌++◌, OnOk};
+    ghost use Rattle.tk_serve.specs.Told.{all_brought};
+    ghost use Rattle.tk_serve.specs.Steps.{read_packets, closing_packets};
+    ghost use Rattle.tk_serve.specs.Stands.{StandsAt, ForEpoch, ForSeats, StandsForSome, MayTell, IsDueRead};
 
     /// Tells all clients what the newest epoch brings: those that have read the phase before it the epoch, and all the
     /// answers to the reads that waited for it.
     pub(crate) fn tell_all(&mut self, alloc: Global, out: &mut Vec<Packet>) -> Result<(), Memory>
         requires { MayTell self.old }
         ensures shape { self.new.shape ≡ self.old.shape }
-        ensures stands { (shape : Shape) (seats : List Seat) (g n : ℕ) → StandsAt shape seats g n self.old
-            → phases_over shape g ≡ n + 1 → OnOk result (StandsAt shape seats g (n + 1) self.new) }
-        ensures told { (shape : Shape) (seats : List Seat) (g n : ℕ) → StandsAt shape seats g n self.old
-            → phases_over shape g ≡ n + 1 → OnOk result (out.new.items
-            ≡ out.old.items ++ flat_map (packets_brought shape seats (placed_to shape seats g) (n + 1))
-            (range_with_len 0 shape.clients)) }
+        ensures stands { ForEpoch self.old (λ shape seats g n.
+            OnOk result (StandsAt shape seats g (n + 1) self.new)) }
+        ensures told { ForEpoch self.old (λ shape seats g n.
+            OnOk result (out.new.items ≡ out.old.items ++ all_brought shape seats g (n + 1))) }
     {
         let epoch = self.state.epoch(self.state.last());
         tell_desks(alloc, &self.shape, epoch, self.desks.as_mut_slice(), out)
@@ -51,10 +45,8 @@ impl Server {
         requires serves { StandsForSome self.now }
         requires due { IsDueRead self.now read.now }
         requires there { read.now.epoch ≤ self.now.state.last }
-        ensures { (shape : Shape) (seats : List Seat) → HasApplied shape seats self.now
-            → OnOk result (out.new.items ≡ out.old.items
-            ++ packets_to read.now.client
-            (told_of shape (placed shape seats) (newest shape seats) read.now)) }
+        ensures { ForSeats self.now (λ shape seats.
+            OnOk result (out.new.items ≡ out.old.items ++ read_packets shape seats read.now)) }
     {
         let peer = read.client + 1;
         let reply = self.state.epoch(read.epoch).reply(alloc, read)?;
@@ -72,9 +64,8 @@ impl Server {
     ) -> Result<(), Memory>
         requires serves { StandsForSome self.now }
         requires due { IsDueRead self.now read.now }
-        ensures { (shape : Shape) (seats : List Seat) → HasApplied shape seats self.now
-            → OnOk result (out.new.items ≡ out.old.items ++ packets_to read.now.client
-            (closing_told shape (placed shape seats) (newest shape seats) read.now.turn)) }
+        ensures { ForSeats self.now (λ shape seats.
+            OnOk result (out.new.items ≡ out.old.items ++ closing_packets shape seats read.now)) }
     {
         let phase = read.epoch + 1;
         if !closes(&self.shape, read.turn) {

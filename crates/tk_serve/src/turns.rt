@@ -1,14 +1,11 @@
 //! Turns that all clients have written.
-ghost use Rattle.std.specs.Prelude.{◌≡◌, ℕ, ◌+◌, ◌<◌, List, [], ◌∷◌, ◌++◌, length, map, OnOk};
+ghost use Rattle.std.specs.Prelude.{◌≡◌, ◌+◌, ◌<◌, List, [], ◌∷◌, ◌++◌, length, map, OnOk};
 ghost use Rattle.tk_shape.specs.declared.shape.Shape.{Shape};
-ghost use Rattle.tk_frames.specs.declared.write_frame.WriteFrame.{WriteFrame};
 ghost use Rattle.tk_frames.specs.declared.entry.Placed.{Placed};
 ghost use Rattle.tk_replica.specs.Replica.{StandsFor};
-ghost use Rattle.tk_serve.specs.Desks.{MayTakeTurn, TakesTurn, MayComeNext, HasWrites, with_writes, turn_writes};
-ghost use Rattle.tk_serve.specs.Desks.{desk_behind};
+ghost use Rattle.tk_serve.specs.Desks.{TakesTurn, MayComeNext, HasWrites, ForWaiting, ForWritten, with_writes};
+ghost use Rattle.tk_serve.specs.Desks.{desk_behind, turns_through};
 ghost use Rattle.tk_shape.specs.Lengths.{turn_count};
-ghost use Rattle.tk_schedule.specs.Schedule.{serial_history};
-ghost use Rattle.tk_report.specs.Entries.{entries_before};
 ghost use Rattle.tk_report.specs.Turns.{next_placed};
 
 use crate::desk::Desk;
@@ -20,11 +17,9 @@ use tk_schedule::closes;
 use tk_shape::{Memory, Shape};
 
 impl Server {
-    ghost use Rattle.std.specs.Prelude.{◌≡◌, ℕ, ◌+◌, ◌<◌, List, length, nat_lt, OnOk};
+    ghost use Rattle.std.specs.Prelude.{◌≡◌, ◌+◌, length, nat_lt, OnOk};
     ghost use Rattle.std.specs.List.{list_all};
-    ghost use Rattle.tk_shape.specs.declared.shape.Shape.{Shape};
-    ghost use Rattle.tk_serve.specs.Seats.{Seat, turns_written};
-    ghost use Rattle.tk_serve.specs.Stands.{StandsAt, MayApply};
+    ghost use Rattle.tk_serve.specs.Stands.{StandsAt, ForTurn, MayApply};
 
     /// Whether the writes of all clients are there for the turn that is due.
     pub(crate) fn is_complete(&self) -> bool
@@ -37,8 +32,8 @@ impl Server {
     pub(crate) fn apply_turn(&mut self, alloc: Global) -> Result<(), Memory>
         requires { MayApply self.old }
         ensures shape { self.new.shape ≡ self.old.shape }
-        ensures stands { (shape : Shape) (seats : List Seat) (g n : ℕ) → StandsAt shape seats g n self.old
-            → g < turns_written shape seats → OnOk result (StandsAt shape seats (g + 1) n self.new) }
+        ensures stands { ForTurn self.old (λ shape seats g n.
+            OnOk result (StandsAt shape seats (g + 1) n self.new)) }
     {
         apply_writes(alloc, &mut self.state, self.desks.as_mut_slice())?;
         apply_mark(alloc, &self.shape, self.turn, &mut self.state)?;
@@ -50,9 +45,8 @@ impl Server {
 /// Applies the first write that waits of each client.
 fn apply_writes(alloc: Global, state: &mut ReplicaState, desks: &mut [Desk]) -> Result<(), Memory>
     requires { TakesTurn state.old desks.old }
-    ensures stands { (shape : Shape) (E : List Placed) (write : ℕ → WriteFrame)
-        → MayTakeTurn shape E write state.old desks.old
-        → OnOk result (StandsFor shape (with_writes E write (length desks.old)) state.new) }
+    ensures stands { ForWaiting state.old desks.old (λ shape E write.
+        OnOk result (StandsFor shape (with_writes E write (length desks.old)) state.new)) }
     ensures desks { OnOk result (desks.new ≡ map desk_behind desks.old) }
     ensures floor { state.new.floor ≡ state.old.floor }
 {
@@ -74,9 +68,8 @@ fn apply_mark(
 ) -> Result<(), Memory>
     requires turn { turn < turn_count shape.now }
     requires written { HasWrites shape.now turn state.old }
-    ensures stands { (write : ℕ → ℕ → WriteFrame)
-        → StandsFor shape.now (turn_writes shape.now write turn) state.old
-        → OnOk result (StandsFor shape.now (entries_before write (serial_history shape.now) (turn + 1)) state.new) }
+    ensures stands { ForWritten shape.now turn state.old (λ write.
+        OnOk result (StandsFor shape.now (turns_through shape.now write turn) state.new)) }
     ensures floor { state.new.floor ≡ state.old.floor }
 {
     if !closes(shape, turn) {

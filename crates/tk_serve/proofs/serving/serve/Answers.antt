@@ -31,18 +31,22 @@ returns g c =
     SetUpThen (λ shape m. Ran shape m (after_setup shape gone)) left =
     set-up-then c.in-Some.shape first s left middle gone now c.in-Some.ensures.found comes took c.in_ok-server.ensures
     in
+    let ran = c.serve_clients.ensures.ran in
     record {
-      done =
-          on_ok_weaker c.serve_clients.result (λ ran. inr (then (λ shape m gn. RanDone shape m rest gn new) ran))
-          c.serve_clients.ensures.done;
-      setup = λ is. absurd (c.serve_clients.ensures.setup is);
-      cut = λ is. inr (then (λ shape m gn. RanCut shape m rest gn new) (c.serve_clients.ensures.cut is));
-      long = λ is. inr (then (λ shape m gn. RanLong shape m rest gn new) (c.serve_clients.ensures.long is));
-      peer = λ is. then (λ shape m gn. RanPeer shape m rest gn new) (c.serve_clients.ensures.peer is);
+      served =
+          record {
+            done =
+                on_ok_weaker c.serve_clients.result (λ is. inr (then (λ shape m gn. RanDone shape m rest gn new) is))
+                ran.done;
+            setup = λ is. absurd (ran.setup is);
+            cut = λ is. inr (then (λ shape m gn. RanCut shape m rest gn new) (ran.cut is));
+            long = λ is. inr (then (λ shape m gn. RanLong shape m rest gn new) (ran.long is));
+            peer = λ is. then (λ shape m gn. RanPeer shape m rest gn new) (ran.peer is);
+            whole = λ is. inr (then (λ shape m gn. RanRead shape m rest gn new) (ran.whole is));
+          };
       front =
-          on_err_weaker c.serve_clients.result (λ ran. inr (then (λ shape m gn. RanFront shape m rest gn new) ran))
+          on_err_weaker c.serve_clients.result (λ is. inr (then (λ shape m gn. RanFront shape m rest gn new) is))
           c.serve_clients.ensures.front;
-      whole = λ is. inr (then (λ shape m gn. RanRead shape m rest gn new) (c.serve_clients.ensures.whole is));
       read = λ is. rose-after _ _ _ c.take_packet.ensures.counts (c.serve_clients.ensures.read is);
       write = λ is.
           subst (λ (n : ℕ). Rose n (g.L.Line.write_faults c.serve_clients.new.line)) c.take_packet.ensures.writes
