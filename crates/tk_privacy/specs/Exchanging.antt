@@ -18,19 +18,23 @@ abbrev pub keyed_exchanged : Way → Shape → List ℕ → ℕ → ℕ → ℕ 
 keyed_exchanged Show shape u c log s o = shown_keyed_cell shape u c log s o
 keyed_exchanged Regain shape u c log s o = hidden_keyed_cell shape u c log s o
 
--- the write cells of a turn, and of all turns
+-- the write cell of client c in turn g, those of the turn, and those of all turns
+abbrev pub write_of_client : Way → Script → List ℕ → ℕ → ℕ → List ℕ
+write_of_client way S u g c = write_exchanged way S.shape u g c (sent S g c)
+
 abbrev pub writes_of_turn : Way → Script → List ℕ → ℕ → List ℕ
-writes_of_turn way S u g =
-    cells S.shape.clients (λ c. write_exchanged way S.shape u g c (sent S g c))
+writes_of_turn way S u g = cells S.shape.clients (write_of_client way S u g)
 
 abbrev pub writes_exchanged : Way → Script → List ℕ → List ℕ
 writes_exchanged way S u = cells (turn_count S.shape) (writes_of_turn way S u)
 
--- the cells of a log's numbers, and of all logs
+-- the cell of a log's number s, those of the log, and those of all logs
+abbrev pub number_of_log : Way → Script → List ℕ → ℕ → ℕ → List ℕ
+number_of_log way S u log s =
+    keyed_exchanged way S.shape u (writer_of S log) log s (sent_as S log s)
+
 abbrev pub numbers_of_log : Way → Script → List ℕ → ℕ → List ℕ
-numbers_of_log way S u log =
-    cells (turn_count S.shape)
-    (λ s. keyed_exchanged way S.shape u (writer_of S log) log s (sent_as S log s))
+numbers_of_log way S u log = cells (turn_count S.shape) (number_of_log way S u log)
 
 abbrev pub keyeds_exchanged : Way → Script → List ℕ → List ℕ
 keyeds_exchanged way S u = cells S.shape.logs (numbers_of_log way S u)

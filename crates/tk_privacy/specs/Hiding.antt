@@ -6,6 +6,7 @@ use Rattle.tk_shape.specs.Lengths.{turn_count}
 use Rattle.tk_frames.specs.declared.read_frame.ReadFrame.{ReadFrame}
 use Rattle.tk_words.specs.Words.{cell_pieces, read_cell}
 use Rattle.tk_report.specs.Exchange.{blank_read}
+use Rattle.tk_privacy.specs.declared.cells.Cells.{Cells}
 use Rattle.tk_privacy.specs.Privacy.{cells, with_vector}
 
 -- a read cell with these as server h's vectors of either bucket
@@ -32,3 +33,13 @@ reads_of_turn shape reads h u g = cells shape.clients (hidden_read shape reads h
 
 abbrev pub reads_hidden : Shape → List ReadFrame → ℕ → List ℕ → List ℕ
 reads_hidden shape reads h u = cells (turn_count shape) (reads_of_turn shape reads h u)
+
+-- the same of the cells of a tape: the read cell of client c in turn g, those of the turn, and all
+abbrev pub read_hidden_in : Cells → List ReadFrame → ℕ → ℕ → ℕ → List ℕ
+read_hidden_in tape reads h = hidden_read tape.shape.now reads h tape.bytes.now
+
+abbrev pub turn_hidden_in : Cells → List ReadFrame → ℕ → ℕ → List ℕ
+turn_hidden_in tape reads h = reads_of_turn tape.shape.now reads h tape.bytes.now
+
+abbrev pub reads_hidden_in : Cells → List ReadFrame → ℕ → List ℕ
+reads_hidden_in tape reads h = reads_hidden tape.shape.now reads h tape.bytes.now

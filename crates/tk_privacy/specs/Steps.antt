@@ -1,5 +1,7 @@
 -- The parts of a changed tape, as they are written.
-use Rattle.std.specs.Prelude.{◌≡◌, ℕ, ◌<◌, List}
+use Rattle.std.specs.Prelude.{◌≡◌, ℕ, ◌<◌, List, Vec, Result, IfOk}
+use Rattle.std.specs.Global.{Global}
+use Rattle.tk_shape.specs.declared.memory.Memory.{Memory}
 use Rattle.tk_shape.specs.declared.shape.Shape.{Shape}
 use Rattle.tk_shape.specs.Lengths.{turn_count}
 use Rattle.tk_schedule.specs.declared.history.History.{History}
@@ -13,6 +15,18 @@ abbrev pub AreLastReads : Shape → History → Pairs → List ℕ → List Read
 AreLastReads shape H pairs u reads =
     (g c : ℕ) → g < turn_count shape → c < shape.clients →
     read_in shape reads g c ≡ read_for shape (drawn u) H (pairs g c) g c shape.servers
+
+-- whichever buckets these are the last server's reads of, in whichever history
+abbrev pub ForTheirBuckets : Shape → List ℕ → List ReadFrame → (Pairs → Type 0) → Type 0
+ForTheirBuckets shape u reads says =
+    (H : History) (pairs : Pairs) → AreLastReads shape H pairs u reads → says pairs
+
+-- the tape that is made of this one goes by those buckets
+abbrev pub MakesTape :
+    Shape → (Pairs → List ℕ → List ℕ) → List ℕ → List ReadFrame → Result (Vec ℕ Global) Memory
+    → Type 0
+MakesTape shape made u reads result =
+    ForTheirBuckets shape u reads (λ pairs. IfOk result (λ bytes. bytes.items ≡ made pairs u))
 
 -- all read cells, changed by these buckets
 abbrev pub reads_changed : Shape → ℕ → Pairs → List ℕ → List ℕ

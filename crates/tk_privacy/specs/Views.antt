@@ -1,6 +1,7 @@
 -- A run as far as its frames were seen.
 use Rattle.std.specs.Prelude.{◌≡◌, ℕ, List, [], ◌∷◌, ◌++◌, length, map}
 use Rattle.tk_shape.specs.declared.shape.Shape.{Shape}
+use Rattle.tk_shape.specs.Lengths.{turn_count}
 use Rattle.tk_schedule.specs.declared.history.History.{History}
 use Rattle.tk_script.specs.declared.script.Script.{Script}
 use Rattle.tk_words.specs.Words.{WordBook, words_of}
@@ -21,6 +22,14 @@ use Rattle.tk_privacy.specs.Hiding.{read_in}
 abbrev pub frame_in : Shape → List ReadFrame → ℕ → ℕ → List (List ℕ)
 frame_in shape reads g c = read_frame (read_in shape reads g c) ∷ []
 
+-- the frames of a run before turn g, of its entries and of these reads, and those of the whole run
+abbrev pub viewed_before : Script → WordBook → History → List ReadFrame → ℕ → List (List ℕ)
+viewed_before S b H reads g =
+    frames_before S.shape H (write_at S (words_of S.shape b)) (frame_in S.shape reads) g
+
+abbrev pub all_viewed : Script → WordBook → History → List ReadFrame → List (List ℕ)
+all_viewed S b H reads = viewed_before S b H reads (turn_count S.shape)
+
 -- after these entries, which are in order, as many were counted
 pub record HasSeenEntries (shape : Shape) (E : List Placed) (seen : Seen) : Type 0 where
   pub order : IsOrder shape E
@@ -38,5 +47,4 @@ pub record IsViewBefore (S : Script) (b : WordBook) (H : History) (reads : List 
     (v : Viewed) : Type 0 where
   pub group : IsGroup S (known_first S) g v.group
   pub entered : HasSeenEntries S.shape (placed_before S (words_of S.shape b) H g) v.seen
-  pub frames : v.seen.frames.items
-      ≡ frames_before S.shape H (write_at S (words_of S.shape b)) (frame_in S.shape reads) g
+  pub frames : v.seen.frames.items ≡ viewed_before S b H reads g

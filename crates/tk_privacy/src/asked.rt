@@ -1,11 +1,7 @@
 ghost use Rattle.std.specs.Prelude.{◌≡◌, ◌+◌, ◌<◌, ◌≤◌, IfOk, OnOk};
 ghost use Rattle.tk_shape.specs.Lengths.{turn_count};
-ghost use Rattle.tk_words.specs.Words.{words_of};
-ghost use Rattle.tk_report.specs.Clients.{AreFollowers, follower_before};
-ghost use Rattle.tk_report.specs.Ledgers.{Keeps};
-ghost use Rattle.tk_report.specs.Turns.{placed_before};
-ghost use Rattle.tk_privacy.specs.Privacy.{pairs_read, read_for};
-ghost use Rattle.tk_privacy.specs.Reads.{reads_at};
+ghost use Rattle.tk_report.specs.Folds.{KeepsBefore, KnowBefore, KnowsBefore};
+ghost use Rattle.tk_privacy.specs.Reads.{read_to_server, reads_to_server_at};
 
 use std::alloc::Global;
 use tk_client::Follower;
@@ -32,18 +28,12 @@ pub(crate) fn ask_turn<D: Draws>(
     requires turn_in { spot.turn < turn_count plan.now.script.now.shape }
     requires low { 1 ≤ spot.server }
     requires high { spot.server ≤ plan.now.script.now.shape.servers }
-    requires ledger { let S = plan.now.script.now in
-        let words = words_of S.shape (D.book plan.now.draws.now) in
-        Keeps S.shape (placed_before S words plan.now.history.now (spot.turn + 1)) ledger.now }
-    requires followers { let S = plan.now.script.now in
-        let words = words_of S.shape (D.book plan.now.draws.now) in
-        AreFollowers S.shape.clients (follower_before S words plan.now.history.now spot.turn)
-        followers.old }
-    ensures asked { let S = plan.now.script.now in
-        let book = D.book plan.now.draws.now in
-        let H = plan.now.history.now in
-        IfOk result (λ found. found.items
-        ≡ reads_at S.shape book H (pairs_read S book H) spot.server spot.turn) }
+    requires ledger { KeepsBefore plan.now.script.now (D.book plan.now.draws.now)
+        plan.now.history.now (spot.turn + 1) ledger.now }
+    requires followers { KnowBefore plan.now.script.now (D.book plan.now.draws.now)
+        plan.now.history.now spot.turn followers.old }
+    ensures asked { IfOk result (λ found. found.items ≡ reads_to_server_at plan.now.script.now
+        (D.book plan.now.draws.now) plan.now.history.now spot.server spot.turn) }
     ensures same { OnOk result (followers.new ≡ followers.old) }
 {
     let mut reads = Vec::new(alloc);
@@ -66,17 +56,12 @@ fn ask_one<D: Draws>(
     requires low { 1 ≤ spot.server }
     requires high { spot.server ≤ plan.now.script.now.shape.servers }
     requires number_in { number < plan.now.script.now.shape.clients }
-    requires ledger { let S = plan.now.script.now in
-        let words = words_of S.shape (D.book plan.now.draws.now) in
-        Keeps S.shape (placed_before S words plan.now.history.now (spot.turn + 1)) ledger.now }
-    requires follower { let S = plan.now.script.now in
-        let words = words_of S.shape (D.book plan.now.draws.now) in
-        follower.old ≡ follower_before S words plan.now.history.now spot.turn number }
-    ensures read { let S = plan.now.script.now in
-        let book = D.book plan.now.draws.now in
-        let H = plan.now.history.now in
-        IfOk result (λ r. r ≡ read_for S.shape book H (pairs_read S book H spot.turn number)
-        spot.turn number spot.server) }
+    requires ledger { KeepsBefore plan.now.script.now (D.book plan.now.draws.now)
+        plan.now.history.now (spot.turn + 1) ledger.now }
+    requires follower { KnowsBefore plan.now.script.now (D.book plan.now.draws.now)
+        plan.now.history.now spot.turn number follower.old }
+    ensures read { IfOk result (λ r. r ≡ read_to_server plan.now.script.now
+        (D.book plan.now.draws.now) plan.now.history.now spot.server spot.turn number) }
     ensures same { follower.new ≡ follower.old }
 {
     let due = plan.history.epoch(spot.turn, number);

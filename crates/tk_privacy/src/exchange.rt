@@ -3,11 +3,11 @@ ghost use Rattle.std.specs.List.{range_with_len};
 ghost use Rattle.std.specs.Option.{option_copied};
 ghost use Rattle.tk_shape.specs.Lengths.{turn_count, cell_len};
 ghost use Rattle.tk_seal.specs.Texts.{is_allowed};
-ghost use Rattle.tk_script.specs.Sent.{sent, sent_as, writer_of};
+ghost use Rattle.tk_script.specs.Sent.{sent, sent_as};
 ghost use Rattle.tk_report.specs.Listings.{sent_by};
 ghost use Rattle.tk_privacy.specs.Privacy.{masked_cell};
-ghost use Rattle.tk_privacy.specs.Exchanging.{write_exchanged, writes_of_turn, writes_exchanged};
-ghost use Rattle.tk_privacy.specs.Exchanging.{keyed_exchanged, numbers_of_log, keyeds_exchanged};
+ghost use Rattle.tk_privacy.specs.Exchanging.{write_of_client, writes_of_turn, writes_exchanged};
+ghost use Rattle.tk_privacy.specs.Exchanging.{number_of_log, numbers_of_log, keyeds_exchanged};
 
 use crate::cells::Cells;
 use crate::log_texts::texts_of;
@@ -65,9 +65,8 @@ impl<'a> Exchange<'a> {
     ) -> Result<(), Memory>
         requires turn_in { turn < turn_count self.now.script.now.shape }
         requires client_in { client < self.now.script.now.shape.clients }
-        ensures { let S = self.now.script.now in
-            OnOk result (out.new.items ≡ out.old.items ++ write_exchanged self.now.way S.shape
-            self.now.cells.now.bytes.now turn client (sent S turn client)) }
+        ensures { OnOk result (out.new.items ≡ out.old.items ++ write_of_client self.now.way
+            self.now.script.now self.now.cells.now.bytes.now turn client) }
     {
         let Some(found) = self.sent_in(turn, client) else {
             return push(self.cells.write_cell(turn, client), out);
@@ -118,9 +117,8 @@ impl<'a> Exchange<'a> {
         requires log_in { log < self.now.script.now.shape.logs }
         requires number_in { number < turn_count self.now.script.now.shape }
         requires found { option_copied found ≡ sent_as self.now.script.now log number }
-        ensures { let S = self.now.script.now in
-            OnOk result (out.new.items ≡ out.old.items ++ keyed_exchanged self.now.way S.shape
-            self.now.cells.now.bytes.now (writer_of S log) log number (sent_as S log number)) }
+        ensures { OnOk result (out.new.items ≡ out.old.items ++ number_of_log self.now.way
+            self.now.script.now self.now.cells.now.bytes.now log number) }
     {
         let Some(found) = found else {
             return push(self.cells.keyed_cell(log, number), out);

@@ -1,6 +1,6 @@
 ghost use Rattle.std.specs.Prelude.{◌≡◌, ◌<◌, ◌≤◌, ◌+◌, ◌-◌, ◌*◌, ◌++◌, length, take, drop, OnOk};
 ghost use Rattle.tk_shape.specs.Lengths.{turn_count, read_cell_len};
-ghost use Rattle.tk_privacy.specs.Hiding.{cell_with, hidden_read, reads_of_turn, reads_hidden};
+ghost use Rattle.tk_privacy.specs.Hiding.{cell_with, read_hidden_in, turn_hidden_in, reads_hidden_in};
 
 use crate::cells::{Cells, place};
 use tk_frames::ReadFrame;
@@ -22,9 +22,8 @@ pub(crate) struct Hiding<'a> {
 impl<'a> Hiding<'a> {
     /// Appends all read cells.
     pub(crate) fn push_reads(&self, out: &mut Vec<u8>) -> Result<(), Memory>
-        ensures { let cells = self.now.cells.now in
-            OnOk result (out.new.items ≡ out.old.items
-            ++ reads_hidden cells.shape.now self.now.reads.now self.now.hidden cells.bytes.now) }
+        ensures { OnOk result (out.new.items ≡ out.old.items
+            ++ reads_hidden_in self.now.cells.now self.now.reads.now self.now.hidden) }
     {
         for turn in 0..self.cells.shape.turns() {
             self.push_turn(turn, out)?;
@@ -35,10 +34,8 @@ impl<'a> Hiding<'a> {
     /// Appends the read cells of a turn.
     fn push_turn(&self, turn: u32, out: &mut Vec<u8>) -> Result<(), Memory>
         requires { turn < turn_count self.now.cells.now.shape.now }
-        ensures { let cells = self.now.cells.now in
-            OnOk result (out.new.items ≡ out.old.items
-            ++ reads_of_turn cells.shape.now self.now.reads.now self.now.hidden cells.bytes.now
-            turn) }
+        ensures { OnOk result (out.new.items ≡ out.old.items
+            ++ turn_hidden_in self.now.cells.now self.now.reads.now self.now.hidden turn) }
     {
         for client in 0..self.cells.shape.clients {
             self.push_read(turn, client, out)?;
@@ -50,10 +47,8 @@ impl<'a> Hiding<'a> {
     fn push_read(&self, turn: u32, client: u32, out: &mut Vec<u8>) -> Result<(), Memory>
         requires turn_in { turn < turn_count self.now.cells.now.shape.now }
         requires client_in { client < self.now.cells.now.shape.now.clients }
-        ensures { let cells = self.now.cells.now in
-            OnOk result (out.new.items ≡ out.old.items
-            ++ hidden_read cells.shape.now self.now.reads.now self.now.hidden cells.bytes.now turn
-            client) }
+        ensures { OnOk result (out.new.items ≡ out.old.items
+            ++ read_hidden_in self.now.cells.now self.now.reads.now self.now.hidden turn client) }
     {
         let shape = self.cells.shape;
         let read = &self.reads[place(turn, shape.clients, client)];

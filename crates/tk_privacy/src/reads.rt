@@ -2,8 +2,7 @@ ghost use Rattle.std.specs.Prelude.{◌≡◌, ℕ, ◌+◌, ◌<◌, ◌≤◌,
 ghost use Rattle.tk_shape.specs.Lengths.{turn_count};
 ghost use Rattle.tk_schedule.specs.declared.history.History.{History};
 ghost use Rattle.tk_words.specs.Words.{WordBook};
-ghost use Rattle.tk_privacy.specs.Privacy.{pairs_read};
-ghost use Rattle.tk_privacy.specs.Reads as reads;
+ghost use Rattle.tk_privacy.specs.Reads.{IsFollowedBefore, reads_to_server};
 
 use crate::asked::{ServerTurn, ask_turn};
 use std::alloc::Global;
@@ -32,11 +31,8 @@ pub(crate) fn all_reads<D: Draws>(
 ) -> Result<Vec<ReadFrame>, Memory>
     requires low { 1 ≤ server }
     requires high { server ≤ plan.now.script.now.shape.servers }
-    ensures { let S = plan.now.script.now in
-        let book = D.book plan.now.draws.now in
-        let H = plan.now.history.now in
-        IfOk result (λ found. found.items
-        ≡ reads.all_reads S.shape book H (pairs_read S book H) server) }
+    ensures { IfOk result (λ found. found.items ≡ reads_to_server plan.now.script.now
+        (D.book plan.now.draws.now) plan.now.history.now server) }
 {
     let mut fold = open_fold(alloc, plan.script)?;
     'turns: for turn in 0..plan.script.shape.turns() {
@@ -48,7 +44,7 @@ pub(crate) fn all_reads<D: Draws>(
 /// A history before its first turn.
 fn open_fold(alloc: Global, script: &Script) -> Result<Followed, Memory>
     ensures { (b : WordBook) (H : History) (j : ℕ)
-        → IfOk result (reads.IsFollowedBefore script.now b H j 0) }
+        → IfOk result (IsFollowedBefore script.now b H j 0) }
 {
     Ok(Followed {
         group: Group::open(alloc, script)?,
@@ -69,9 +65,9 @@ fn take_turn<D: Draws>(
     requires turn_in { spot.turn < turn_count plan.now.script.now.shape }
     requires low { 1 ≤ spot.server }
     requires high { spot.server ≤ plan.now.script.now.shape.servers }
-    requires fold { reads.IsFollowedBefore plan.now.script.now (D.book plan.now.draws.now)
+    requires fold { IsFollowedBefore plan.now.script.now (D.book plan.now.draws.now)
         plan.now.history.now spot.server spot.turn fold.old }
-    ensures { OnOk result (reads.IsFollowedBefore plan.now.script.now (D.book plan.now.draws.now)
+    ensures { OnOk result (IsFollowedBefore plan.now.script.now (D.book plan.now.draws.now)
         plan.now.history.now spot.server (spot.turn + 1) fold.new) }
 {
     fold.group.write(alloc, plan, spot.turn, &mut fold.ledger)?;

@@ -2,12 +2,11 @@ ghost use Rattle.std.specs.Prelude.{◌≡◌, ◌+◌, ◌*◌, ◌<◌, ◌≤
 ghost use Rattle.tk_shape.specs.Lengths.{turn_count};
 ghost use Rattle.tk_schedule.specs.declared.history.History.{History};
 ghost use Rattle.tk_schedule.specs.Schedule.{IsLegal};
-ghost use Rattle.tk_words.specs.Words.{WordBook, words_of};
+ghost use Rattle.tk_words.specs.Words.{WordBook};
 ghost use Rattle.tk_frames.specs.declared.read_frame.ReadFrame.{ReadFrame as FrameOfRead};
-ghost use Rattle.tk_report.specs.Entries.{write_at};
 ghost use Rattle.tk_report.specs.Exchange as told;
 ghost use Rattle.tk_client.specs.Framing.{AreAllTold};
-ghost use Rattle.tk_privacy.specs.Views.{IsViewBefore, frame_in};
+ghost use Rattle.tk_privacy.specs.Views.{IsViewBefore, all_viewed};
 
 use crate::reads::all_reads;
 use crate::server_sights::Seen;
@@ -66,10 +65,8 @@ pub fn all_frames<D: Draws>(
     requires counted { let shape = plan.now.script.now.shape in
         length reads.now ≡ turn_count shape * shape.clients }
     requires told { AreAllTold reads.now }
-    ensures { let S = plan.now.script.now in
-        let words = words_of S.shape (D.book plan.now.draws.now) in
-        IfOk result (λ frames. frames.items ≡ told.frames_before S.shape plan.now.history.now
-        (write_at S words) (frame_in S.shape reads.now) (turn_count S.shape)) }
+    ensures { IfOk result (λ frames. frames.items ≡ all_viewed plan.now.script.now
+        (D.book plan.now.draws.now) plan.now.history.now reads.now) }
 {
     let mut viewed = open_view(alloc, plan.script)?;
     'turns: for turn in 0..plan.script.shape.turns() {

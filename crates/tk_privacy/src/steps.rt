@@ -2,10 +2,9 @@
 ghost use Rattle.std.specs.Prelude.{◌≡◌, ◌≤◌, ◌*◌, ◌++◌, length, map, IfOk, OnOk};
 ghost use Rattle.std.specs.List.{range_with_len};
 ghost use Rattle.tk_shape.specs.Lengths.{tape_len, turn_count};
-ghost use Rattle.tk_schedule.specs.declared.history.History.{History};
 ghost use Rattle.tk_report.specs.Listings.{sent_by};
-ghost use Rattle.tk_privacy.specs.Privacy.{Pairs, normal_for, regained, with_reads_for};
-ghost use Rattle.tk_privacy.specs.Steps.{AreLastReads, reads_changed};
+ghost use Rattle.tk_privacy.specs.Privacy.{normal_for, regained, with_reads_for};
+ghost use Rattle.tk_privacy.specs.Steps.{ForTheirBuckets, MakesTape, reads_changed};
 
 use crate::cells::Cells;
 use crate::exchange::{Exchange, push};
@@ -36,10 +35,7 @@ impl<'a> Steps<'a> {
         requires counted { let shape = self.now.script.now.shape in
             length reads.now ≡ turn_count shape * shape.clients }
         ensures { let S = self.now.script.now in
-            (H : History) (pairs : Pairs)
-            → AreLastReads S.shape H pairs tape.now reads.now
-            → IfOk result (λ bytes.
-            bytes.items ≡ normal_for S self.now.hidden pairs tape.now) }
+            MakesTape S.shape (normal_for S self.now.hidden) tape.now reads.now result }
     {
         let cells = Cells {
             shape: &self.script.shape,
@@ -92,10 +88,7 @@ impl<'a> Steps<'a> {
         requires counted { let shape = self.now.script.now.shape in
             length reads.now ≡ turn_count shape * shape.clients }
         ensures { let S = self.now.script.now in
-            (H : History) (pairs : Pairs)
-            → AreLastReads S.shape H pairs tape.now reads.now
-            → IfOk result (λ bytes.
-            bytes.items ≡ with_reads_for S.shape self.now.hidden pairs tape.now) }
+            MakesTape S.shape (with_reads_for S.shape self.now.hidden) tape.now reads.now result }
     {
         let cells = Cells {
             shape: &self.script.shape,
@@ -119,10 +112,9 @@ impl<'a> Steps<'a> {
         requires counted { let shape = self.now.script.now.shape in
             length reads.now ≡ turn_count shape * shape.clients }
         ensures { let S = self.now.script.now in
-            (H : History) (pairs : Pairs)
-            → AreLastReads S.shape H pairs cells.now.bytes.now reads.now
-            → OnOk result (out.new.items ≡ out.old.items
-            ++ reads_changed S.shape self.now.hidden pairs cells.now.bytes.now) }
+            let tape = cells.now.bytes.now in
+            ForTheirBuckets S.shape tape reads.now (λ pairs. OnOk result (out.new.items
+            ≡ out.old.items ++ reads_changed S.shape self.now.hidden pairs tape)) }
     {
         if self.hidden == self.script.shape.servers {
             return push(cells.read_part(), out);
