@@ -1,11 +1,9 @@
 ghost use Rattle.std.specs.Prelude.{◌≡◌, ◌*◌, ◌≤◌, length, None, IfOk, IfErr, OnOk};
 ghost use Rattle.tk_shape.specs.Lengths.{turn_count, tape_len};
 ghost use Rattle.tk_schedule.specs.Schedule.{IsLegal};
-ghost use Rattle.tk_words.specs.Words.{drawn};
 ghost use Rattle.tk_privacy.specs.Refusals.{mirror_refusal, IsMirrorRefusal};
-ghost use Rattle.tk_privacy.specs.Steps.{AreLastReads};
 ghost use Rattle.tk_hostile.specs.Given.{sums_at};
-ghost use Rattle.tk_hostile.specs.Walks.{AreSides, pair_in};
+ghost use Rattle.tk_hostile.specs.Walks.{AreSides, AreLastReadsOver};
 ghost use Rattle.tk_hostile.specs.Wrong as told;
 
 use crate::replies::Replies;
@@ -138,11 +136,9 @@ impl<'a> Run<'a> {
         requires whole { length tape.now ≡ tape_len script.now.shape }
         ensures counted { let shape = script.now.shape in
             IfOk result (λ reads. length reads.items ≡ turn_count shape * shape.clients) }
-        ensures reads { let S = script.now in
-            let H = self.now.history.now in
-            let F = sums_at self.now.replies.now in
-            IfOk result (λ reads. AreLastReads S.shape H (pair_in S (drawn tape.now) H sides F)
-            tape.now reads.items) }
+        ensures reads { let F = sums_at self.now.replies.now in
+            IfOk result (λ reads.
+            AreLastReadsOver script.now self.now.history.now sides F tape.now reads.items) }
     {
         let draws = draws_over(alloc, script, tape)?;
         let plan = Plan {

@@ -1,8 +1,7 @@
 ghost use Rattle.std.specs.Prelude.{◌≡◌, ◌++◌, ◌≤◌, IfOk, OnOk, OnErr};
 ghost use Rattle.tk_schedule.specs.Schedule.{IsLegal};
-ghost use Rattle.tk_privacy.specs.Privacy.{view_for};
 ghost use Rattle.tk_hostile.specs.Given.{sums_at};
-ghost use Rattle.tk_hostile.specs.Walks.{pair_in};
+ghost use Rattle.tk_hostile.specs.Walks.{wrong_run, frames_kept};
 ghost use Rattle.tk_hostile.specs.Wrong as told;
 
 use crate::replies::Replies;
@@ -62,12 +61,8 @@ pub fn wrong_view(
 
 /// The frames that the seen server sees.
 fn frames_seen<D: Draws>(alloc: Global, walk: &Walk<D>) -> Result<Vec<Bytes>, Memory>
-    ensures { let S = walk.now.plan.now.script.now in
-        let book = D.book walk.now.plan.now.draws.now in
-        let H = walk.now.plan.now.history.now in
-        let sides = walk.now.sides in
-        IfOk result (λ frames. frames.items ≡ view_for S book H
-        (pair_in S book H sides (sums_at walk.now.replies.now)) sides.seen) }
+    ensures { let run = wrong_run walk.now.plan.now walk.now.replies.now walk.now.sides in
+        IfOk result (λ frames. frames.items ≡ frames_kept run) }
 {
     let fold = walk_all(alloc, walk)?;
     all_frames(alloc, walk.plan, fold.reads.as_slice())

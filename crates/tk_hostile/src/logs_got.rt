@@ -1,7 +1,7 @@
 ghost use Rattle.std.specs.Prelude.{◌≡◌, ◌≤◌, IfOk};
 ghost use Rattle.tk_schedule.specs.Schedule.{IsLegal};
 ghost use Rattle.tk_hostile.specs.Given.{sums_at};
-ghost use Rattle.tk_hostile.specs.Wrong as told;
+ghost use Rattle.tk_hostile.specs.Wrong.{AreWrongedClients};
 
 use crate::replies::Replies;
 use crate::sides::Sides;
@@ -28,11 +28,9 @@ pub fn wrong_logs(
     requires legal { IsLegal script.now.shape history.now }
     requires low { 1 ≤ hidden }
     requires high { hidden ≤ script.now.shape.servers }
-    ensures { let S = script.now in
-        let book = ⟦<DrawnDraws as Draws>⟧.book draws.now in
-        let F = sums_at replies.now in
+    ensures { let book = ⟦<DrawnDraws as Draws>⟧.book draws.now in
         IfOk result (λ clients.
-        told.AreWrongedClients S book history.now hidden F clients.items) }
+        AreWrongedClients script.now book history.now hidden (sums_at replies.now) clients.items) }
 {
     let plan = Plan {
         script,

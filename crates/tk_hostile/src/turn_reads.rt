@@ -1,17 +1,11 @@
-ghost use Rattle.std.specs.Prelude.{◌≡◌, ◌+◌, ◌-◌, ◌<◌, ◌≤◌, IfOk, OnOk, length, map, Some, slice_get};
+ghost use Rattle.std.specs.Prelude.{◌≡◌, ◌+◌, ◌-◌, ◌<◌, ◌≤◌, IfOk, OnOk, length, Some, slice_get};
 ghost use Rattle.tk_shape.specs.Lengths.{turn_count};
-ghost use Rattle.tk_words.specs.Words.{words_of};
 ghost use Rattle.tk_frames.specs.declared.read_frame.ReadFrame.{ReadFrame as Frame};
 ghost use Rattle.tk_frames.specs.Ranges.{IsRead};
 ghost use Rattle.tk_frames.specs.Spelling.{read_frame};
-ghost use Rattle.tk_report.specs.Clients.{AreClients};
-ghost use Rattle.tk_report.specs.Ledgers.{Keeps, IsLeftBy};
-ghost use Rattle.tk_report.specs.Report.{read_over};
-ghost use Rattle.tk_report.specs.Turns.{placed_before};
-ghost use Rattle.tk_privacy.specs.Reads.{reads_at};
-ghost use Rattle.tk_hostile.specs.Given.{sums_at};
-ghost use Rattle.tk_hostile.specs.Walks.{pair_in, read_in, client_in, client_open, client_out};
-ghost use Rattle.tk_hostile.specs.Walks.{asked_in};
+ghost use Rattle.tk_hostile.specs.Walks.{wrong_run, HasLedger, LiesOpenTo, AreClientsIn, AreClientsOut};
+ghost use Rattle.tk_hostile.specs.Walks.{IsClientIn, IsClientOpen, IsClientOut};
+ghost use Rattle.tk_hostile.specs.Walks.{read_kept, reads_kept, frames_asked};
 
 use crate::walk::Walk;
 use crate::wrong_servers::Servers;
@@ -32,23 +26,14 @@ pub(crate) fn read_turn<D: Draws>(
     clients: &mut [Client],
 ) -> Result<Vec<ReadFrame>, Memory>
     requires turn_in { turn < turn_count walk.now.plan.now.script.now.shape }
-    requires ledger { let S = walk.now.plan.now.script.now in
-        let words = words_of S.shape (D.book walk.now.plan.now.draws.now) in
-        Keeps S.shape (placed_before S words walk.now.plan.now.history.now (turn + 1)) ledger.now }
-    requires clients { let S = walk.now.plan.now.script.now in
-        let book = D.book walk.now.plan.now.draws.now in
-        AreClients S.shape.clients (client_in S book walk.now.plan.now.history.now walk.now.sides
-        (sums_at walk.now.replies.now) turn) clients.old }
-    ensures reads { let S = walk.now.plan.now.script.now in
-        let book = D.book walk.now.plan.now.draws.now in
-        let H = walk.now.plan.now.history.now in
-        let sides = walk.now.sides in
-        IfOk result (λ reads. reads.items ≡ reads_at S.shape book H
-        (pair_in S book H sides (sums_at walk.now.replies.now)) sides.seen turn) }
-    ensures clients { let S = walk.now.plan.now.script.now in
-        let book = D.book walk.now.plan.now.draws.now in
-        OnOk result (AreClients S.shape.clients (client_out S book walk.now.plan.now.history.now
-        walk.now.sides (sums_at walk.now.replies.now) turn) clients.new) }
+    requires ledger { let run = wrong_run walk.now.plan.now walk.now.replies.now walk.now.sides in
+        HasLedger run (turn + 1) ledger.now }
+    requires clients { let run = wrong_run walk.now.plan.now walk.now.replies.now walk.now.sides in
+        AreClientsIn run turn clients.old }
+    ensures reads { let run = wrong_run walk.now.plan.now walk.now.replies.now walk.now.sides in
+        IfOk result (λ reads. reads.items ≡ reads_kept run turn) }
+    ensures clients { let run = wrong_run walk.now.plan.now walk.now.replies.now walk.now.sides in
+        OnOk result (AreClientsOut run turn clients.new) }
 {
     let mut reads = Vec::new(alloc);
     for (number, client) in clients.iter_mut().enumerate() {
@@ -69,21 +54,14 @@ fn read_one<D: Draws>(
 ) -> Result<ReadFrame, Memory>
     requires turn_in { turn < turn_count walk.now.plan.now.script.now.shape }
     requires number_in { number < walk.now.plan.now.script.now.shape.clients }
-    requires ledger { let S = walk.now.plan.now.script.now in
-        let words = words_of S.shape (D.book walk.now.plan.now.draws.now) in
-        Keeps S.shape (placed_before S words walk.now.plan.now.history.now (turn + 1)) ledger.now }
-    requires client { let S = walk.now.plan.now.script.now in
-        let book = D.book walk.now.plan.now.draws.now in
-        client.old ≡ client_in S book walk.now.plan.now.history.now walk.now.sides
-        (sums_at walk.now.replies.now) turn number }
-    ensures read { let S = walk.now.plan.now.script.now in
-        let book = D.book walk.now.plan.now.draws.now in
-        IfOk result (λ r. r ≡ read_in S book walk.now.plan.now.history.now walk.now.sides
-        (sums_at walk.now.replies.now) walk.now.sides.seen turn number) }
-    ensures client { let S = walk.now.plan.now.script.now in
-        let book = D.book walk.now.plan.now.draws.now in
-        OnOk result (client.new ≡ client_out S book walk.now.plan.now.history.now walk.now.sides
-        (sums_at walk.now.replies.now) turn number) }
+    requires ledger { let run = wrong_run walk.now.plan.now walk.now.replies.now walk.now.sides in
+        HasLedger run (turn + 1) ledger.now }
+    requires client { let run = wrong_run walk.now.plan.now walk.now.replies.now walk.now.sides in
+        IsClientIn run turn number client.old }
+    ensures read { let run = wrong_run walk.now.plan.now walk.now.replies.now walk.now.sides in
+        IfOk result (λ r. r ≡ read_kept run turn number) }
+    ensures client { let run = wrong_run walk.now.plan.now walk.now.replies.now walk.now.sides in
+        OnOk result (IsClientOut run turn number client.new) }
 {
     let shape = &walk.plan.script.shape;
     let left = open_to(walk.plan, turn, number, ledger);
@@ -113,21 +91,14 @@ fn ask<D: Draws>(
 ) -> Result<Vec<Bytes>, Memory>
     requires turn_in { turn < turn_count walk.now.plan.now.script.now.shape }
     requires number_in { number < walk.now.plan.now.script.now.shape.clients }
-    requires left { let S = walk.now.plan.now.script.now in
-        let words = words_of S.shape (D.book walk.now.plan.now.draws.now) in
-        IsLeftBy S.shape (read_over S words walk.now.plan.now.history.now turn number) left.now }
-    requires client { let S = walk.now.plan.now.script.now in
-        let book = D.book walk.now.plan.now.draws.now in
-        client.old ≡ client_in S book walk.now.plan.now.history.now walk.now.sides
-        (sums_at walk.now.replies.now) turn number }
-    ensures frames { let S = walk.now.plan.now.script.now in
-        let book = D.book walk.now.plan.now.draws.now in
-        IfOk result (λ frames. frames.items ≡ map read_frame (asked_in S book
-        walk.now.plan.now.history.now walk.now.sides (sums_at walk.now.replies.now) turn number)) }
-    ensures opened { let S = walk.now.plan.now.script.now in
-        let book = D.book walk.now.plan.now.draws.now in
-        OnOk result (client.new ≡ client_open S book walk.now.plan.now.history.now walk.now.sides
-        (sums_at walk.now.replies.now) turn number) }
+    requires left { let run = wrong_run walk.now.plan.now walk.now.replies.now walk.now.sides in
+        LiesOpenTo run turn number left.now }
+    requires client { let run = wrong_run walk.now.plan.now walk.now.replies.now walk.now.sides in
+        IsClientIn run turn number client.old }
+    ensures frames { let run = wrong_run walk.now.plan.now walk.now.replies.now walk.now.sides in
+        IfOk result (λ frames. frames.items ≡ frames_asked run turn number) }
+    ensures opened { let run = wrong_run walk.now.plan.now walk.now.replies.now walk.now.sides in
+        OnOk result (IsClientOpen run turn number client.new) }
 {
     let due = walk.plan.history.epoch(turn, number);
     let mut frames = Vec::new(alloc);

@@ -2,9 +2,8 @@ ghost use Rattle.std.specs.Prelude.{◌≡◌, ◌<◌, ◌+◌, IfOk, OnOk};
 ghost use Rattle.tk_shape.specs.Lengths.{turn_count};
 ghost use Rattle.tk_schedule.specs.declared.history.History.{History};
 ghost use Rattle.tk_words.specs.Words.{WordBook};
-ghost use Rattle.tk_hostile.specs.Given.{sums_at};
 ghost use Rattle.tk_hostile.specs.Choice.{Choice};
-ghost use Rattle.tk_hostile.specs.Walks.{AreSides, IsWalkBefore};
+ghost use Rattle.tk_hostile.specs.Walks.{AreSides, IsWalkBefore, IsWalkedTo, wrong_run};
 ghost use Rattle.tk_hostile.specs.declared.sides.Sides.{Sides as Servers};
 
 use crate::replies::Replies;
@@ -38,10 +37,8 @@ pub(crate) struct Walked {
 
 /// A run gone through to its end.
 pub(crate) fn walk_all<D: Draws>(alloc: Global, walk: &Walk<D>) -> Result<Walked, Memory>
-    ensures { let S = walk.now.plan.now.script.now in
-        IfOk result (IsWalkBefore S (D.book walk.now.plan.now.draws.now)
-        walk.now.plan.now.history.now walk.now.sides (sums_at walk.now.replies.now)
-        (turn_count S.shape)) }
+    ensures { let run = wrong_run walk.now.plan.now walk.now.replies.now walk.now.sides in
+        IfOk result (IsWalkedTo run (turn_count run.script.shape)) }
 {
     let mut fold = open_fold(alloc, walk.plan.script)?;
     'turns: for turn in 0..walk.plan.script.shape.turns() {
@@ -71,12 +68,10 @@ fn take_turn<D: Draws>(
     fold: &mut Walked,
 ) -> Result<(), Memory>
     requires turn_in { turn < turn_count walk.now.plan.now.script.now.shape }
-    requires fold { IsWalkBefore walk.now.plan.now.script.now (D.book walk.now.plan.now.draws.now)
-        walk.now.plan.now.history.now walk.now.sides (sums_at walk.now.replies.now) turn fold.old }
-    ensures { OnOk result
-        (IsWalkBefore walk.now.plan.now.script.now (D.book walk.now.plan.now.draws.now)
-        walk.now.plan.now.history.now walk.now.sides (sums_at walk.now.replies.now) (turn + 1)
-        fold.new) }
+    requires fold { let run = wrong_run walk.now.plan.now walk.now.replies.now walk.now.sides in
+        IsWalkedTo run turn fold.old }
+    ensures { let run = wrong_run walk.now.plan.now walk.now.replies.now walk.now.sides in
+        OnOk result (IsWalkedTo run (turn + 1) fold.new) }
 {
     fold.group.write(alloc, walk.plan, turn, &mut fold.ledger)?;
     let clients = fold.group.clients.as_mut_slice();

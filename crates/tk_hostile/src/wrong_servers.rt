@@ -1,12 +1,10 @@
-ghost use Rattle.std.specs.Prelude.{◌≡◌, ◌≤◌, List, map, IfOk, OnOk};
+ghost use Rattle.std.specs.Prelude.{◌≡◌, ◌≤◌, map, IfOk, OnOk};
 ghost use Rattle.std.specs.List.{AllByRecursion};
-ghost use Rattle.tk_frames.specs.Order.{Record};
 ghost use Rattle.tk_frames.specs.Ranges.{IsRead, IsReply};
 ghost use Rattle.tk_frames.specs.Spelling.{reply_frame};
-ghost use Rattle.tk_report.specs.Ledgers.{IsLeftBy};
-ghost use Rattle.tk_hostile.specs.Choice.{own_sums, sums_by, reply_with, replies_by};
-ghost use Rattle.tk_hostile.specs.Given.{AreSums, sums_at};
-ghost use Rattle.tk_hostile.specs.Walks.{IsLeft};
+ghost use Rattle.tk_hostile.specs.Choice.{own_sums, reply_with};
+ghost use Rattle.tk_hostile.specs.Given.{AreSums};
+ghost use Rattle.tk_hostile.specs.Walks.{IsLeft, ForItsWrites, replies_made, sums_made};
 
 use crate::replies::Replies;
 use crate::sums::Sums;
@@ -30,14 +28,11 @@ impl<'a> Servers<'a> {
     pub(crate) fn replies(&self, alloc: Global, asked: &ReadFrame) -> Result<Vec<Bytes>, Memory>
         requires left { IsLeft self.now.replies.now.shape self.now.left.now }
         requires asked { IsRead self.now.replies.now.shape asked.now }
-        ensures replies { let given = self.now.replies.now in
-            (R : List Record) → IsLeftBy given.shape R self.now.left.now
-            → IfOk result (λ replies. replies.items ≡ map reply_frame
-            (replies_by given.shape self.now.hidden (sums_at given) R asked.now)) }
-        ensures in_range { let given = self.now.replies.now in
-            (R : List Record) → IsLeftBy given.shape R self.now.left.now
-            → OnOk result (AllByRecursion (IsReply given.shape)
-            (replies_by given.shape self.now.hidden (sums_at given) R asked.now)) }
+        ensures replies { ForItsWrites self.now (λ R. IfOk result (λ replies. replies.items
+            ≡ map reply_frame (replies_made self.now R asked.now))) }
+        ensures in_range { ForItsWrites self.now (λ R. OnOk result
+            (AllByRecursion (IsReply self.now.replies.now.shape)
+            (replies_made self.now R asked.now))) }
     {
         let mut replies = Vec::new(alloc);
         for server in 1..self.replies.shape().servers + 1 {
@@ -53,10 +48,8 @@ impl<'a> Servers<'a> {
         requires asked { IsRead self.now.replies.now.shape asked.now }
         requires low { 1 ≤ server }
         requires high { server ≤ self.now.replies.now.shape.servers }
-        ensures sums { let given = self.now.replies.now in
-            (R : List Record) → IsLeftBy given.shape R self.now.left.now
-            → IfOk result (λ sums.
-            sums ≡ sums_by given.shape self.now.hidden (sums_at given) R asked.now server) }
+        ensures sums { ForItsWrites self.now (λ R. IfOk result (λ sums.
+            sums ≡ sums_made self.now R asked.now server)) }
         ensures sized { IfOk result (AreSums self.now.replies.now.shape) }
     {
         if server == self.hidden {
@@ -69,9 +62,8 @@ impl<'a> Servers<'a> {
     fn own_sums(&self, alloc: Global, asked: &ReadFrame) -> Result<Sums, Memory>
         requires left { IsLeft self.now.replies.now.shape self.now.left.now }
         requires asked { IsRead self.now.replies.now.shape asked.now }
-        ensures sums { let shape = self.now.replies.now.shape in
-            (R : List Record) → IsLeftBy shape R self.now.left.now
-            → IfOk result (λ sums. sums ≡ own_sums shape R asked.now) }
+        ensures sums { ForItsWrites self.now (λ R. IfOk result (λ sums.
+            sums ≡ own_sums self.now.replies.now.shape R asked.now)) }
         ensures sized { IfOk result (AreSums self.now.replies.now.shape) }
     {
         let blocks = self.left.blocks();
