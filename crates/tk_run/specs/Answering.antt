@@ -60,6 +60,12 @@ pub record MayReply (shape : Shape) (server : ℕ) (rs : List Reading) (frames :
 abbrev pub Replies : Type 0
 Replies = Result (Vec (List ℕ) Global) Memory
 
+-- The replies to frames that are answered from a set are those due over the entries that it stands for.
+abbrev pub AnswersFrom : ReplyDue → EpochSet → List (List ℕ) → Replies → Type 0
+AnswersFrom due set frames result =
+    (shape : Shape) (E : List Placed) → StandsAtMark shape E set.number set →
+    IfOk result (λ replies. replies.items ≡ map (due shape E) frames)
+
 -- The server at a place replies to these reads, over the entries that their sets stand for.
 abbrev pub AreReplies : ReplyDue → ℕ → List Reading → Replies → Type 0
 AreReplies due i rs result =

@@ -92,6 +92,14 @@ pub record OneRefuses (shape : Shape) (E : List Placed) (gives : ℕ → List �
   pub high : server ≤ shape.servers
   pub refuses : ¬ IsAccepted shape E (gives server)
 
+-- A keeper kept the checkpoint of these entries, behind what it first kept, which each that had them
+-- accepts, and then one doesn't what it gives.
+abbrev pub KeptAndRefused : {K : Type 0} → Shape → List Placed → List (List ℕ)
+    → (K → List (List ℕ)) → (K → ℕ → List ℕ) → K → Type 0
+KeptAndRefused shape E first kept gives keeper =
+    (kept keeper ≡ first ++ saved shape E ∷ []) × IsAccepted shape E (saved shape E)
+    × OneRefuses shape E (gives keeper)
+
 -- The checkpoint before the turn that is due was kept, which each accepts, and then one of them doesn't.
 pub record HasRefused (S : Script) (b : WordBook) (H : History) (due : ℕ) (old new : List (List ℕ))
     (gives : ℕ → List ℕ) : Type 0 where

@@ -13,3 +13,6 @@ pub mod Keeping
 pub mod Ranged
 pub mod Sized
 pub mod Under
+pub mod Plays
+pub mod Resumption
+pub mod Stages

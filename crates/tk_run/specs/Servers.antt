@@ -32,6 +32,17 @@ pub record AreServers (shape : Shape) (Es : ℕ → List Placed) (seen : ℕ →
   pub each : (i : ℕ) (d : Server) → i < length servers →
       IsServerAt shape (Es (i + 1)) (seen (i + 1)) (slice_index_or servers i d)
 
+-- whatever a server holds and saw, and whatever all hold and each saw
+abbrev pub WhateverItHolds : Server → (Shape → List Placed → List ℕ → Type 0) → Type 0
+WhateverItHolds s says =
+    (shape : Shape) (E : List Placed) (bytes : List ℕ) → IsServerAt shape E bytes s → says shape E bytes
+
+abbrev pub WhateverTheyHold :
+    List Server → (Shape → (ℕ → List Placed) → (ℕ → List ℕ) → Type 0) → Type 0
+WhateverTheyHold servers says =
+    (shape : Shape) (Es : ℕ → List Placed) (seen : ℕ → List ℕ) → AreServers shape Es seen servers →
+    says shape Es seen
+
 -- all hold these entries
 abbrev pub alike : List Placed → ℕ → List Placed
 alike E j = E
@@ -39,6 +50,11 @@ alike E j = E
 -- a server has seen nothing that isn't given away
 abbrev pub nothing_seen : ℕ → List ℕ
 nothing_seen j = []
+
+-- where all hold the same, whatever it is, and what each saw is given away
+abbrev pub WhereAlike : Shape → List Server → (List Placed → Type 0) → Type 0
+WhereAlike shape servers says =
+    (E : List Placed) → AreServers shape (alike E) nothing_seen servers → says E
 
 -- ---- what holds of each, whatever it was given
 
@@ -98,3 +114,10 @@ answered shape E reads = flat_map (λ r. bytes_of (with_reply shape (before E r.
 pub record AreReadFrames (shape : Shape) (reads : List ReadFrame) (frames : List (List ℕ)) : Type 0 where
   pub in_range : AllByRecursion (IsRead shape) reads
   pub spelled : frames ≡ map read_frame reads
+
+-- whatever a server holds, and whichever reads it is asked for
+abbrev pub WhicheverReads :
+    Server → List (List ℕ) → (Shape → List Placed → List ℕ → List ReadFrame → Type 0) → Type 0
+WhicheverReads s frames says =
+    (shape : Shape) (E : List Placed) (bytes : List ℕ) (reads : List ReadFrame) →
+    IsServerAt shape E bytes s → AreReadFrames shape reads frames → says shape E bytes reads

@@ -17,6 +17,8 @@ use Rattle.tk_report.specs.Outcomes.{IsLeftBy}
 use Rattle.tk_report.specs.Serving.{Serving, exchange_under}
 use Rattle.tk_cluster.specs.Closings.{Ended}
 use Rattle.tk_run.specs.declared.closed_run.ClosedRun.{ClosedRun}
+use Rattle.tk_run.specs.Ranged.{Summing}
+use Rattle.tk_run.specs.Ranging.{over_ranges}
 use Rattle.tk_run.specs.Under.{client_under}
 
 -- What taps have after a call. With an answer each from 1 to count gained what bytes gives for it,
@@ -68,3 +70,9 @@ pub record CameAboutUnder (S : Script) (b : WordBook) (V : History → Serving) 
   pub run : IfOk result (IsClosedRun S b history (V history))
   pub taps : TapsAfter result S.shape.servers
       (λ j. bytes_of (exchange_under S b history (V history) j)) old new
+
+-- so where its servers make these sums over so many even ranges
+abbrev pub CameAboutOver : {E : Type 0} → Script → WordBook → ℕ → Summing → Result ClosedRun E
+    → (ℕ → Option (List ℕ)) → (ℕ → Option (List ℕ)) → Type 0
+CameAboutOver S b shards sum result old new =
+    CameAboutUnder S b (over_ranges S b shards sum) result old new

@@ -1,14 +1,8 @@
-ghost use Rattle.std.specs.Prelude.{◌≡◌, ◌<◌, ◌+◌, ℕ, List, length, map, IfOk, OnOk};
-ghost use Rattle.std.specs.List.{range_with_len};
+ghost use Rattle.std.specs.Prelude.{◌≡◌, ◌<◌, ◌+◌, length, IfOk, OnOk};
 ghost use Rattle.tk_shape.specs.Lengths.{turn_count};
-ghost use Rattle.tk_frames.specs.declared.entry.Placed.{Placed};
-ghost use Rattle.tk_frames.specs.Spelling.{read_frame};
-ghost use Rattle.tk_replica.specs.Replica.{StandsFor};
-ghost use Rattle.tk_report.specs.Clients.{AreClients};
-ghost use Rattle.tk_report.specs.Serving.{Serving, read_under};
-ghost use Rattle.tk_run.specs.Rows.{AreRows};
-ghost use Rattle.tk_run.specs.Under.{AreAsking, AreIdle, AskedInTurn, IsIdle, ServesAs};
-ghost use Rattle.tk_run.specs.Under.{asked_under, posed, wrote_under};
+ghost use Rattle.tk_run.specs.Plays.{AllAre, ArePosed, OnceItWrote, OnceWritten, asked_at};
+ghost use Rattle.tk_run.specs.Plays.{play_of, asks_at};
+ghost use Rattle.tk_run.specs.Under.{AreAsking, AreIdle, AskedInTurn, IsIdle, asked_under};
 
 use crate::frames::{Frames, deal, empty_rows};
 use crate::server::Server;
@@ -33,21 +27,10 @@ pub(crate) fn ask_all<D: Draws>(
     ensures clients { OnOk result
         (AreAsking plan.now.script.now plan.now.history.now turn clients.new) }
     ensures counted { IfOk result (λ rows. length rows.items ≡ plan.now.script.now.shape.servers) }
-    ensures asked { let S = plan.now.script.now in
-        let book = D.book plan.now.draws.now in
-        let history = plan.now.history.now in
-        (V : Serving) (Es : ℕ → List Placed) → ServesAs S book history V turn Es
-        → StandsFor S.shape (Es 1) server.now.state
-        → AreClients S.shape.clients (wrote_under S book history V turn) clients.old
-        → OnOk result (AreClients S.shape.clients (asked_under S book history V turn) clients.new) }
-    ensures posed { let S = plan.now.script.now in
-        let book = D.book plan.now.draws.now in
-        let history = plan.now.history.now in
-        (V : Serving) (Es : ℕ → List Placed) → ServesAs S book history V turn Es
-        → StandsFor S.shape (Es 1) server.now.state
-        → AreClients S.shape.clients (wrote_under S book history V turn) clients.old
-        → IfOk result (λ rows. AreRows S.shape.servers
-        (posed S book history V turn S.shape.clients) rows.items) }
+    ensures asked { let play = play_of plan.now in OnceWritten play turn server.now clients.old
+        (λ V. OnOk result (AllAre play V asked_under turn clients.new)) }
+    ensures posed { let play = play_of plan.now in OnceWritten play turn server.now clients.old
+        (λ V. IfOk result (λ rows. ArePosed play V turn rows.items)) }
 {
     let mut rows = empty_rows(alloc, plan.script.shape.servers)?;
     'asking: for (i, client) in clients.iter_mut().enumerate() {
@@ -74,22 +57,10 @@ fn ask<D: Draws>(
     requires client { IsIdle plan.now.script.now (spot.turn + 1) spot.place client.old }
     ensures client { OnOk result
         (AskedInTurn plan.now.script.now plan.now.history.now spot.turn spot.place client.new) }
-    ensures asked { let S = plan.now.script.now in
-        let book = D.book plan.now.draws.now in
-        let history = plan.now.history.now in
-        (V : Serving) (Es : ℕ → List Placed) → ServesAs S book history V spot.turn Es
-        → StandsFor S.shape (Es 1) server.now.state
-        → client.old ≡ wrote_under S book history V spot.turn spot.place
-        → OnOk result (client.new ≡ asked_under S book history V spot.turn spot.place) }
-    ensures frames { let S = plan.now.script.now in
-        let book = D.book plan.now.draws.now in
-        let history = plan.now.history.now in
-        (V : Serving) (Es : ℕ → List Placed) → ServesAs S book history V spot.turn Es
-        → StandsFor S.shape (Es 1) server.now.state
-        → client.old ≡ wrote_under S book history V spot.turn spot.place
-        → IfOk result (λ frames. frames.items
-        ≡ map (λ j. read_frame (read_under S book history V spot.turn spot.place j))
-        (range_with_len 1 S.shape.servers)) }
+    ensures asked { let play = play_of plan.now in OnceItWrote play spot server.now client.old
+        (λ V. OnOk result (client.new ≡ asked_at play V spot)) }
+    ensures frames { let play = play_of plan.now in OnceItWrote play spot server.now client.old
+        (λ V. IfOk result (λ frames. frames.items ≡ asks_at play V spot)) }
 {
     let epoch = plan.history.epoch(spot.turn, spot.place);
     // a server keeps the last epoch and the one before it, so that only memory may be wanting

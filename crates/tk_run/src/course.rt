@@ -2,21 +2,15 @@ ghost use Rattle.std.specs.Prelude.{◌≡◌, ◌≤◌, ◌<◌, ◌+◌, leng
 ghost use mathlib.Core.List.{IsPrefix};
 ghost use Rattle.tk_io.specs.Content.{Rose};
 ghost use Rattle.tk_shape.specs.Lengths.{turn_count};
-ghost use Rattle.tk_schedule.specs.declared.history.History.{History};
-ghost use Rattle.tk_run.specs.Courses.{IsCourse, HasWritten, GoesOn, AreSights};
-ghost use Rattle.tk_run.specs.Courses.{TapsAfterTurn, TapsAfterRun};
-ghost use Rattle.tk_run.specs.Acting.{Acted};
-ghost use Rattle.tk_run.specs.Ran.{Ran};
-ghost use Rattle.tk_run.specs.Ranging.{over_ranges};
-ghost use Rattle.tk_words.specs.Words.{words_of};
-ghost use Rattle.tk_report.specs.Entries.{write_at};
+ghost use Rattle.tk_run.specs.Stages.{ActedOn, AreSightsOn, HasWrittenOn, IsCourseOn, RanOn};
+ghost use Rattle.tk_run.specs.Stages.{TapsAfterRunOn, TapsAfterTurnOn};
 
 use crate::actors::{Cue, Desk, Herald, act};
-use crate::crew::Crew;
 use crate::desks::{cleared, desks_for};
 use crate::kept::Kept;
 use crate::pinned_write::PinnedWrite;
 use crate::run_error::RunError;
+use crate::stage::Stage;
 use crate::sums::Sums;
 use crate::talk::{Round, talk_all};
 use crate::tap_bytes::{entries_from, give_sights, sights_from};
@@ -24,28 +18,14 @@ use crate::turn_order::turn_from;
 use std::alloc::AllocGlobal;
 use std::sync::Wait;
 use std::thread::Threads;
-use tk_cluster::{Cluster, Pass};
+use tk_cluster::Pass;
 use tk_frames::one_spelling;
 use tk_io::{Gate, Taps};
 use tk_order::Naming;
 use tk_report::Group;
 use tk_schedule::{TurnOrder, closes};
-use tk_script::Script;
 use tk_shape::{Bytes, Memory};
 use tk_words::Draws;
-
-/// What stays the same in a run of threads.
-#[derive(Drop)]
-pub(crate) struct Stage<'a, B: Naming, D: Draws, G: Gate, A: Sums> {
-    pub script: &'a Script,
-    pub draws: &'a D,
-    pub gate: &'a G,
-    pub sums: &'a A,
-    pub cluster: &'a Cluster<B>,
-    pub crew: Crew,
-    pub ghost same: { B.shape ≡ script.now.shape },
-    pub ghost one_shape: { D.shape draws.now ≡ script.now.shape },
-}
 
 /// A run of threads between two turns: how the turns so far came about, and the clients, their
 /// passes and the publisher after them.
@@ -73,26 +53,9 @@ pub(crate) fn run_turns<
     course: &mut Course<B>,
     taps: &mut T,
 ) -> Result<(), RunError>
-    requires { let stage = stage.now in
-        let S = stage.script.now in
-        let book = D.book stage.draws.now in
-        let V = over_ranges S book stage.crew.shards (A.sum stage.sums.now) in
-        IsCourse S book V 0
-        course.old.turns.items course.old.group course.old.passes.items
-        course.old.herald.publisher }
-    ensures course { let stage = stage.now in
-        let S = stage.script.now in
-        let book = D.book stage.draws.now in
-        let V = over_ranges S book stage.crew.shards (A.sum stage.sums.now) in
-        OnOk result
-        (IsCourse S book V (turn_count S.shape)
-        course.new.turns.items course.new.group course.new.passes.items
-        course.new.herald.publisher) }
-    ensures taps { let stage = stage.now in
-        let S = stage.script.now in
-        let book = D.book stage.draws.now in
-        let V = over_ranges S book stage.crew.shards (A.sum stage.sums.now) in
-        TapsAfterRun S book V result course.new.turns.items (T.tap taps.old) (T.tap taps.new) }
+    requires { IsCourseOn stage.now 0 course.old }
+    ensures course { OnOk result (IsCourseOn stage.now (turn_count stage.now.script.now.shape) course.new) }
+    ensures taps { TapsAfterRunOn stage.now result course.new (T.tap taps.old) (T.tap taps.new) }
     ensures rose { IfErr result (λ e. e ≡ RunError.Taps
         → Rose (T.faults taps.old) (T.faults taps.new)) }
     ensures counts { T.faults taps.old ≤ T.faults taps.new }
@@ -120,28 +83,11 @@ fn run_turn<
     taps: &mut T,
 ) -> Result<(), RunError>
     requires turn_in { turn < turn_count stage.now.script.now.shape }
-    requires course { let stage = stage.now in
-        let S = stage.script.now in
-        let book = D.book stage.draws.now in
-        let V = over_ranges S book stage.crew.shards (A.sum stage.sums.now) in
-        IsCourse S book V turn
-        course.old.turns.items course.old.group course.old.passes.items
-        course.old.herald.publisher }
+    requires course { IsCourseOn stage.now turn course.old }
     ensures behind { OnOk result (IsPrefix course.old.turns.items course.new.turns.items) }
-    ensures course { let stage = stage.now in
-        let S = stage.script.now in
-        let book = D.book stage.draws.now in
-        let V = over_ranges S book stage.crew.shards (A.sum stage.sums.now) in
-        OnOk result
-        (IsCourse S book V (turn + 1)
-        course.new.turns.items course.new.group course.new.passes.items
-        course.new.herald.publisher) }
-    ensures taps { let stage = stage.now in
-        let S = stage.script.now in
-        let book = D.book stage.draws.now in
-        let V = over_ranges S book stage.crew.shards (A.sum stage.sums.now) in
-        TapsAfterTurn S book V turn result
-        course.old.turns.items course.new.turns.items (T.tap taps.old) (T.tap taps.new) }
+    ensures course { OnOk result (IsCourseOn stage.now (turn + 1) course.new) }
+    ensures taps { TapsAfterTurnOn stage.now turn result course.old course.new
+        (T.tap taps.old) (T.tap taps.new) }
     ensures rose { IfErr result (λ e. e ≡ RunError.Taps
         → Rose (T.faults taps.old) (T.faults taps.new)) }
     ensures counts { T.faults taps.old ≤ T.faults taps.new }
@@ -167,28 +113,10 @@ fn play_turn<
     course: &mut Course<B>,
 ) -> Result<Vec<Bytes>, Memory>
     requires turn_in { turn < turn_count stage.now.script.now.shape }
-    requires course { let stage = stage.now in
-        let S = stage.script.now in
-        let book = D.book stage.draws.now in
-        let V = over_ranges S book stage.crew.shards (A.sum stage.sums.now) in
-        IsCourse S book V turn
-        course.old.turns.items course.old.group course.old.passes.items
-        course.old.herald.publisher }
+    requires course { IsCourseOn stage.now turn course.old }
     ensures behind { OnOk result (IsPrefix course.old.turns.items course.new.turns.items) }
-    ensures course { let stage = stage.now in
-        let S = stage.script.now in
-        let book = D.book stage.draws.now in
-        let V = over_ranges S book stage.crew.shards (A.sum stage.sums.now) in
-        OnOk result
-        (IsCourse S book V (turn + 1)
-        course.new.turns.items course.new.group course.new.passes.items
-        course.new.herald.publisher) }
-    ensures sights { let stage = stage.now in
-        let S = stage.script.now in
-        let book = D.book stage.draws.now in
-        let V = over_ranges S book stage.crew.shards (A.sum stage.sums.now) in
-        IfOk result (λ v. (H : History) → GoesOn S.shape course.new.turns.items H
-        → AreSights S book H (V H) turn v.items) }
+    ensures course { OnOk result (IsCourseOn stage.now (turn + 1) course.new) }
+    ensures sights { IfOk result (λ v. AreSightsOn stage.now turn course.new v.items) }
 {
     let (deeds, entries) = write_turn(rt, stage, turn, course)?;
     let servers = stage.script.shape.servers;
@@ -226,21 +154,10 @@ fn write_turn<
     course: &mut Course<B>,
 ) -> Result<(Vec<PinnedWrite>, Vec<u8>), Memory>
     requires turn_in { turn < turn_count stage.now.script.now.shape }
-    requires course { let stage = stage.now in
-        let S = stage.script.now in
-        let book = D.book stage.draws.now in
-        let V = over_ranges S book stage.crew.shards (A.sum stage.sums.now) in
-        IsCourse S book V turn
-        course.old.turns.items course.old.group course.old.passes.items
-        course.old.herald.publisher }
+    requires course { IsCourseOn stage.now turn course.old }
     ensures behind { OnOk result (IsPrefix course.old.turns.items course.new.turns.items) }
-    ensures written { let stage = stage.now in
-        let S = stage.script.now in
-        let book = D.book stage.draws.now in
-        let V = over_ranges S book stage.crew.shards (A.sum stage.sums.now) in
-        IfOk result (λ r. HasWritten S book V turn
-        course.new.turns.items course.new.group course.new.passes.items
-        course.new.herald.publisher r.0.items r.1.items) }
+    ensures written { IfOk result
+        (λ r. HasWrittenOn stage.now turn course.new r.0.items r.1.items) }
 {
     let alloc = rt.alloc();
     let script = stage.script;
@@ -274,16 +191,12 @@ fn act_in<
 ) -> Result<(), Memory>
     requires turn_in { turn < turn_count stage.now.script.now.shape }
     requires counted { length desks.old ≡ length course.old.passes.items }
-    requires ran { let S = stage.now.script.now in
-        let write = write_at S (words_of S.shape (D.book stage.now.draws.now)) in
-        Ran S.shape write course.old.turns.items course.old.passes.items
-        course.old.herald.publisher }
+    requires ran { RanOn stage.now course.old }
     requires turns { length course.old.turns.items ≡ turn }
     ensures turns { course.new.turns.items ≡ course.old.turns.items }
     ensures group { course.new.group ≡ course.old.group }
-    ensures acted { OnOk result (Acted stage.now.script.now.shape turn course.old.passes.items
-        course.old.herald.publisher desks.old desks.new course.new.passes.items
-        course.new.herald.publisher) }
+    ensures acted { OnOk result
+        (ActedOn stage.now turn course.old desks.old desks.new course.new) }
 {
     let shape = &stage.script.shape;
     let cue = Cue {

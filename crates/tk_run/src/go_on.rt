@@ -3,9 +3,10 @@ ghost use Rattle.std.specs.Prelude.{◌≡◌, ◌≢◌, ◌++◌, ◌∷◌, [
 ghost use Rattle.tk_frames.specs.declared.entry.Placed.{Placed};
 ghost use Rattle.tk_replica.specs.Restoring.{EndsWithMark};
 ghost use Rattle.tk_checkpoint.specs.Saved.{saved};
-ghost use Rattle.tk_run.specs.Keeping.{AreAccepted, AreGiven, HaveBegunAnew, IsAccepted, OneRefuses};
-ghost use Rattle.tk_run.specs.Keeping.{is_due};
-ghost use Rattle.tk_run.specs.Servers.{AreReady, AreServers, alike, nothing_seen};
+ghost use Rattle.tk_run.specs.Keeping.{AreAccepted, AreGiven, HaveBegunAnew, KeptAndRefused};
+ghost use Rattle.tk_run.specs.Keeping.{OneRefuses, is_due};
+ghost use Rattle.tk_run.specs.Resumption.{IfRefused};
+ghost use Rattle.tk_run.specs.Servers.{AreReady, AreServers, WhereAlike, alike, nothing_seen};
 
 use crate::keeper::Keeper;
 use crate::resume_error::ResumeError;
@@ -32,15 +33,11 @@ pub(crate) fn go_on_before<K: Keeper>(
     ensures kept { is_due due turn ≡ true → (E : List Placed) (seen : ℕ → List ℕ)
         → AreServers shape.now (alike E) seen servers.old.list.items
         → OnOk result (K.kept keeper.new ≡ K.kept keeper.old ++ saved shape.now E ∷ []) }
-    ensures accepted { is_due due turn ≡ true → (E : List Placed)
-        → AreServers shape.now (alike E) nothing_seen servers.old.list.items
-        → OnOk result (AreAccepted shape.now E (K.gives keeper.new)) }
-    ensures refused { is_due due turn ≡ true → (E : List Placed)
-        → AreServers shape.now (alike E) nothing_seen servers.old.list.items
-        → IfErr result (λ e. e ≡ ResumeError.Refused
-        → (K.kept keeper.new ≡ K.kept keeper.old ++ saved shape.now E ∷ [])
-        × IsAccepted shape.now E (saved shape.now E)
-        × OneRefuses shape.now E (K.gives keeper.new)) }
+    ensures accepted { is_due due turn ≡ true → WhereAlike shape.now servers.old.list.items
+        (λ E. OnOk result (AreAccepted shape.now E (K.gives keeper.new))) }
+    ensures refused { is_due due turn ≡ true → WhereAlike shape.now servers.old.list.items
+        (λ E. IfRefused result
+        (KeptAndRefused shape.now E (K.kept keeper.old) K.kept K.gives keeper.new)) }
     ensures anew { is_due due turn ≡ true
         → OnOk result (HaveBegunAnew shape.now (K.gives keeper.new) servers.new.list.items) }
     ensures ready { (E : List Placed) → AreReady shape.now E servers.old.list.items
@@ -67,13 +64,10 @@ fn go_on_all<K: Keeper>(
     servers: &mut [Server],
 ) -> Result<(), ResumeError>
     requires { length servers.old ≤ 8 }
-    ensures accepted { (E : List Placed)
-        → AreServers shape.now (alike E) nothing_seen servers.old
-        → OnOk result (AreAccepted shape.now E (K.gives keeper.now)) }
-    ensures refused { (E : List Placed)
-        → AreServers shape.now (alike E) nothing_seen servers.old
-        → IfErr result (λ e. e ≡ ResumeError.Refused
-        → OneRefuses shape.now E (K.gives keeper.now)) }
+    ensures accepted { WhereAlike shape.now servers.old
+        (λ E. OnOk result (AreAccepted shape.now E (K.gives keeper.now))) }
+    ensures refused { WhereAlike shape.now servers.old
+        (λ E. IfRefused result (OneRefuses shape.now E (K.gives keeper.now))) }
     ensures anew { OnOk result (HaveBegunAnew shape.now (K.gives keeper.now) servers.new) }
     ensures ready { (E : List Placed) → AreReady shape.now E servers.old
         → OnOk result (AreReady shape.now E servers.new) }

@@ -26,6 +26,7 @@ mod serially;
 mod server;
 mod servers;
 mod side_by_side;
+mod stage;
 mod stations;
 mod sums;
 mod taken;

@@ -1,10 +1,8 @@
 //! What a server replies to reads, where its blocks are divided into ranges.
-ghost use Rattle.std.specs.Prelude.{◌≤◌, ◌≡◌, List, map, IfOk};
+ghost use Rattle.std.specs.Prelude.{◌≤◌};
 ghost use Rattle.std.specs.List.{All};
-ghost use Rattle.tk_shape.specs.declared.shape.Shape.{Shape};
-ghost use Rattle.tk_frames.specs.declared.entry.Placed.{Placed};
 ghost use Rattle.tk_cluster.specs.Refusals.{IsAsked};
-ghost use Rattle.tk_cluster.specs.Sets.{StandsAtMark};
+ghost use Rattle.tk_run.specs.Answering.{AnswersFrom};
 ghost use Rattle.tk_run.specs.Ranging.{made_due};
 
 use crate::crew::Crew;
@@ -29,9 +27,7 @@ pub(crate) fn batch_in_ranges<A: Sums, R: Threads + Sync + AllocGlobal>(
 ) -> Result<Vec<Bytes>, Memory>
     requires server { (1 ≤ server) × (server ≤ set.now.shape.servers) }
     requires asked { All (IsAsked set.now) frames.now }
-    ensures { (shape : Shape) (E : List Placed) → StandsAtMark shape E set.now.number set.now
-        → IfOk result (λ replies. replies.items
-        ≡ map (made_due (A.sum sums.now) crew.shards shape E) frames.now) }
+    ensures { AnswersFrom (made_due (A.sum sums.now) crew.shards) set.now frames.now result }
 {
     let alloc = rt.alloc();
     let (askers, vectors) = match set.reads(alloc, frames) {

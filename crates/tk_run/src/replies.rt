@@ -6,9 +6,8 @@ ghost use Rattle.tk_frames.specs.declared.entry.Placed.{Placed};
 ghost use Rattle.tk_replica.specs.Replies.{reply_bytes};
 ghost use Rattle.tk_cluster.specs.declared.error.AnswerError.TheVariants as errors;
 ghost use Rattle.tk_cluster.specs.Refusals.{IsAsked};
-ghost use Rattle.tk_cluster.specs.Sets.{StandsAtMark};
 ghost use Rattle.tk_run.specs.declared.talk.Reading.{Reading as ReadingOf};
-ghost use Rattle.tk_run.specs.Answering.{AreAllAsked, MayReply, AllStand, AreReplies};
+ghost use Rattle.tk_run.specs.Answering.{AreAllAsked, MayReply, AllStand, AnswersFrom, AreReplies};
 ghost use Rattle.tk_run.specs.Answering.{frame_of, epoch_of};
 ghost use Rattle.tk_run.specs.Ranging.{bytes_made};
 
@@ -112,9 +111,7 @@ fn batch<A: Sums, R: Threads + Sync + AllocGlobal>(
 ) -> Result<Vec<Bytes>, Memory>
     requires server { (1 ≤ server) × (server ≤ set.now.shape.servers) }
     requires asked { All (IsAsked set.now) frames.now }
-    ensures { (shape : Shape) (E : List Placed) → StandsAtMark shape E set.now.number set.now
-        → IfOk result (λ replies. replies.items
-        ≡ map (bytes_made (A.sum sums.now) crew.shards shape E) frames.now) }
+    ensures { AnswersFrom (bytes_made (A.sum sums.now) crew.shards) set.now frames.now result }
 {
     if crew.shards > 1 {
         return batch_in_ranges(rt, sums, kept, set, server, frames, crew);
@@ -132,8 +129,7 @@ fn batch_at_once<R: Threads + Sync>(
 ) -> Result<Vec<Bytes>, Memory>
     requires server { (1 ≤ server) × (server ≤ set.now.shape.servers) }
     requires asked { All (IsAsked set.now) frames.now }
-    ensures { (shape : Shape) (E : List Placed) → StandsAtMark shape E set.now.number set.now
-        → IfOk result (λ replies. replies.items ≡ map (reply_bytes shape E) frames.now) }
+    ensures { AnswersFrom reply_bytes set.now frames.now result }
 {
     match set.answer_many(rt, server, frames, crew.workers) {
         Ok(replies) => Ok(replies),

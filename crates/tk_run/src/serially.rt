@@ -1,16 +1,14 @@
-ghost use Rattle.std.specs.Prelude.{◌≡◌, ◌≤◌, ◌*◌, ◌++◌, ◌∷◌, [], ℕ, List, IfOk, IfErr, OnOk, OnErr};
+ghost use Rattle.std.specs.Prelude.{◌≡◌, ◌≤◌, ◌++◌, ◌∷◌, [], IfOk, IfErr, OnOk, OnErr};
 ghost use Rattle.tk_io.specs.Content.{Rose};
-ghost use Rattle.tk_run.specs.Keeping.{AreAccepted, BeginFrom, HasRefused, HaveAccepted, IsEndUnder};
-ghost use Rattle.tk_run.specs.Keeping.{begun_anew, held_now, kept_up_to, saved_before, turn_due};
-ghost use Rattle.tk_shape.specs.Lengths.{turn_count};
+ghost use Rattle.tk_io.specs.Tapped.{TapsGain, TapsGainFronts, TapsKeepBut};
 ghost use Rattle.tk_schedule.specs.Schedule.{IsLegal, serial_history};
 ghost use Rattle.tk_words.specs.Words.{words_of};
-ghost use Rattle.tk_frames.specs.declared.entry.Placed.{Placed};
-ghost use Rattle.tk_report.specs.Exchange.{exchange, bytes_of};
 ghost use Rattle.tk_report.specs.Outcomes.{IsLeftBy};
-ghost use Rattle.tk_report.specs.Serving.{exchange_under};
-ghost use Rattle.tk_report.specs.Turns.{placed_before};
-ghost use Rattle.tk_io.specs.Tapped.{TapsGain, TapsGainFronts, TapsKeepBut};
+ghost use Rattle.tk_run.specs.Plays.{serial_sight};
+ghost use Rattle.tk_run.specs.Resumption.{AcceptedSince, AllAccept, EndsAnew, GainsAnew};
+ghost use Rattle.tk_run.specs.Resumption.{FrontsAnew, IfRefused, IfTapFails, RefusedSince};
+ghost use Rattle.tk_run.specs.Resumption.{due_in, kept_in_all, resumed_after, resumed_at, serial_saved};
+ghost use Rattle.tk_run.specs.Resumption.{turns_in};
 
 use crate::ended::Ended;
 use crate::keeper::{Keeper, Shelf};
@@ -34,14 +32,10 @@ pub fn serial<D: Draws, T: Taps>(
     requires one_shape { D.shape draws.now ≡ script.now.shape }
     ensures left { let words = words_of script.now.shape (D.book draws.now) in
         IfOk result (IsLeftBy script.now words (serial_history script.now.shape)) }
-    ensures ok { let history = serial_history script.now.shape in
-        OnOk result (TapsGain script.now.shape.servers
-        (λ j. bytes_of (exchange script.now (D.book draws.now) history j))
-        (T.tap taps.old) (T.tap taps.new)) }
-    ensures err { let history = serial_history script.now.shape in
-        OnErr result (TapsGainFronts script.now.shape.servers
-        (λ j. bytes_of (exchange script.now (D.book draws.now) history j))
-        (T.tap taps.old) (T.tap taps.new)) }
+    ensures ok { OnOk result (TapsGain script.now.shape.servers
+        (serial_sight script.now (D.book draws.now)) (T.tap taps.old) (T.tap taps.new)) }
+    ensures err { OnErr result (TapsGainFronts script.now.shape.servers
+        (serial_sight script.now (D.book draws.now)) (T.tap taps.old) (T.tap taps.new)) }
     ensures others { TapsKeepBut script.now.shape.servers (T.tap taps.old) (T.tap taps.new) }
     ensures rose { IfErr result (λ e. e ≡ RunError.Taps
         → Rose (T.faults taps.old) (T.faults taps.new)) }
@@ -75,14 +69,10 @@ pub fn resumed<D: Draws, T: Taps>(
     requires within { epoch ≤ script.now.shape.phases }
     ensures left { let words = words_of script.now.shape (D.book draws.now) in
         IfOk result (IsLeftBy script.now words (serial_history script.now.shape)) }
-    ensures ok { let history = serial_history script.now.shape in
-        OnOk result (TapsGain script.now.shape.servers
-        (λ j. bytes_of (exchange script.now (D.book draws.now) history j))
-        (T.tap taps.old) (T.tap taps.new)) }
-    ensures err { let history = serial_history script.now.shape in
-        OnErr result (TapsGainFronts script.now.shape.servers
-        (λ j. bytes_of (exchange script.now (D.book draws.now) history j))
-        (T.tap taps.old) (T.tap taps.new)) }
+    ensures ok { OnOk result (TapsGain script.now.shape.servers
+        (serial_sight script.now (D.book draws.now)) (T.tap taps.old) (T.tap taps.new)) }
+    ensures err { OnErr result (TapsGainFronts script.now.shape.servers
+        (serial_sight script.now (D.book draws.now)) (T.tap taps.old) (T.tap taps.new)) }
     ensures others { TapsKeepBut script.now.shape.servers (T.tap taps.old) (T.tap taps.new) }
     ensures rose { IfErr result (λ e. e ≡ RunError.Taps
         → Rose (T.faults taps.old) (T.faults taps.new)) }
@@ -102,20 +92,14 @@ pub fn resumed_on<D: Draws, T: Taps>(
 ) -> Result<Outcome, RunError>
     requires one_shape { D.shape draws.now ≡ script.now.shape }
     requires within { epoch ≤ script.now.shape.phases }
-    ensures kept { let S = script.now in
-        let at = saved_before S (D.book draws.now) (serial_history S.shape) in
-        OnOk result (shelf.new.list.items
-        ≡ shelf.old.list.items ++ at (epoch * S.shape.ticks) ∷ []) }
+    ensures kept { OnOk result (shelf.new.list.items ≡ shelf.old.list.items
+        ++ serial_saved script.now (D.book draws.now) epoch ∷ []) }
     ensures left { let words = words_of script.now.shape (D.book draws.now) in
         IfOk result (IsLeftBy script.now words (serial_history script.now.shape)) }
-    ensures ok { let history = serial_history script.now.shape in
-        OnOk result (TapsGain script.now.shape.servers
-        (λ j. bytes_of (exchange script.now (D.book draws.now) history j))
-        (T.tap taps.old) (T.tap taps.new)) }
-    ensures err { let history = serial_history script.now.shape in
-        OnErr result (TapsGainFronts script.now.shape.servers
-        (λ j. bytes_of (exchange script.now (D.book draws.now) history j))
-        (T.tap taps.old) (T.tap taps.new)) }
+    ensures ok { OnOk result (TapsGain script.now.shape.servers
+        (serial_sight script.now (D.book draws.now)) (T.tap taps.old) (T.tap taps.new)) }
+    ensures err { OnErr result (TapsGainFronts script.now.shape.servers
+        (serial_sight script.now (D.book draws.now)) (T.tap taps.old) (T.tap taps.new)) }
     ensures others { TapsKeepBut script.now.shape.servers (T.tap taps.old) (T.tap taps.new) }
     ensures rose { IfErr result (λ e. e ≡ RunError.Taps
         → Rose (T.faults taps.old) (T.faults taps.new)) }
@@ -142,49 +126,22 @@ pub fn resumed_by<D: Draws, T: Taps, K: Keeper>(
 ) -> Result<Ended, ResumeError>
     requires one_shape { D.shape draws.now ≡ script.now.shape }
     requires within { epoch ≤ script.now.shape.phases }
-    ensures kept { let S = script.now in
-        let at = saved_before S (D.book draws.now) (serial_history S.shape) in
-        OnOk result (K.kept keeper.new
-        ≡ K.kept keeper.old ++ at (epoch * S.shape.ticks) ∷ []) }
-    ensures accepted { let S = script.now in
-        let words = words_of S.shape (D.book draws.now) in
-        OnOk result (AreAccepted S.shape
-        (placed_before S words (serial_history S.shape) (epoch * S.shape.ticks))
+    ensures kept { OnOk result (K.kept keeper.new ≡ K.kept keeper.old
+        ++ serial_saved script.now (D.book draws.now) epoch ∷ []) }
+    ensures accepted { OnOk result (AllAccept (resumed_after script.now (D.book draws.now) epoch)
         (K.gives keeper.new)) }
-    ensures refused { let S = script.now in
-        IfErr result (λ e. e ≡ ResumeError.Refused
-        → HasRefused S (D.book draws.now) (serial_history S.shape) (epoch * S.shape.ticks)
-        (K.kept keeper.old) (K.kept keeper.new) (K.gives keeper.new)) }
-    ensures failed { let S = script.now in
-        IfErr result (λ e. e ≡ ResumeError.Taps
-        → HaveAccepted S (D.book draws.now) (serial_history S.shape) (epoch * S.shape.ticks)
-        (K.kept keeper.old) (K.kept keeper.new) (K.gives keeper.new)) }
-    ensures left { let S = script.now in
-        let book = D.book draws.now in
-        let history = serial_history S.shape in
-        let due = epoch * S.shape.ticks in
-        (given : ℕ → List Placed)
-        → BeginFrom S book history due (K.kept keeper.old) (K.kept keeper.new) (K.gives keeper.new) given
-        → IfOk result (IsEndUnder S book history (begun_anew S book history due given)
-        (held_now S (words_of S.shape book) history due given (turn_count S.shape) 1)) }
-    ensures ok { let S = script.now in
-        let book = D.book draws.now in
-        let history = serial_history S.shape in
-        let due = epoch * S.shape.ticks in
-        (given : ℕ → List Placed)
-        → BeginFrom S book history due (K.kept keeper.old) (K.kept keeper.new) (K.gives keeper.new) given
-        → OnOk result (TapsGain S.shape.servers
-        (λ j. bytes_of (exchange_under S book history (begun_anew S book history due given) j))
-        (T.tap taps.old) (T.tap taps.new)) }
-    ensures err { let S = script.now in
-        let book = D.book draws.now in
-        let history = serial_history S.shape in
-        let due = epoch * S.shape.ticks in
-        (given : ℕ → List Placed)
-        → BeginFrom S book history due (K.kept keeper.old) (K.kept keeper.new) (K.gives keeper.new) given
-        → OnErr result (TapsGainFronts S.shape.servers
-        (λ j. bytes_of (exchange_under S book history (begun_anew S book history due given) j))
-        (T.tap taps.old) (T.tap taps.new)) }
+    ensures refused { IfRefused result (RefusedSince
+        (resumed_after script.now (D.book draws.now) epoch)
+        (K.kept keeper.old) K.kept K.gives keeper.new) }
+    ensures failed { IfTapFails result (AcceptedSince
+        (resumed_after script.now (D.book draws.now) epoch)
+        (K.kept keeper.old) K.kept K.gives keeper.new) }
+    ensures left { EndsAnew (resumed_after script.now (D.book draws.now) epoch)
+        (K.kept keeper.old) K.kept K.gives keeper.new result }
+    ensures ok { GainsAnew (resumed_after script.now (D.book draws.now) epoch)
+        (K.kept keeper.old) K.kept K.gives keeper.new result T.tap taps.old taps.new }
+    ensures err { FrontsAnew (resumed_after script.now (D.book draws.now) epoch)
+        (K.kept keeper.old) K.kept K.gives keeper.new result T.tap taps.old taps.new }
     ensures others { TapsKeepBut script.now.shape.servers (T.tap taps.old) (T.tap taps.new) }
     ensures rose { IfErr result (λ e. e ≡ ResumeError.Taps
         → Rose (T.faults taps.old) (T.faults taps.new)) }
@@ -207,47 +164,22 @@ fn run_turns<D: Draws, T: Taps, K: Keeper>(
 ) -> Result<Ended, ResumeError>
     requires one_shape { D.shape draws.now ≡ script.now.shape }
     requires legal { IsLegal script.now.shape history.now }
-    ensures kept { let S = script.now in
-        let at = saved_before S (D.book draws.now) history.now in
-        OnOk result (K.kept keeper.new
-        ≡ K.kept keeper.old ++ kept_up_to due at (turn_count S.shape)) }
-    ensures accepted { let S = script.now in
-        let words = words_of S.shape (D.book draws.now) in
-        let begin = turn_due S due in
-        begin ≤ turn_count S.shape
-        → OnOk result (AreAccepted S.shape (placed_before S words history.now begin)
-        (K.gives keeper.new)) }
-    ensures refused { let S = script.now in
-        IfErr result (λ e. e ≡ ResumeError.Refused
-        → HasRefused S (D.book draws.now) history.now (turn_due S due)
-        (K.kept keeper.old) (K.kept keeper.new) (K.gives keeper.new)) }
-    ensures failed { let S = script.now in
-        IfErr result (λ e. e ≡ ResumeError.Taps
-        → HaveAccepted S (D.book draws.now) history.now (turn_due S due)
-        (K.kept keeper.old) (K.kept keeper.new) (K.gives keeper.new)) }
-    ensures left { let S = script.now in
-        let book = D.book draws.now in
-        let begin = turn_due S due in
-        (given : ℕ → List Placed) → BeginFrom S book history.now begin (K.kept keeper.old)
-        (K.kept keeper.new) (K.gives keeper.new) given
-        → IfOk result (IsEndUnder S book history.now (begun_anew S book history.now begin given)
-        (held_now S (words_of S.shape book) history.now begin given (turn_count S.shape) 1)) }
-    ensures ok { let S = script.now in
-        let book = D.book draws.now in
-        let begin = turn_due S due in
-        (given : ℕ → List Placed) → BeginFrom S book history.now begin (K.kept keeper.old)
-        (K.kept keeper.new) (K.gives keeper.new) given
-        → OnOk result (TapsGain S.shape.servers (λ j. bytes_of
-        (exchange_under S book history.now (begun_anew S book history.now begin given) j))
-        (T.tap taps.old) (T.tap taps.new)) }
-    ensures err { let S = script.now in
-        let book = D.book draws.now in
-        let begin = turn_due S due in
-        (given : ℕ → List Placed) → BeginFrom S book history.now begin (K.kept keeper.old)
-        (K.kept keeper.new) (K.gives keeper.new) given
-        → OnErr result (TapsGainFronts S.shape.servers (λ j. bytes_of
-        (exchange_under S book history.now (begun_anew S book history.now begin given) j))
-        (T.tap taps.old) (T.tap taps.new)) }
+    ensures kept { let anew = resumed_at script.now (D.book draws.now) history.now due in
+        OnOk result (K.kept keeper.new ≡ K.kept keeper.old ++ kept_in_all anew) }
+    ensures accepted { let anew = resumed_at script.now (D.book draws.now) history.now due in
+        due_in anew ≤ turns_in anew → OnOk result (AllAccept anew (K.gives keeper.new)) }
+    ensures refused { IfRefused result (RefusedSince
+        (resumed_at script.now (D.book draws.now) history.now due)
+        (K.kept keeper.old) K.kept K.gives keeper.new) }
+    ensures failed { IfTapFails result (AcceptedSince
+        (resumed_at script.now (D.book draws.now) history.now due)
+        (K.kept keeper.old) K.kept K.gives keeper.new) }
+    ensures left { EndsAnew (resumed_at script.now (D.book draws.now) history.now due)
+        (K.kept keeper.old) K.kept K.gives keeper.new result }
+    ensures ok { GainsAnew (resumed_at script.now (D.book draws.now) history.now due)
+        (K.kept keeper.old) K.kept K.gives keeper.new result T.tap taps.old taps.new }
+    ensures err { FrontsAnew (resumed_at script.now (D.book draws.now) history.now due)
+        (K.kept keeper.old) K.kept K.gives keeper.new result T.tap taps.old taps.new }
     ensures others { TapsKeepBut script.now.shape.servers (T.tap taps.old) (T.tap taps.new) }
     ensures rose { IfErr result (λ e. e ≡ ResumeError.Taps
         → Rose (T.faults taps.old) (T.faults taps.new)) }

@@ -37,14 +37,15 @@ impl Server {
     ghost use Rattle.std.specs.Prelude.{◌≡◌, ◌≢◌, ◌++◌, ◌∷◌, [], ℕ, List, length, map, IfOk, IfErr, OnOk};
     ghost use Rattle.tk_shape.specs.declared.shape.Shape.{Shape};
     ghost use Rattle.tk_frames.specs.declared.entry.Placed.{Placed};
-    ghost use Rattle.tk_frames.specs.declared.read_frame.ReadFrame.{ReadFrame};
     ghost use Rattle.tk_frames.specs.Spelling.{placed_frame, reply_frame};
     ghost use Rattle.tk_frames.specs.InOrder.{IsNext, IsOrder};
     ghost use Rattle.tk_replica.specs.Replies.{reply_for};
     ghost use Rattle.tk_replica.specs.Restoring.{EndsWithMark};
     ghost use Rattle.tk_checkpoint.specs.Saved.{saved};
     ghost use Rattle.tk_report.specs.Displaced.{displaced_in};
-    ghost use Rattle.tk_run.specs.Servers.{IsServerAt, MayWriteAndPin, MayTakeReplies, AreReadFrames, answered};
+    ghost use Rattle.tk_run.specs.Resumption.{IfRefused};
+    ghost use Rattle.tk_run.specs.Servers.{IsServerAt, MayWriteAndPin, MayTakeReplies, WhateverItHolds, WhicheverReads};
+    ghost use Rattle.tk_run.specs.Servers.{answered};
     ghost use Rattle.tk_run.specs.Rows.{in_pairs};
     ghost use Rattle.tk_run.specs.Keeping.{HasBegunAnew, IsAccepted};
 
@@ -67,9 +68,8 @@ impl Server {
         ensures ready { (shape : Shape) (E : List Placed)
             → MayWriteAndPin shape E self.old → IsNext shape E placed.now
             → OnOk result (MayWriteAndPin shape (E ++ placed.now ∷ []) self.new) }
-        ensures server { (shape : Shape) (E : List Placed) (bytes : List ℕ)
-            → IsServerAt shape E bytes self.old → OnOk result
-            (IsServerAt shape (E ++ placed.now ∷ []) (bytes ++ placed_frame placed.now) self.new) }
+        ensures server { WhateverItHolds self.old (λ shape E bytes. OnOk result
+            (IsServerAt shape (E ++ placed.now ∷ []) (bytes ++ placed_frame placed.now) self.new)) }
     {
         // (its replica has applied as many as came before)
         if placed.position - 1 != self.state.applied() {
@@ -87,16 +87,10 @@ impl Server {
     pub(crate) fn answer(&mut self, alloc: Global, frames: &[Bytes]) -> Result<Vec<Bytes>, Memory>
         ensures ready { (shape : Shape) (E : List Placed) → MayWriteAndPin shape E self.old
             → OnOk result (MayWriteAndPin shape E self.new) }
-        ensures replies { (shape : Shape) (E : List Placed) (bytes : List ℕ)
-            (reads : List ReadFrame)
-            → IsServerAt shape E bytes self.old → AreReadFrames shape reads frames.now
-            → IfOk result (λ replies.
-            replies.items ≡ map reply_frame (map (reply_for shape E) reads)) }
-        ensures server { (shape : Shape) (E : List Placed) (bytes : List ℕ)
-            (reads : List ReadFrame)
-            → IsServerAt shape E bytes self.old → AreReadFrames shape reads frames.now
-            → OnOk result
-            (IsServerAt shape E (bytes ++ answered shape E reads) self.new) }
+        ensures replies { WhicheverReads self.old frames.now (λ shape E bytes reads. IfOk result
+            (λ replies. replies.items ≡ map reply_frame (map (reply_for shape E) reads))) }
+        ensures server { WhicheverReads self.old frames.now (λ shape E bytes reads. OnOk result
+            (IsServerAt shape E (bytes ++ answered shape E reads) self.new)) }
     {
         // what clients send are reads of epochs that are kept, so that only memory may be wanting
         let Ok(replies) = self.state.serve_all_with(alloc, &mut self.spare, frames) else {
@@ -112,14 +106,11 @@ impl Server {
 
     /// The checkpoint of its replica, which has applied nothing behind its last mark.
     pub(crate) fn saved(&self, alloc: Global) -> Result<Vec<u8>, Memory>
-        ensures ends { (shape : Shape) (E : List Placed) (bytes : List ℕ)
-            → IsServerAt shape E bytes self.now → OnOk result (EndsWithMark E) }
-        ensures saved { (shape : Shape) (E : List Placed) (bytes : List ℕ)
-            → IsServerAt shape E bytes self.now
-            → IfOk result (λ out. out.items ≡ saved shape E) }
-        ensures accepted { (shape : Shape) (E : List Placed) (bytes : List ℕ)
-            → IsServerAt shape E bytes self.now
-            → OnOk result (IsAccepted shape E (saved shape E)) }
+        ensures ends { WhateverItHolds self.now (λ shape E bytes. OnOk result (EndsWithMark E)) }
+        ensures saved { WhateverItHolds self.now
+            (λ shape E bytes. IfOk result (λ out. out.items ≡ saved shape E)) }
+        ensures accepted { WhateverItHolds self.now
+            (λ shape E bytes. OnOk result (IsAccepted shape E (saved shape E))) }
     {
         let mut out = Vec::new(alloc);
         // the mark came last in its turn, so that only memory may be wanting
@@ -143,7 +134,7 @@ impl Server {
         ensures accepted { (E : List Placed) (seen : List ℕ) → IsServerAt shape.now E seen self.old
             → OnOk result (IsAccepted shape.now E bytes.now) }
         ensures refused { (E : List Placed) (seen : List ℕ) → IsServerAt shape.now E seen self.old
-            → IfErr result (λ e. e ≡ ResumeError.Refused → ¬ IsAccepted shape.now E bytes.now) }
+            → IfRefused result (¬ IsAccepted shape.now E bytes.now) }
         ensures anew { OnOk result (HasBegunAnew shape.now bytes.now self.new) }
         ensures ready { (E : List Placed) → MayWriteAndPin shape.now E self.old
             → OnOk result (MayWriteAndPin shape.now E self.new) }

@@ -1,11 +1,11 @@
-ghost use Rattle.std.specs.Prelude.{◌≡◌, ◌<◌, ◌++◌, ◌∷◌, [], ℕ, List, length, IfOk, OnOk};
+ghost use Rattle.std.specs.Prelude.{◌≡◌, ◌<◌, ◌++◌, ◌∷◌, [], List, length, IfOk, OnOk};
 ghost use Rattle.tk_shape.specs.declared.shape.Shape.{Shape};
 ghost use Rattle.tk_frames.specs.declared.entry.Placed.{Placed};
 ghost use Rattle.tk_frames.specs.Spelling.{placed_frame};
 ghost use Rattle.tk_frames.specs.InOrder.{IsNext};
 ghost use Rattle.tk_report.specs.Displaced.{displaced_in};
-ghost use Rattle.tk_run.specs.Servers.{AreServers, AreReady, TookOn, MayTakeAll, alike, with_more};
-ghost use Rattle.tk_run.specs.Servers.{nothing_seen};
+ghost use Rattle.tk_run.specs.Servers.{AreServers, AreReady, TookOn, MayTakeAll, WhateverTheyHold};
+ghost use Rattle.tk_run.specs.Servers.{alike, nothing_seen, with_more};
 
 use crate::server::Server;
 use std::alloc::Global;
@@ -25,8 +25,8 @@ impl Servers {
     /// How many writes were displaced when they came, as the first server counted them.
     pub(crate) fn displaced(&self) -> u32
         requires { 0 < length self.now.list.items }
-        ensures { (shape : Shape) (Es : ℕ → List Placed) (seen : ℕ → List ℕ)
-            → AreServers shape Es seen self.now.list.items → result ≡ displaced_in shape (Es 1) }
+        ensures { WhateverTheyHold self.now.list.items
+            (λ shape Es seen. result ≡ displaced_in shape (Es 1)) }
     {
         self.list[0].displaced
     }
@@ -55,10 +55,9 @@ pub(crate) fn take_all(alloc: Global, servers: &mut [Server], placed: &Placed) -
     ensures ready { (shape : Shape) (E : List Placed) → AreReady shape E servers.old
         → IsNext shape E placed.now
         → OnOk result (AreReady shape (E ++ placed.now ∷ []) servers.new) }
-    ensures servers { (shape : Shape) (Es : ℕ → List Placed) (seen : ℕ → List ℕ)
-        → AreServers shape Es seen servers.old
-        → OnOk result (AreServers shape (with_more Es (placed.now ∷ []))
-        (λ j. seen j ++ placed_frame placed.now) servers.new) }
+    ensures servers { WhateverTheyHold servers.old
+        (λ shape Es seen. OnOk result (AreServers shape (with_more Es (placed.now ∷ []))
+        (λ j. seen j ++ placed_frame placed.now) servers.new)) }
 {
     for server in servers.iter_mut() {
         server.take(alloc, placed)?;

@@ -2,7 +2,8 @@ ghost use Rattle.std.specs.Prelude.{◌≡◌, ◌≢◌, ◌≤◌, ℕ, [], Li
 ghost use Rattle.tk_io.specs.Content.{Rose, gained};
 ghost use Rattle.tk_shape.specs.declared.shape.Shape.{Shape};
 ghost use Rattle.tk_frames.specs.declared.entry.Placed.{Placed};
-ghost use Rattle.tk_run.specs.Servers.{IsServerAt, MayWriteAndPin, AreReady, AreServers, nothing_seen};
+ghost use Rattle.tk_run.specs.Servers.{IsServerAt, MayWriteAndPin, AreReady, AreServers, WhateverItHolds};
+ghost use Rattle.tk_run.specs.Servers.{WhateverTheyHold, nothing_seen};
 ghost use Rattle.tk_io.specs.Tapped.{GainsFront, TapsGain, TapsGainFronts, TapsKeepBut};
 
 use crate::server::Server;
@@ -14,15 +15,12 @@ pub(crate) fn give_all<T: Taps>(servers: &mut [Server], taps: &mut T) -> Result<
     requires { length servers.old ≤ 8 }
     ensures ready { (shape : Shape) (E : List Placed) → AreReady shape E servers.old
         → OnOk result (AreReady shape E servers.new) }
-    ensures servers { (shape : Shape) (Es : ℕ → List Placed) (seen : ℕ → List ℕ)
-        → AreServers shape Es seen servers.old
-        → OnOk result (AreServers shape Es nothing_seen servers.new) }
-    ensures ok { (shape : Shape) (Es : ℕ → List Placed) (seen : ℕ → List ℕ)
-        → AreServers shape Es seen servers.old
-        → OnOk result (TapsGain shape.servers seen (T.tap taps.old) (T.tap taps.new)) }
-    ensures err { (shape : Shape) (Es : ℕ → List Placed) (seen : ℕ → List ℕ)
-        → AreServers shape Es seen servers.old
-        → OnErr result (TapsGainFronts shape.servers seen (T.tap taps.old) (T.tap taps.new)) }
+    ensures servers { WhateverTheyHold servers.old
+        (λ shape Es seen. OnOk result (AreServers shape Es nothing_seen servers.new)) }
+    ensures ok { WhateverTheyHold servers.old
+        (λ shape Es seen. OnOk result (TapsGain shape.servers seen (T.tap taps.old) (T.tap taps.new))) }
+    ensures err { WhateverTheyHold servers.old
+        (λ shape Es seen. OnErr result (TapsGainFronts shape.servers seen (T.tap taps.old) (T.tap taps.new))) }
     ensures others { TapsKeepBut (length servers.old) (T.tap taps.old) (T.tap taps.new) }
     ensures rose { OnErr result (Rose (T.faults taps.old) (T.faults taps.new)) }
     ensures counts { T.faults taps.old ≤ T.faults taps.new }
@@ -39,8 +37,8 @@ fn give<T: Taps>(server: &mut Server, number: u32, taps: &mut T) -> Result<(), F
     requires high { number ≤ 8 }
     ensures ready { (shape : Shape) (E : List Placed) → MayWriteAndPin shape E server.old
         → OnOk result (MayWriteAndPin shape E server.new) }
-    ensures server { (shape : Shape) (E : List Placed) (bytes : List ℕ)
-        → IsServerAt shape E bytes server.old → OnOk result (IsServerAt shape E [] server.new) }
+    ensures server { WhateverItHolds server.old
+        (λ shape E bytes. OnOk result (IsServerAt shape E [] server.new)) }
     ensures ok { let seen = server.old.seen.items in
         OnOk result (T.tap taps.new number ≡ gained (T.tap taps.old number) seen) }
     ensures err { let seen = server.old.seen.items in

@@ -1,13 +1,13 @@
 ghost use Rattle.std.specs.Prelude.{◌≡◌, ◌≤◌, ◌+◌, IfErr};
 ghost use Rattle.tk_io.specs.Content.{Rose};
-ghost use Rattle.tk_run.specs.Ranging.{over_ranges};
-ghost use Rattle.tk_run.specs.Threads.{CameAbout, CameAboutUnder};
+ghost use Rattle.tk_run.specs.Threads.{CameAbout, CameAboutOver};
 
 use crate::actors::Herald;
 use crate::closed_run::ClosedRun;
-use crate::course::{Course, Stage, run_turns};
+use crate::course::{Course, run_turns};
 use crate::crew::Crew;
 use crate::run_error::RunError;
+use crate::stage::Stage;
 use crate::sums::{OwnSums, Sums};
 use std::alloc::AllocGlobal;
 use std::marker::Brand;
@@ -70,8 +70,7 @@ pub fn threads_by<D: Draws, T: Taps, G: Gate, A: Sums, R: Threads + Wait + Sync 
     requires one_shape { D.shape draws.now ≡ script.now.shape }
     requires workers { (1 ≤ workers) × (workers ≤ 64) }
     requires shards { (1 ≤ shards) × (shards ≤ 64) }
-    ensures run { CameAboutUnder script.now (D.book draws.now)
-        (over_ranges script.now (D.book draws.now) shards (A.sum sums.now)) result
+    ensures run { CameAboutOver script.now (D.book draws.now) shards (A.sum sums.now) result
         (T.tap taps.old) (T.tap taps.new) }
     ensures rose { IfErr result (λ e. e ≡ RunError.Taps
         → Rose (T.faults taps.old) (T.faults taps.new)) }
@@ -114,10 +113,8 @@ fn run_over<
     requires same { scene.now.script.now.shape ≡ B.shape }
     requires seats { blank.seats ≡ scene.now.script.now.shape.clients + 1 }
     ensures run { let scene = scene.now in
-        let S = scene.script.now in
-        let book = D.book scene.draws.now in
-        CameAboutUnder S book (over_ranges S book scene.crew.shards (A.sum scene.sums.now)) result
-        (T.tap taps.old) (T.tap taps.new) }
+        CameAboutOver scene.script.now (D.book scene.draws.now) scene.crew.shards
+        (A.sum scene.sums.now) result (T.tap taps.old) (T.tap taps.new) }
     ensures rose { IfErr result (λ e. e ≡ RunError.Taps
         → Rose (T.faults taps.old) (T.faults taps.new)) }
     ensures counts { T.faults taps.old ≤ T.faults taps.new }

@@ -1,20 +1,12 @@
-ghost use Rattle.std.specs.Prelude.{◌≡◌, ◌≤◌, ◌<◌, ◌+◌, ℕ, List, length, map, IfOk, OnOk};
-ghost use Rattle.std.specs.List.{range_with_len};
+ghost use Rattle.std.specs.Prelude.{◌≡◌, ◌<◌, ◌+◌, List, length, IfOk, OnOk};
 ghost use Rattle.tk_shape.specs.declared.shape.Shape.{Shape};
 ghost use Rattle.tk_shape.specs.Lengths.{turn_count};
-ghost use Rattle.tk_words.specs.Words.{words_of};
 ghost use Rattle.tk_frames.specs.declared.entry.Placed.{Placed};
-ghost use Rattle.tk_frames.specs.InOrder.{IsOrder};
-ghost use Rattle.tk_frames.specs.Spelling.{reply_frame};
-ghost use Rattle.tk_report.specs.Clients.{AreClients};
-ghost use Rattle.tk_report.specs.Serving.{Serving};
-ghost use Rattle.tk_report.specs.Turns.{placed_before};
-ghost use Rattle.tk_run.specs.Rows.{AreRows};
-ghost use Rattle.tk_run.specs.Servers.{AreReady, AreServers, MayWriteAndPin, IsServerAt};
-ghost use Rattle.tk_run.specs.Turns.{entries_seen};
-ghost use Rattle.tk_run.specs.Under.{AreAsking, AreIdle, AskedInTurn, IsIdle, ServesAs, asked_under};
-ghost use Rattle.tk_run.specs.Under.{client_under, posed, replied_under, reply_under, turn_under};
-ghost use Rattle.tk_run.specs.Under.{wrote_under};
+ghost use Rattle.tk_run.specs.Plays.{AllAre, AreReplied, HasSeenTurn, HaveSeenTurn, OnceAsked};
+ghost use Rattle.tk_run.specs.Plays.{OnceItIsAsked, OnceItIsReplied, OnceReplied, OnceTaken};
+ghost use Rattle.tk_run.specs.Plays.{idle_at, played_before, play_of, replies_at};
+ghost use Rattle.tk_run.specs.Servers.{AreReady, MayWriteAndPin};
+ghost use Rattle.tk_run.specs.Under.{AreAsking, AreIdle, AskedInTurn, IsIdle, client_under};
 
 use crate::asked_frames::ask_all;
 use crate::frames::{Frames, deal, empty_rows};
@@ -37,29 +29,15 @@ pub(crate) fn read_turn<D: Draws>(
 ) -> Result<(), Memory>
     requires turn_in { turn < turn_count plan.now.script.now.shape }
     requires clients { AreIdle plan.now.script.now (turn + 1) clients.old }
-    requires servers { let S = plan.now.script.now in
-        let words = words_of S.shape (D.book plan.now.draws.now) in
-        AreReady S.shape (placed_before S words plan.now.history.now (turn + 1)) servers.old }
+    requires servers { let play = play_of plan.now in
+        AreReady play.script.shape (played_before play (turn + 1)) servers.old }
     ensures clients { OnOk result (AreIdle plan.now.script.now (turn + 1) clients.new) }
-    ensures servers { let S = plan.now.script.now in
-        let words = words_of S.shape (D.book plan.now.draws.now) in
-        OnOk result
-        (AreReady S.shape (placed_before S words plan.now.history.now (turn + 1)) servers.new) }
-    ensures clients_under { let S = plan.now.script.now in
-        let book = D.book plan.now.draws.now in
-        let history = plan.now.history.now in
-        (V : Serving) (Es : ℕ → List Placed) → ServesAs S book history V turn Es
-        → AreClients S.shape.clients (wrote_under S book history V turn) clients.old
-        → AreServers S.shape Es (entries_seen S (words_of S.shape book) history turn) servers.old
-        → OnOk result
-        (AreClients S.shape.clients (client_under S book history V (turn + 1)) clients.new) }
-    ensures servers_under { let S = plan.now.script.now in
-        let book = D.book plan.now.draws.now in
-        let history = plan.now.history.now in
-        (V : Serving) (Es : ℕ → List Placed) → ServesAs S book history V turn Es
-        → AreClients S.shape.clients (wrote_under S book history V turn) clients.old
-        → AreServers S.shape Es (entries_seen S (words_of S.shape book) history turn) servers.old
-        → OnOk result (AreServers S.shape Es (turn_under S book history V turn) servers.new) }
+    ensures servers { let play = play_of plan.now in
+        OnOk result (AreReady play.script.shape (played_before play (turn + 1)) servers.new) }
+    ensures clients_under { let play = play_of plan.now in OnceTaken play turn clients.old servers.old
+        (λ V Es. OnOk result (AllAre play V client_under (turn + 1) clients.new)) }
+    ensures servers_under { let play = play_of plan.now in OnceTaken play turn clients.old servers.old
+        (λ V Es. OnOk result (HaveSeenTurn play V turn Es servers.new)) }
 {
     let asked = ask_all(alloc, plan, turn, clients, &servers[0])?;
     let replies = answer_all(alloc, plan, turn, asked.as_slice(), servers)?;
@@ -77,29 +55,15 @@ fn answer_all<D: Draws>(
 ) -> Result<Vec<Frames>, Memory>
     requires turn_in { turn < turn_count plan.now.script.now.shape }
     requires asked { length asked.now ≡ plan.now.script.now.shape.servers }
-    requires servers { let S = plan.now.script.now in
-        let words = words_of S.shape (D.book plan.now.draws.now) in
-        AreReady S.shape (placed_before S words plan.now.history.now (turn + 1)) servers.old }
+    requires servers { let play = play_of plan.now in
+        AreReady play.script.shape (played_before play (turn + 1)) servers.old }
     ensures counted { IfOk result (λ rows. length rows.items ≡ plan.now.script.now.shape.clients) }
-    ensures servers { let S = plan.now.script.now in
-        let words = words_of S.shape (D.book plan.now.draws.now) in
-        OnOk result
-        (AreReady S.shape (placed_before S words plan.now.history.now (turn + 1)) servers.new) }
-    ensures replies { let S = plan.now.script.now in
-        let book = D.book plan.now.draws.now in
-        let history = plan.now.history.now in
-        (V : Serving) (Es : ℕ → List Placed) → ServesAs S book history V turn Es
-        → AreRows S.shape.servers (posed S book history V turn S.shape.clients) asked.now
-        → AreServers S.shape Es (entries_seen S (words_of S.shape book) history turn) servers.old
-        → IfOk result (λ rows. AreRows S.shape.clients
-        (replied_under S book history V turn S.shape.servers) rows.items) }
-    ensures servers_under { let S = plan.now.script.now in
-        let book = D.book plan.now.draws.now in
-        let history = plan.now.history.now in
-        (V : Serving) (Es : ℕ → List Placed) → ServesAs S book history V turn Es
-        → AreRows S.shape.servers (posed S book history V turn S.shape.clients) asked.now
-        → AreServers S.shape Es (entries_seen S (words_of S.shape book) history turn) servers.old
-        → OnOk result (AreServers S.shape Es (turn_under S book history V turn) servers.new) }
+    ensures servers { let play = play_of plan.now in
+        OnOk result (AreReady play.script.shape (played_before play (turn + 1)) servers.new) }
+    ensures replies { let play = play_of plan.now in OnceAsked play turn asked.now servers.old
+        (λ V Es. IfOk result (λ rows. AreReplied play V turn rows.items)) }
+    ensures servers_under { let play = play_of plan.now in OnceAsked play turn asked.now servers.old
+        (λ V Es. OnOk result (HaveSeenTurn play V turn Es servers.new)) }
 {
     let mut rows = empty_rows(alloc, plan.script.shape.clients)?;
     'answering: for (i, server) in servers.iter_mut().enumerate() {
@@ -125,25 +89,10 @@ fn answer_one<D: Draws>(
     requires server_in { spot.place < plan.now.script.now.shape.servers }
     ensures ready { (shape : Shape) (E : List Placed) → MayWriteAndPin shape E server.old
         → OnOk result (MayWriteAndPin shape E server.new) }
-    ensures replies { let S = plan.now.script.now in
-        let book = D.book plan.now.draws.now in
-        let history = plan.now.history.now in
-        let saw = entries_seen S (words_of S.shape book) history spot.turn (spot.place + 1) in
-        (V : Serving) (Es : ℕ → List Placed) → ServesAs S book history V spot.turn Es
-        → asked.now ≡ posed S book history V spot.turn S.shape.clients spot.place
-        → IsServerAt S.shape (Es (spot.place + 1)) saw server.old
-        → IfOk result (λ replies. replies.items
-        ≡ map (λ c. reply_frame (reply_under S book history V spot.turn (spot.place + 1) c))
-        (range_with_len 0 S.shape.clients)) }
-    ensures server { let S = plan.now.script.now in
-        let book = D.book plan.now.draws.now in
-        let history = plan.now.history.now in
-        let saw = entries_seen S (words_of S.shape book) history spot.turn (spot.place + 1) in
-        (V : Serving) (Es : ℕ → List Placed) → ServesAs S book history V spot.turn Es
-        → asked.now ≡ posed S book history V spot.turn S.shape.clients spot.place
-        → IsServerAt S.shape (Es (spot.place + 1)) saw server.old
-        → OnOk result (IsServerAt S.shape (Es (spot.place + 1))
-        (turn_under S book history V spot.turn (spot.place + 1)) server.new) }
+    ensures replies { let play = play_of plan.now in OnceItIsAsked play spot asked.now server.old
+        (λ V Es. IfOk result (λ replies. replies.items ≡ replies_at play V spot)) }
+    ensures server { let play = play_of plan.now in OnceItIsAsked play spot asked.now server.old
+        (λ V Es. OnOk result (HasSeenTurn play V spot Es server.new)) }
 {
     let replies = server.answer(alloc, asked)?;
     Ok(replies)
@@ -161,15 +110,8 @@ fn take_replies<D: Draws>(
     requires replies { length replies.now ≡ plan.now.script.now.shape.clients }
     requires clients { AreAsking plan.now.script.now plan.now.history.now turn clients.old }
     ensures clients { OnOk result (AreIdle plan.now.script.now (turn + 1) clients.new) }
-    ensures clients_under { let S = plan.now.script.now in
-        let book = D.book plan.now.draws.now in
-        let history = plan.now.history.now in
-        (V : Serving) (Es : ℕ → List Placed) → ServesAs S book history V turn Es
-        → ((j : ℕ) → 1 ≤ j → j ≤ S.shape.servers → IsOrder S.shape (Es j))
-        → AreRows S.shape.clients (replied_under S book history V turn S.shape.servers) replies.now
-        → AreClients S.shape.clients (asked_under S book history V turn) clients.old
-        → OnOk result
-        (AreClients S.shape.clients (client_under S book history V (turn + 1)) clients.new) }
+    ensures clients_under { let play = play_of plan.now in OnceReplied play turn replies.now clients.old
+        (λ V. OnOk result (AllAre play V client_under (turn + 1) clients.new)) }
 {
     'taking: for (i, client) in clients.iter_mut().enumerate() {
         let spot = TurnPlace {
@@ -193,14 +135,8 @@ fn take_one<D: Draws>(
     requires client_in { spot.place < plan.now.script.now.shape.clients }
     requires client { AskedInTurn plan.now.script.now plan.now.history.now spot.turn spot.place client.old }
     ensures client { OnOk result (IsIdle plan.now.script.now (spot.turn + 1) spot.place client.new) }
-    ensures client_under { let S = plan.now.script.now in
-        let book = D.book plan.now.draws.now in
-        let history = plan.now.history.now in
-        (V : Serving) (Es : ℕ → List Placed) → ServesAs S book history V spot.turn Es
-        → ((j : ℕ) → 1 ≤ j → j ≤ S.shape.servers → IsOrder S.shape (Es j))
-        → replies.now ≡ replied_under S book history V spot.turn S.shape.servers spot.place
-        → client.old ≡ asked_under S book history V spot.turn spot.place
-        → OnOk result (client.new ≡ client_under S book history V (spot.turn + 1) spot.place) }
+    ensures client_under { let play = play_of plan.now in OnceItIsReplied play spot replies.now client.old
+        (λ V. OnOk result (client.new ≡ idle_at play V spot)) }
 {
     // (there is one of each server)
     if replies.len() != plan.script.shape.servers as usize {

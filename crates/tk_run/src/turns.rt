@@ -1,18 +1,18 @@
-ghost use Rattle.std.specs.Prelude.{◌≡◌, ◌≢◌, ◌≤◌, ◌<◌, ◌+◌, ◌++◌, ℕ, List, IfOk, IfErr, OnOk, OnErr};
+ghost use Rattle.std.specs.Prelude.{◌≡◌, ◌≢◌, ◌≤◌, ◌<◌, ◌+◌, ◌++◌, IfOk, IfErr, OnOk, OnErr};
 ghost use Rattle.tk_io.specs.Content.{Rose};
-ghost use Rattle.tk_io.specs.Tapped.{TapsGain, TapsGainFronts, TapsKeepBut};
+ghost use Rattle.tk_io.specs.Tapped.{TapsKeepBut};
 ghost use Rattle.tk_shape.specs.Lengths.{turn_count};
 ghost use Rattle.tk_schedule.specs.declared.history.History.{History};
-ghost use Rattle.tk_words.specs.Words.{WordBook, words_of};
-ghost use Rattle.tk_frames.specs.declared.entry.Placed.{Placed};
-ghost use Rattle.tk_report.specs.Entries.{write_at, entries_at};
-ghost use Rattle.tk_report.specs.Exchange.{bytes_of};
-ghost use Rattle.tk_report.specs.Serving.{Serving, exchange_under};
-ghost use Rattle.tk_report.specs.Turns.{placed_before};
-ghost use Rattle.tk_run.specs.Keeping.{AreAccepted, AreGiven, BeginFrom, HasRefused, HaveAccepted};
-ghost use Rattle.tk_run.specs.Keeping.{begun_anew, held_now, kept_up_to, saved_before, turn_due};
-ghost use Rattle.tk_run.specs.Servers.{nothing_seen, with_more};
-ghost use Rattle.tk_run.specs.Under.{IsRunning, IsRunUnder, ServesAs, turn_under};
+ghost use Rattle.tk_words.specs.Words.{WordBook};
+ghost use Rattle.tk_run.specs.Plays.{FromTurn, IsRunAfter, TapsGainTurn, TapsGainTurnFronts};
+ghost use Rattle.tk_run.specs.Plays.{of_play, play_of};
+ghost use Rattle.tk_run.specs.Resumption.{AcceptedSince, AllAccept, GainsAnew, FrontsAnew};
+ghost use Rattle.tk_run.specs.Resumption.{GivenBy, GivenInAll, IfRefused, IfTapFails, InEachPlay};
+ghost use Rattle.tk_run.specs.Resumption.{IsLastAnew, IsRunAnew, OnceOpen, RefusedSince, RunsAnew};
+ghost use Rattle.tk_run.specs.Resumption.{TapsGainAnew, due_in, kept_by, kept_in_all, anew_of};
+ghost use Rattle.tk_run.specs.Resumption.{turns_in};
+ghost use Rattle.tk_run.specs.Servers.{nothing_seen};
+ghost use Rattle.tk_run.specs.Under.{IsRunning, turn_under};
 
 use crate::go_on::go_on_before;
 use crate::keeper::Keeper;
@@ -37,54 +37,24 @@ pub(crate) fn take_turns<D: Draws, T: Taps, K: Keeper>(
     keeper: &mut K,
     taps: &mut T,
 ) -> Result<Run, ResumeError>
-    ensures kept { let S = plan.now.script.now in
-        let at = saved_before S (D.book plan.now.draws.now) plan.now.history.now in
-        OnOk result (K.kept keeper.new
-        ≡ K.kept keeper.old ++ kept_up_to due at (turn_count S.shape)) }
-    ensures accepted { let S = plan.now.script.now in
-        let words = words_of S.shape (D.book plan.now.draws.now) in
-        let begin = turn_due S due in
-        begin ≤ turn_count S.shape
-        → OnOk result (AreAccepted S.shape (placed_before S words plan.now.history.now begin)
-        (K.gives keeper.new)) }
-    ensures refused { let S = plan.now.script.now in
-        IfErr result (λ e. e ≡ ResumeError.Refused
-        → HasRefused S (D.book plan.now.draws.now) plan.now.history.now (turn_due S due)
-        (K.kept keeper.old) (K.kept keeper.new) (K.gives keeper.new)) }
-    ensures failed { let S = plan.now.script.now in
-        IfErr result (λ e. e ≡ ResumeError.Taps
-        → HaveAccepted S (D.book plan.now.draws.now) plan.now.history.now (turn_due S due)
-        (K.kept keeper.old) (K.kept keeper.new) (K.gives keeper.new)) }
+    ensures kept { let anew = anew_of plan.now due in
+        OnOk result (K.kept keeper.new ≡ K.kept keeper.old ++ kept_in_all anew) }
+    ensures accepted { let anew = anew_of plan.now due in
+        due_in anew ≤ turns_in anew → OnOk result (AllAccept anew (K.gives keeper.new)) }
+    ensures refused { let anew = anew_of plan.now due in
+        IfRefused result (RefusedSince anew (K.kept keeper.old) K.kept K.gives keeper.new) }
+    ensures failed { let anew = anew_of plan.now due in
+        IfTapFails result (AcceptedSince anew (K.kept keeper.old) K.kept K.gives keeper.new) }
     ensures running { let S = plan.now.script.now in
         IfOk result (IsRunning S (D.book plan.now.draws.now) plan.now.history.now
         (turn_count S.shape)) }
-    ensures run { let S = plan.now.script.now in
-        let book = D.book plan.now.draws.now in
-        let history = plan.now.history.now in
-        let begin = turn_due S due in
-        (given : ℕ → List Placed)
-        → BeginFrom S book history begin (K.kept keeper.old) (K.kept keeper.new) (K.gives keeper.new) given
-        → IfOk result (IsRunUnder S book history (begun_anew S book history begin given)
-        (turn_count S.shape)
-        (held_now S (words_of S.shape book) history begin given (turn_count S.shape)) nothing_seen) }
-    ensures ok { let S = plan.now.script.now in
-        let book = D.book plan.now.draws.now in
-        let history = plan.now.history.now in
-        let begin = turn_due S due in
-        (given : ℕ → List Placed)
-        → BeginFrom S book history begin (K.kept keeper.old) (K.kept keeper.new) (K.gives keeper.new) given
-        → OnOk result (TapsGain S.shape.servers
-        (λ j. bytes_of (exchange_under S book history (begun_anew S book history begin given) j))
-        (T.tap taps.old) (T.tap taps.new)) }
-    ensures err { let S = plan.now.script.now in
-        let book = D.book plan.now.draws.now in
-        let history = plan.now.history.now in
-        let begin = turn_due S due in
-        (given : ℕ → List Placed)
-        → BeginFrom S book history begin (K.kept keeper.old) (K.kept keeper.new) (K.gives keeper.new) given
-        → OnErr result (TapsGainFronts S.shape.servers
-        (λ j. bytes_of (exchange_under S book history (begun_anew S book history begin given) j))
-        (T.tap taps.old) (T.tap taps.new)) }
+    ensures run { let anew = anew_of plan.now due in
+        RunsAnew anew (K.kept keeper.old) K.kept K.gives keeper.new result }
+    ensures ok { let anew = anew_of plan.now due in
+        GainsAnew anew (K.kept keeper.old) K.kept K.gives keeper.new result T.tap taps.old taps.new }
+    ensures err { let anew = anew_of plan.now due in
+        FrontsAnew anew (K.kept keeper.old) K.kept K.gives keeper.new
+        result T.tap taps.old taps.new }
     ensures others { TapsKeepBut plan.now.script.now.shape.servers
         (T.tap taps.old) (T.tap taps.new) }
     ensures rose { IfErr result (λ e. e ≡ ResumeError.Taps
@@ -104,24 +74,14 @@ fn open_run<K: Keeper>(
     keeper: &mut K,
 ) -> Result<Run, ResumeError>
     ensures running { (b : WordBook) (H : History) → IfOk result (IsRunning script.now b H 0) }
-    ensures kept { (b : WordBook) (H : History) → OnOk result (K.kept keeper.new
-        ≡ K.kept keeper.old ++ kept_up_to due (saved_before script.now b H) 0) }
-    ensures accepted { let S = script.now in
-        let begin = turn_due S due in
-        (b : WordBook) (H : History) → begin ≤ 0
-        → OnOk result (AreAccepted S.shape (placed_before S (words_of S.shape b) H begin)
-        (K.gives keeper.new)) }
-    ensures refused { let S = script.now in
-        (b : WordBook) (H : History) → IfErr result (λ e. e ≡ ResumeError.Refused
-        → HasRefused S b H (turn_due S due) (K.kept keeper.old) (K.kept keeper.new)
-        (K.gives keeper.new)) }
-    ensures run { let S = script.now in
-        let begin = turn_due S due in
-        (b : WordBook) (H : History) (given : ℕ → List Placed)
-        → (begin ≤ 0 → AreGiven S.shape (placed_before S (words_of S.shape b) H begin)
-        (K.gives keeper.new) given)
-        → IfOk result (IsRunUnder S b H (begun_anew S b H begin given) 0
-        (held_now S (words_of S.shape b) H begin given 0) nothing_seen) }
+    ensures kept { InEachPlay script.now due
+        (λ anew. OnOk result (K.kept keeper.new ≡ K.kept keeper.old ++ kept_by anew 0)) }
+    ensures accepted { InEachPlay script.now due
+        (λ anew. due_in anew ≤ 0 → OnOk result (AllAccept anew (K.gives keeper.new))) }
+    ensures refused { InEachPlay script.now due (λ anew. IfRefused result
+        (RefusedSince anew (K.kept keeper.old) K.kept K.gives keeper.new)) }
+    ensures run { InEachPlay script.now due (λ anew. GivenBy anew 0 (K.gives keeper.new)
+        (λ given. IfOk result (IsRunAnew anew given 0))) }
     ensures not_taps { IfErr result (λ e. e ≢ ResumeError.Taps) }
 {
     let group = Group::open(alloc, script)?;
@@ -141,79 +101,34 @@ fn take_all_turns<D: Draws, T: Taps, K: Keeper>(
 ) -> Result<(), ResumeError>
     requires running { IsRunning plan.now.script.now (D.book plan.now.draws.now)
         plan.now.history.now 0 run.old }
-    requires accepted { let S = plan.now.script.now in
-        let words = words_of S.shape (D.book plan.now.draws.now) in
-        let begin = turn_due S due in
-        begin ≤ 0 → AreAccepted S.shape (placed_before S words plan.now.history.now begin)
-        (K.gives keeper.old) }
-    requires run { let S = plan.now.script.now in
-        let book = D.book plan.now.draws.now in
-        let history = plan.now.history.now in
-        let words = words_of S.shape book in
-        let begin = turn_due S due in
-        (given : ℕ → List Placed)
-        → (begin ≤ 0 → AreGiven S.shape (placed_before S words history begin)
-        (K.gives keeper.old) given)
-        → IsRunUnder S book history (begun_anew S book history begin given) 0
-        (held_now S words history begin given 0) nothing_seen run.old }
-    ensures kept { let S = plan.now.script.now in
-        let at = saved_before S (D.book plan.now.draws.now) plan.now.history.now in
-        (before : List (List ℕ)) → K.kept keeper.old ≡ before ++ kept_up_to due at 0
-        → OnOk result (K.kept keeper.new ≡ before ++ kept_up_to due at (turn_count S.shape)) }
-    ensures accepted { let S = plan.now.script.now in
-        let words = words_of S.shape (D.book plan.now.draws.now) in
-        let begin = turn_due S due in
-        begin ≤ turn_count S.shape
-        → OnOk result (AreAccepted S.shape (placed_before S words plan.now.history.now begin)
-        (K.gives keeper.new)) }
-    ensures refused { let S = plan.now.script.now in
-        let book = D.book plan.now.draws.now in
-        let history = plan.now.history.now in
-        (before : List (List ℕ))
-        → K.kept keeper.old ≡ before ++ kept_up_to due (saved_before S book history) 0
-        → IfErr result (λ e. e ≡ ResumeError.Refused → HasRefused S book history (turn_due S due)
-        before (K.kept keeper.new) (K.gives keeper.new)) }
-    ensures failed { let S = plan.now.script.now in
-        let book = D.book plan.now.draws.now in
-        let history = plan.now.history.now in
-        (before : List (List ℕ))
-        → K.kept keeper.old ≡ before ++ kept_up_to due (saved_before S book history) 0
-        → IfErr result (λ e. e ≡ ResumeError.Taps → HaveAccepted S book history (turn_due S due)
-        before (K.kept keeper.new) (K.gives keeper.new)) }
+    requires accepted { let anew = anew_of plan.now due in
+        due_in anew ≤ 0 → AllAccept anew (K.gives keeper.old) }
+    requires run { let anew = anew_of plan.now due in
+        GivenBy anew 0 (K.gives keeper.old) (λ given. IsRunAnew anew given 0 run.old) }
+    ensures kept { let anew = anew_of plan.now due in
+        OnceOpen anew (K.kept keeper.old)
+        (λ first. OnOk result (K.kept keeper.new ≡ first ++ kept_in_all anew)) }
+    ensures accepted { let anew = anew_of plan.now due in
+        due_in anew ≤ turns_in anew → OnOk result (AllAccept anew (K.gives keeper.new)) }
+    ensures refused { let anew = anew_of plan.now due in
+        OnceOpen anew (K.kept keeper.old)
+        (λ first. IfRefused result (RefusedSince anew first K.kept K.gives keeper.new)) }
+    ensures failed { let anew = anew_of plan.now due in
+        OnceOpen anew (K.kept keeper.old)
+        (λ first. IfTapFails result (AcceptedSince anew first K.kept K.gives keeper.new)) }
     ensures running { let S = plan.now.script.now in
         OnOk result (IsRunning S (D.book plan.now.draws.now) plan.now.history.now
         (turn_count S.shape) run.new) }
-    ensures run { let S = plan.now.script.now in
-        let book = D.book plan.now.draws.now in
-        let history = plan.now.history.now in
-        let words = words_of S.shape book in
-        let begin = turn_due S due in
-        (given : ℕ → List Placed)
-        → (begin ≤ turn_count S.shape → AreGiven S.shape (placed_before S words history begin)
-        (K.gives keeper.new) given)
-        → OnOk result (IsRunUnder S book history (begun_anew S book history begin given)
-        (turn_count S.shape)
-        (held_now S words history begin given (turn_count S.shape)) nothing_seen run.new) }
-    ensures ok { let S = plan.now.script.now in
-        let book = D.book plan.now.draws.now in
-        let history = plan.now.history.now in
-        let begin = turn_due S due in
-        (given : ℕ → List Placed)
-        → (begin ≤ turn_count S.shape → AreGiven S.shape
-        (placed_before S (words_of S.shape book) history begin) (K.gives keeper.new) given)
-        → OnOk result (TapsGain S.shape.servers
-        (λ j. bytes_of (exchange_under S book history (begun_anew S book history begin given) j))
-        (T.tap taps.old) (T.tap taps.new)) }
-    ensures err { let S = plan.now.script.now in
-        let book = D.book plan.now.draws.now in
-        let history = plan.now.history.now in
-        let begin = turn_due S due in
-        (before : List (List ℕ)) (given : ℕ → List Placed)
-        → K.kept keeper.old ≡ before ++ kept_up_to due (saved_before S book history) 0
-        → BeginFrom S book history begin before (K.kept keeper.new) (K.gives keeper.new) given
-        → OnErr result (TapsGainFronts S.shape.servers
-        (λ j. bytes_of (exchange_under S book history (begun_anew S book history begin given) j))
-        (T.tap taps.old) (T.tap taps.new)) }
+    ensures run { let anew = anew_of plan.now due in
+        GivenInAll anew (K.gives keeper.new)
+        (λ given. OnOk result (IsLastAnew anew given run.new)) }
+    ensures ok { let anew = anew_of plan.now due in
+        GivenInAll anew (K.gives keeper.new)
+        (λ given. OnOk result (TapsGainAnew anew given T.tap taps.old taps.new)) }
+    ensures err { let anew = anew_of plan.now due in
+        OnceOpen anew (K.kept keeper.old)
+        (λ first. FrontsAnew anew first K.kept K.gives keeper.new
+        result T.tap taps.old taps.new) }
     ensures others { TapsKeepBut plan.now.script.now.shape.servers
         (T.tap taps.old) (T.tap taps.new) }
     ensures rose { IfErr result (λ e. e ≡ ResumeError.Taps
@@ -248,30 +163,12 @@ fn take_turn<D: Draws, T: Taps>(
         plan.now.history.now turn run.old }
     ensures running { OnOk result (IsRunning plan.now.script.now (D.book plan.now.draws.now)
         plan.now.history.now (turn + 1) run.new) }
-    ensures run { let S = plan.now.script.now in
-        let book = D.book plan.now.draws.now in
-        let history = plan.now.history.now in
-        let more = entries_at (write_at S (words_of S.shape book)) history turn in
-        (V : Serving) (Es : ℕ → List Placed) → ServesAs S book history V turn (with_more Es more)
-        → IsRunUnder S book history V turn Es nothing_seen run.old
-        → OnOk result
-        (IsRunUnder S book history V (turn + 1) (with_more Es more) nothing_seen run.new) }
-    ensures ok { let S = plan.now.script.now in
-        let book = D.book plan.now.draws.now in
-        let history = plan.now.history.now in
-        let more = entries_at (write_at S (words_of S.shape book)) history turn in
-        (V : Serving) (Es : ℕ → List Placed) → ServesAs S book history V turn (with_more Es more)
-        → IsRunUnder S book history V turn Es nothing_seen run.old
-        → OnOk result (TapsGain S.shape.servers (turn_under S book history V turn)
-        (T.tap taps.old) (T.tap taps.new)) }
-    ensures err { let S = plan.now.script.now in
-        let book = D.book plan.now.draws.now in
-        let history = plan.now.history.now in
-        let more = entries_at (write_at S (words_of S.shape book)) history turn in
-        (V : Serving) (Es : ℕ → List Placed) → ServesAs S book history V turn (with_more Es more)
-        → IsRunUnder S book history V turn Es nothing_seen run.old
-        → OnErr result (TapsGainFronts S.shape.servers (turn_under S book history V turn)
-        (T.tap taps.old) (T.tap taps.new)) }
+    ensures run { let play = play_of plan.now in FromTurn play turn run.old
+        (λ V Es. OnOk result (IsRunAfter play V turn Es nothing_seen run.new)) }
+    ensures ok { let play = play_of plan.now in FromTurn play turn run.old
+        (λ V Es. OnOk result (TapsGainTurn play V turn T.tap taps.old taps.new)) }
+    ensures err { let play = play_of plan.now in FromTurn play turn run.old
+        (λ V Es. OnErr result (TapsGainTurnFronts play V turn T.tap taps.old taps.new)) }
     ensures others { TapsKeepBut plan.now.script.now.shape.servers
         (T.tap taps.old) (T.tap taps.new) }
     ensures rose { IfErr result (λ e. e ≡ ResumeError.Taps
@@ -291,14 +188,8 @@ fn meet<D: Draws>(alloc: Global, plan: &Plan<D>, turn: u32, run: &mut Run) -> Re
         plan.now.history.now turn run.old }
     ensures running { OnOk result (IsRunning plan.now.script.now (D.book plan.now.draws.now)
         plan.now.history.now (turn + 1) run.new) }
-    ensures run { let S = plan.now.script.now in
-        let book = D.book plan.now.draws.now in
-        let history = plan.now.history.now in
-        let more = entries_at (write_at S (words_of S.shape book)) history turn in
-        (V : Serving) (Es : ℕ → List Placed) → ServesAs S book history V turn (with_more Es more)
-        → IsRunUnder S book history V turn Es nothing_seen run.old
-        → OnOk result (IsRunUnder S book history V (turn + 1) (with_more Es more)
-        (turn_under S book history V turn) run.new) }
+    ensures run { let play = play_of plan.now in FromTurn play turn run.old
+        (λ V Es. OnOk result (IsRunAfter play V turn Es (of_play play turn_under V turn) run.new)) }
 {
     run.group.write(alloc, plan, turn, &mut run.servers)?;
     let clients = run.group.clients.as_mut_slice();

@@ -1,12 +1,9 @@
 -- The clients so far have asked, and their reads lie in the lists of the servers.
-use Rattle.std.proofs.Common.{◌≡◌, ◌+◌, ℕ, List, length}
-use Rattle.tk_frames.specs.declared.entry.Placed.{Placed}
-use Rattle.tk_replica.specs.Replica.{StandsFor}
-use Rattle.tk_report.specs.Clients.{AreClients}
-use Rattle.tk_report.specs.Serving.{Serving}
+use Rattle.std.proofs.Common.{◌≡◌, ◌+◌, length}
 use Rattle.tk_report.proofs.Offers.{IsSplit}
+use Rattle.tk_run.specs.Plays.{OnceWritten, play_of}
 use Rattle.tk_run.specs.Rows.{AreRows}
-use Rattle.tk_run.specs.Under.{AskedInTurn, IsIdle, ServesAs, asked_under, posed, wrote_under}
+use Rattle.tk_run.specs.Under.{AskedInTurn, IsIdle, asked_under, posed, wrote_under}
 use Rattle.tk_run.proofs.asked_frames.ask_all.Given as goal
 
 abbrev pub invariant-asking : goal.invariant-asking
@@ -18,13 +15,9 @@ invariant-asking g l =
       counted : length l.clients ≡ length l.fn.clients;
       each : length l.rows.items ≡ S.shape.servers;
       clients : IsSplit l.i (λ k s. AskedInTurn S H l.turn k s) (λ k s. IsIdle S (l.turn + 1) k s) l.clients;
-      asked : (V : Serving) (Es : ℕ → List Placed) → ServesAs S book H V l.turn Es →
-          StandsFor S.shape (Es 1) l.server.state →
-          AreClients S.shape.clients (wrote_under S book H V l.turn) l.fn.clients →
-          IsSplit l.i (λ k s. s ≡ asked_under S book H V l.turn k)
-          (λ k s. s ≡ wrote_under S book H V l.turn k) l.clients;
-      posed : (V : Serving) (Es : ℕ → List Placed) → ServesAs S book H V l.turn Es →
-          StandsFor S.shape (Es 1) l.server.state →
-          AreClients S.shape.clients (wrote_under S book H V l.turn) l.fn.clients →
-          AreRows S.shape.servers (posed S book H V l.turn l.i) l.rows.items;
+      asked : OnceWritten (play_of l.plan) l.turn l.server l.fn.clients (λ V. IsSplit l.i
+          (λ k s. s ≡ asked_under S book H V l.turn k)
+          (λ k s. s ≡ wrote_under S book H V l.turn k) l.clients);
+      posed : OnceWritten (play_of l.plan) l.turn l.server l.fn.clients
+          (λ V. AreRows S.shape.servers (posed S book H V l.turn l.i) l.rows.items);
     }

@@ -1,8 +1,8 @@
 -- Turn after turn the taps gain what the servers see of the history that comes about.
 use Rattle.std.proofs.Common.{◌≡◌, ◌∙◌, arith, refl, subst, le_trans}
 use Rattle.tk_shape.specs.Lengths.{turn_count}
-use Rattle.tk_run.specs.Courses.{IsCourse}
 use Rattle.tk_run.specs.Ranging.{over_ranges}
+use Rattle.tk_run.specs.Stages.{IsCourseOn}
 use Rattle.tk_run.proofs.Stopping.{run_stopped}
 use Rattle.tk_run.proofs.TapTurns.{gained_first, gained_next, gained_all, gained_fronts}
 use Rattle.tk_run.proofs.course.run_turns.Goals as goal
@@ -46,12 +46,8 @@ returns-in_err-run_turn-clause-taps g c =
 
 pub returns-clause-course : goal.returns-clause-course
 returns-clause-course g c =
-    let S = c.args.stage.now.script.now in
-    let book = g.D.Draws.book c.args.stage.now.draws.now in
-    let V = over_ranges S book c.args.stage.now.crew.shards (g.A.Sums.sum c.args.stage.now.sums.now) in
-    let all : c.turns.turn ≡ turn_count S.shape = omega arith in
-    subst (λ n. IsCourse S book V n c.turns.course.turns.items c.turns.course.group
-    c.turns.course.passes.items c.turns.course.herald.publisher) all c.turns.invariant.course
+    let all : c.turns.turn ≡ turn_count c.args.stage.now.script.now.shape = omega arith in
+    subst (λ n. IsCourseOn c.args.stage.now n c.turns.course) all c.turns.invariant.course
 
 pub returns-clause-taps : goal.returns-clause-taps
 returns-clause-taps g c =

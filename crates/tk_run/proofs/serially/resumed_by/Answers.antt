@@ -1,19 +1,13 @@
 -- The serial run, in which the checkpoint is kept of the turn in which the epoch begins.
 use Rattle.std.proofs.Common.{◌≡◌, ◌∙◌, ◌++◌, ◌∷◌, [], ◌*◌, ℕ, List, ap, arith, subst}
-use Rattle.std.specs.Prelude.{IfErr, IfOk, OnErr, OnOk, Some}
+use Rattle.std.specs.Prelude.{OnOk, Some}
 use Rattle.std.proofs.lemmas.Result.{on_ok_weaker}
-use Rattle.tk_io.specs.Tapped.{TapsGain, TapsGainFronts}
 use Rattle.tk_shape.specs.Lengths.{turn_count}
-use Rattle.tk_schedule.specs.Schedule.{serial_history}
 use Rattle.tk_schedule.specs.declared.history.History.{History}
-use Rattle.tk_words.specs.Words.{words_of}
-use Rattle.tk_frames.specs.declared.entry.Placed.{Placed}
-use Rattle.tk_report.specs.Exchange.{bytes_of}
-use Rattle.tk_report.specs.Serving.{exchange_under}
-use Rattle.tk_report.specs.Turns.{placed_before}
 use Rattle.tk_run.specs.declared.resume_error.ResumeError.TheVariants as resume
-use Rattle.tk_run.specs.Keeping.{AreAccepted, BeginFrom, HasRefused, HaveAccepted, IsEndUnder}
-use Rattle.tk_run.specs.Keeping.{begun_anew, held_now, saved_before}
+use Rattle.tk_run.specs.Keeping.{saved_before}
+use Rattle.tk_run.specs.Resumption.{AcceptedSince, AllAccept, EndsAnew, FrontsAnew, GainsAnew, IfRefused}
+use Rattle.tk_run.specs.Resumption.{IfTapFails, RefusedSince, resumed_after, resumed_at, sight_anew}
 use Rattle.tk_io.proofs.Offers.{fronts-none, on_err}
 use Rattle.tk_run.proofs.ErrorLaws.{no-memory, passed-on}
 use Rattle.tk_run.proofs.KeepingLaws.{due-in, kept-since}
@@ -38,11 +32,10 @@ returns-clause-kept g c =
 pub returns-clause-accepted : goal.returns-clause-accepted
 returns-clause-accepted g c =
     let S = c.args.script.now in
-    let words = words_of S.shape (g.D.Draws.book c.args.draws.now) in
+    let book = g.D.Draws.book c.args.draws.now in
     let due = c.args.epoch * S.shape.ticks in
-    let gives = g.K.Keeper.gives c.run_turns.new.keeper in
-    subst (λ (H : History). OnOk c.run_turns.result
-    (AreAccepted S.shape (placed_before S words H due) gives)) c.in_ok-history.ensures.serial
+    subst (λ (H : History). OnOk c.run_turns.result (AllAccept (resumed_at S book H (Some due))
+    (g.K.Keeper.gives c.run_turns.new.keeper))) c.in_ok-history.ensures.serial
     (c.run_turns.ensures.accepted (due-in S.shape c.args.epoch c.requires.within))
 
 pub returns-clause-refused : goal.returns-clause-refused
@@ -51,9 +44,8 @@ returns-clause-refused g c =
     let book = g.D.Draws.book c.args.draws.now in
     let due = c.args.epoch * S.shape.ticks in
     let kept = g.K.Keeper.kept in
-    let now = c.run_turns.new.keeper in
-    subst (λ (H : History). IfErr c.run_turns.result (λ e. e ≡ resume.Refused →
-    HasRefused S book H due (kept c.args.keeper.now) (kept now) (g.K.Keeper.gives now)))
+    subst (λ (H : History). IfRefused c.run_turns.result (RefusedSince (resumed_at S book H (Some due))
+    (kept c.args.keeper.now) kept g.K.Keeper.gives c.run_turns.new.keeper))
     c.in_ok-history.ensures.serial c.run_turns.ensures.refused
 
 pub returns-clause-failed : goal.returns-clause-failed
@@ -62,9 +54,8 @@ returns-clause-failed g c =
     let book = g.D.Draws.book c.args.draws.now in
     let due = c.args.epoch * S.shape.ticks in
     let kept = g.K.Keeper.kept in
-    let now = c.run_turns.new.keeper in
-    subst (λ (H : History). IfErr c.run_turns.result (λ e. e ≡ resume.Taps →
-    HaveAccepted S book H due (kept c.args.keeper.now) (kept now) (g.K.Keeper.gives now)))
+    subst (λ (H : History). IfTapFails c.run_turns.result (AcceptedSince (resumed_at S book H (Some due))
+    (kept c.args.keeper.now) kept g.K.Keeper.gives c.run_turns.new.keeper))
     c.in_ok-history.ensures.serial c.run_turns.ensures.failed
 
 pub returns-in_err-history-clause-refused : goal.returns-in_err-history-clause-refused
@@ -81,11 +72,8 @@ returns-clause-left g c =
     let book = g.D.Draws.book c.args.draws.now in
     let due = c.args.epoch * S.shape.ticks in
     let kept = g.K.Keeper.kept in
-    let now = c.run_turns.new.keeper in
-    subst (λ (H : History). (given : ℕ → List Placed) →
-    BeginFrom S book H due (kept c.args.keeper.now) (kept now) (g.K.Keeper.gives now) given →
-    IfOk c.run_turns.result (IsEndUnder S book H (begun_anew S book H due given)
-    (held_now S (words_of S.shape book) H due given (turn_count S.shape) 1)))
+    subst (λ (H : History). EndsAnew (resumed_at S book H (Some due)) (kept c.args.keeper.now) kept
+    g.K.Keeper.gives c.run_turns.new.keeper c.run_turns.result)
     c.in_ok-history.ensures.serial c.run_turns.ensures.left
 
 pub returns-clause-ok : goal.returns-clause-ok
@@ -94,12 +82,9 @@ returns-clause-ok g c =
     let book = g.D.Draws.book c.args.draws.now in
     let due = c.args.epoch * S.shape.ticks in
     let kept = g.K.Keeper.kept in
-    let now = c.run_turns.new.keeper in
-    subst (λ (H : History). (given : ℕ → List Placed) →
-    BeginFrom S book H due (kept c.args.keeper.now) (kept now) (g.K.Keeper.gives now) given →
-    OnOk c.run_turns.result (TapsGain S.shape.servers
-    (λ (j : ℕ). bytes_of (exchange_under S book H (begun_anew S book H due given) j))
-    (g.T.Taps.tap c.args.taps.now) (g.T.Taps.tap c.run_turns.new.taps)))
+    subst (λ (H : History). GainsAnew (resumed_at S book H (Some due)) (kept c.args.keeper.now) kept
+    g.K.Keeper.gives c.run_turns.new.keeper c.run_turns.result g.T.Taps.tap c.args.taps.now
+    c.run_turns.new.taps)
     c.in_ok-history.ensures.serial c.run_turns.ensures.ok
 
 pub returns-clause-err : goal.returns-clause-err
@@ -108,20 +93,15 @@ returns-clause-err g c =
     let book = g.D.Draws.book c.args.draws.now in
     let due = c.args.epoch * S.shape.ticks in
     let kept = g.K.Keeper.kept in
-    let now = c.run_turns.new.keeper in
-    subst (λ (H : History). (given : ℕ → List Placed) →
-    BeginFrom S book H due (kept c.args.keeper.now) (kept now) (g.K.Keeper.gives now) given →
-    OnErr c.run_turns.result (TapsGainFronts S.shape.servers
-    (λ (j : ℕ). bytes_of (exchange_under S book H (begun_anew S book H due given) j))
-    (g.T.Taps.tap c.args.taps.now) (g.T.Taps.tap c.run_turns.new.taps)))
+    subst (λ (H : History). FrontsAnew (resumed_at S book H (Some due)) (kept c.args.keeper.now) kept
+    g.K.Keeper.gives c.run_turns.new.keeper c.run_turns.result g.T.Taps.tap c.args.taps.now
+    c.run_turns.new.taps)
     c.in_ok-history.ensures.serial c.run_turns.ensures.err
 
 pub returns-in_err-history-clause-err : goal.returns-in_err-history-clause-err
 returns-in_err-history-clause-err g c given begins =
     let S = c.args.script.now in
     let book = g.D.Draws.book c.args.draws.now in
-    let H = serial_history S.shape in
-    let V = begun_anew S book H (c.args.epoch * S.shape.ticks) given in
     on_err _ c.from_residual.result
-    (fronts-none S.shape.servers (λ (j : ℕ). bytes_of (exchange_under S book H V j))
+    (fronts-none S.shape.servers (sight_anew (resumed_after S book c.args.epoch) given)
     (g.T.Taps.tap c.args.taps.now))

@@ -135,7 +135,7 @@ turns-preserved g c =
     }
 
 pub returns-in_err-take_turn-clause-err : goal.returns-in_err-take_turn-clause-err
-returns-in_err-take_turn-clause-err g c before given first begins =
+returns-in_err-take_turn-clause-err g c before first given begins =
     let S = c.args.plan.now.script.now in
     let book = g.D.Draws.book c.args.plan.now.draws.now in
     let H = c.args.plan.now.history.now in
@@ -162,7 +162,7 @@ returns-in_err-take_turn-clause-err g c before given first begins =
     (serves-anew S book H begin given turn) (so_far.run given may)))
 
 pub returns-in_err-go_on_before-clause-err : goal.returns-in_err-go_on_before-clause-err
-returns-in_err-go_on_before-clause-err g c before given first begins =
+returns-in_err-go_on_before-clause-err g c before first given begins =
     let S = c.args.plan.now.script.now in
     let book = g.D.Draws.book c.args.plan.now.draws.now in
     let H = c.args.plan.now.history.now in

@@ -38,8 +38,8 @@ returns-in_err-take_all_turns-clause-err g c given begins =
     let book = g.D.Draws.book c.args.plan.now.draws.now in
     let H = c.args.plan.now.history.now in
     on_err _ c.from_residual-in_err-take_all_turns.result
-    (c.in_err-take_all_turns.ensures.err (g.K.Keeper.kept c.args.keeper.now) given
-    (c.in_ok-run.ensures.kept book H) begins)
+    (c.in_err-take_all_turns.ensures.err (g.K.Keeper.kept c.args.keeper.now)
+    (c.in_ok-run.ensures.kept book H) given begins)
 
 pub returns-in_err-run-clause-refused : goal.returns-in_err-run-clause-refused
 returns-in_err-run-clause-refused g c =
