@@ -1,9 +1,10 @@
 -- The replies that a client makes of the one reply that it gets.
-use Rattle.std.specs.Prelude.{ℕ, ◌-◌, List, ◌∷◌, replicate}
+use Rattle.std.specs.Prelude.{ℕ, ◌-◌, List, ◌∷◌, map, replicate}
 use Rattle.tk_shape.specs.declared.shape.Shape.{Shape}
 use Rattle.tk_shape.specs.Lengths.{width}
 use Rattle.tk_frames.specs.declared.read_frame.ReadFrame.{ReadFrame}
 use Rattle.tk_frames.specs.declared.reply_frame.ReplyFrame.{ReplyFrame}
+use Rattle.tk_frames.specs.Spelling.{reply_frame}
 use Rattle.tk_relay.specs.declared.part.Part.{Part}
 use Rattle.tk_relay.specs.Halves.{Halves, mixed, joined}
 use Rattle.tk_relay.specs.Pads.{PadLists}
@@ -45,3 +46,7 @@ unfoldable pub replies_from : Shape → PadLists → Part → List ReplyFrame
 replies_from shape pads p =
     reply_with p (unmasked shape pads p)
     ∷ replicate (shape.servers - 1) (reply_with p (zero_halves (width shape)))
+
+-- their frames
+abbrev pub reply_frames_from : Shape → PadLists → Part → List (List ℕ)
+reply_frames_from shape pads p = map reply_frame (replies_from shape pads p)

@@ -3,9 +3,14 @@ use Rattle.std.specs.Prelude.{◌≡◌, ℕ, ◌≤◌, List, length, map, All}
 use Rattle.std.specs.List.{AllByRecursion, zip}
 use Rattle.tk_shape.specs.declared.shape.Shape.{Shape}
 use Rattle.tk_shape.specs.Lengths.{vector_len, width}
+use Rattle.tk_frames.specs.declared.entry.Placed.{Placed}
+use Rattle.tk_frames.specs.Order.{before}
 use Rattle.tk_kernel.specs.Chosen.{chosen_sum}
 use Rattle.tk_kernel.specs.Pieces.{AllSized}
 use Rattle.tk_bucket.specs.Bytes.{BlockList}
+use Rattle.tk_table.specs.Table.{layout, blocks_of}
+use Rattle.tk_cluster.specs.declared.set.EpochSet.{EpochSet}
+use Rattle.tk_cluster.specs.Sets.{StandsAtMark}
 use Rattle.tk_relay.specs.declared.part.Part.{Part}
 use Rattle.tk_relay.specs.Halves.{Halves, HasHalves, joined}
 use Rattle.tk_relay.specs.Pads.{PadLists, Padding, masked}
@@ -73,6 +78,41 @@ pub record AreChosenSums (shape : Shape) (blocks : List (List ℕ)) (server : �
   pub sized : AllSized (width shape) blocks
   pub first_are : first ≡ map (chosen_sum (width shape) blocks) (map (first_asked server) asked)
   pub second_are : second ≡ map (chosen_sum (width shape) blocks) (map (second_asked server) asked)
+
+-- of whatever shape they are that a server is asked with these parts, and has these blocks
+abbrev pub ForShapeAsked : ℕ → List Padding → List Part → (Shape → Type 0) → Type 0
+ForShapeAsked server pads parts says =
+    (shape : Shape) → AreAskedParts shape server pads parts → says shape
+
+abbrev pub ForShapeHad : BlockList → ℕ → List Padding → List Part → (Shape → Type 0) → Type 0
+ForShapeHad blocks server pads parts says =
+    (shape : Shape) → AreHad shape blocks → AreAskedParts shape server pads parts → says shape
+
+-- these are the sums of some blocks, and of whatever blocks they are
+abbrev pub AreSumsAsked :
+    ℕ → List Padding → List Part → List (List ℕ) → List (List ℕ) → Type 0
+AreSumsAsked server pads parts first second =
+    (shape : Shape) × (blocks : List (List ℕ)) × AreAskedParts shape server pads parts
+    × AreChosenSums shape blocks server (zip pads parts) first second
+
+abbrev pub ForBlocksAsked :
+    ℕ → List Padding → List Part → List (List ℕ) → List (List ℕ)
+    → (Shape → List (List ℕ) → Type 0) → Type 0
+ForBlocksAsked server pads parts first second says =
+    (shape : Shape) (blocks : List (List ℕ)) → AreAskedParts shape server pads parts →
+    AreChosenSums shape blocks server (zip pads parts) first second → says shape blocks
+
+-- replies of a shape
+abbrev pub AreOfShape : Shape → List Part → Type 0
+AreOfShape shape replies = AllByRecursion (λ p. HasHalves (width shape) (halves_of p)) replies
+
+-- ---- the blocks of a set
+
+-- of whatever shape and entries it stands for, with the blocks of its epoch
+abbrev pub ForBlocksOf : EpochSet → (Shape → List (List ℕ) → Type 0) → Type 0
+ForBlocksOf set says =
+    (shape : Shape) (E : List Placed) → StandsAtMark shape E set.number set →
+    says shape (blocks_of (layout shape (before E set.number)))
 
 -- ---- all replies
 

@@ -1,20 +1,17 @@
 //! What clients ask in a turn, and the bundles that they send to server 1.
-ghost use Rattle.std.specs.Prelude.{◌≡◌, ◌<◌, ◌+◌, ℕ, List, length, map, IfOk, OnOk};
+ghost use Rattle.std.specs.Prelude.{◌≡◌, ◌<◌, ℕ, List, length, map, IfOk, OnOk};
 ghost use Rattle.std.specs.List.{AllByRecursion};
 ghost use Rattle.tk_shape.specs.Lengths.{turn_count};
 ghost use Rattle.tk_schedule.specs.Schedule.{epoch_at, serial_history};
-ghost use Rattle.tk_words.specs.Words.{words_of};
 ghost use Rattle.tk_frames.specs.declared.read_frame.ReadFrame.{ReadFrame as Frame};
 ghost use Rattle.tk_frames.specs.Ranges.{IsRead};
 ghost use Rattle.tk_frames.specs.Spelling.{read_frame};
-ghost use Rattle.tk_cluster.specs.Sets.{StandsAtMark};
-ghost use Rattle.tk_report.specs.Clients.{AreClients};
-ghost use Rattle.tk_report.specs.Turns.{placed_before};
 ghost use Rattle.tk_relay.specs.Bundles.{AreOneRead};
 ghost use Rattle.tk_relay.specs.Reads.{IsSplitRead};
 ghost use Rattle.tk_relay.specs.Pads.{ArePads, paddings_of};
 ghost use Rattle.tk_relay.specs.Relayed.{frames_read};
-ghost use Rattle.tk_relay.specs.Running.{client_wrote, client_asked, AreRelayed};
+ghost use Rattle.tk_relay.specs.Running.{ClientWrote, ClientAsked, ClientsWrote, ClientsAsked};
+ghost use Rattle.tk_relay.specs.Running.{AreSentUnder, StandsAfter};
 
 use crate::relayed_read::RelayedRead;
 use crate::{Pads, bundle, split};
@@ -57,22 +54,15 @@ pub(crate) fn ask_all<D: Draws>(
     requires counted { length pads.now ≡ plan.now.script.now.shape.clients }
     requires pads { (seeds : List (List ℕ))
         × (pads.now ≡ paddings_of plan.now.script.now.shape seeds turn) }
-    requires clients { let S = plan.now.script.now in
-        let words = words_of S.shape (D.book plan.now.draws.now) in
-        AreClients S.shape.clients (client_wrote S words plan.now.history.now turn) clients.old }
-    requires set { let S = plan.now.script.now in
-        let words = words_of S.shape (D.book plan.now.draws.now) in
-        StandsAtMark S.shape (placed_before S words plan.now.history.now (turn + 1)) set.now.number
-        set.now }
+    requires clients { ClientsWrote plan.now.script.now (D.book plan.now.draws.now)
+        plan.now.history.now turn clients.old }
+    requires set { StandsAfter plan.now.script.now (D.book plan.now.draws.now)
+        plan.now.history.now turn set.now }
     requires epoch { set.now.number ≡ epoch_at plan.now.history.now turn 0 }
-    ensures clients { let S = plan.now.script.now in
-        let words = words_of S.shape (D.book plan.now.draws.now) in
-        OnOk result (AreClients S.shape.clients
-        (client_asked S words plan.now.history.now turn) clients.new) }
-    ensures reads { let S = plan.now.script.now in let book = D.book plan.now.draws.now in
-        (seeds : List (List ℕ)) → pads.now ≡ paddings_of S.shape seeds turn
-        → IfOk result
-        (λ reads. AreRelayed S book seeds plan.now.history.now turn 0 reads.items) }
+    ensures clients { OnOk result (ClientsAsked plan.now.script.now (D.book plan.now.draws.now)
+        plan.now.history.now turn clients.new) }
+    ensures reads { IfOk result (λ reads. AreSentUnder plan.now.script.now
+        (D.book plan.now.draws.now) plan.now.history.now turn pads.now reads.items) }
 {
     let shape = &plan.script.shape;
     let mut reads = Vec::new(alloc);
@@ -94,17 +84,13 @@ fn ask<D: Draws>(
 ) -> Result<Vec<ReadFrame>, Memory>
     requires turn_in { turn < turn_count plan.now.script.now.shape }
     requires number_in { number < plan.now.script.now.shape.clients }
-    requires client { let S = plan.now.script.now in
-        let words = words_of S.shape (D.book plan.now.draws.now) in
-        client.old ≡ client_wrote S words plan.now.history.now turn number }
-    requires set { let S = plan.now.script.now in
-        let words = words_of S.shape (D.book plan.now.draws.now) in
-        StandsAtMark S.shape (placed_before S words plan.now.history.now (turn + 1)) set.now.number
-        set.now }
+    requires client { ClientWrote plan.now.script.now (D.book plan.now.draws.now)
+        plan.now.history.now turn number client.old }
+    requires set { StandsAfter plan.now.script.now (D.book plan.now.draws.now)
+        plan.now.history.now turn set.now }
     requires epoch { set.now.number ≡ epoch_at plan.now.history.now turn number }
-    ensures client { let S = plan.now.script.now in
-        let words = words_of S.shape (D.book plan.now.draws.now) in
-        OnOk result (client.new ≡ client_asked S words plan.now.history.now turn number) }
+    ensures client { OnOk result (ClientAsked plan.now.script.now (D.book plan.now.draws.now)
+        plan.now.history.now turn number client.new) }
     ensures frames { let book = D.book plan.now.draws.now in
         IfOk result (λ frames. frames.items
         ≡ frames_read plan.now.script.now book plan.now.history.now turn number) }

@@ -1,11 +1,8 @@
 ghost use Rattle.std.specs.Prelude.{◌≡◌, ◌+◌, ◌≤◌, IfOk, IfErr, OnOk, OnErr};
 ghost use Rattle.tk_io.specs.Content.{Rose};
-ghost use Rattle.tk_io.specs.Tapped.{TapsGain, TapsGainFronts, TapsKeepBut};
-ghost use Rattle.tk_schedule.specs.Schedule.{serial_history};
-ghost use Rattle.tk_words.specs.Words.{words_of};
-ghost use Rattle.tk_report.specs.Exchange.{bytes_of};
-ghost use Rattle.tk_report.specs.Outcomes.{IsLeftBy};
-ghost use Rattle.tk_relay.specs.Relayed.{seeds_of, relayed_exchange};
+ghost use Rattle.tk_io.specs.Tapped.{TapsKeepBut};
+ghost use Rattle.tk_relay.specs.Relayed.{seeds_of};
+ghost use Rattle.tk_relay.specs.Running.{serial_run, IsOutcomeOf, GainRun, GainRunFronts};
 
 use crate::RelayRunError;
 use crate::servers::Servers;
@@ -32,18 +29,13 @@ pub fn relayed<T: Taps, R: Wait + AllocGlobal>(
 ) -> Result<Outcome, RelayRunError>
     requires one_shape { ⟦<KeyedDraws as Draws>⟧.shape draws.now ≡ script.now.shape }
     requires own_seeds { seeds.now ≡ seeds_of (⟦<KeyedDraws as Draws>⟧.book draws.now) }
-    ensures left { let book = ⟦<KeyedDraws as Draws>⟧.book draws.now in
-        let words = words_of script.now.shape book in
-        IfOk result (IsLeftBy script.now words (serial_history script.now.shape)) }
-    ensures ok { let book = ⟦<KeyedDraws as Draws>⟧.book draws.now in
-        let history = serial_history script.now.shape in
-        OnOk result (TapsGain script.now.shape.servers
-        (λ j. bytes_of (relayed_exchange script.now book seeds.now history j))
+    ensures left { IfOk result
+        (IsOutcomeOf (serial_run script.now (⟦<KeyedDraws as Draws>⟧.book draws.now))) }
+    ensures ok { OnOk result (GainRun
+        (serial_run script.now (⟦<KeyedDraws as Draws>⟧.book draws.now)) seeds.now
         (T.tap taps.old) (T.tap taps.new)) }
-    ensures err { let book = ⟦<KeyedDraws as Draws>⟧.book draws.now in
-        let history = serial_history script.now.shape in
-        OnErr result (TapsGainFronts script.now.shape.servers
-        (λ j. bytes_of (relayed_exchange script.now book seeds.now history j))
+    ensures err { OnErr result (GainRunFronts
+        (serial_run script.now (⟦<KeyedDraws as Draws>⟧.book draws.now)) seeds.now
         (T.tap taps.old) (T.tap taps.new)) }
     ensures others { TapsKeepBut script.now.shape.servers (T.tap taps.old) (T.tap taps.new) }
     ensures rose { IfErr result (λ e. e ≡ RelayRunError.Taps
@@ -69,18 +61,13 @@ fn relayed_over<B: Naming, T: Taps, R: Wait + AllocGlobal>(
     requires same { script.now.shape ≡ B.shape }
     requires one_shape { ⟦<KeyedDraws as Draws>⟧.shape draws.now ≡ script.now.shape }
     requires own_seeds { seeds.now ≡ seeds_of (⟦<KeyedDraws as Draws>⟧.book draws.now) }
-    ensures left { let book = ⟦<KeyedDraws as Draws>⟧.book draws.now in
-        let words = words_of script.now.shape book in
-        IfOk result (IsLeftBy script.now words (serial_history script.now.shape)) }
-    ensures ok { let book = ⟦<KeyedDraws as Draws>⟧.book draws.now in
-        let history = serial_history script.now.shape in
-        OnOk result (TapsGain script.now.shape.servers
-        (λ j. bytes_of (relayed_exchange script.now book seeds.now history j))
+    ensures left { IfOk result
+        (IsOutcomeOf (serial_run script.now (⟦<KeyedDraws as Draws>⟧.book draws.now))) }
+    ensures ok { OnOk result (GainRun
+        (serial_run script.now (⟦<KeyedDraws as Draws>⟧.book draws.now)) seeds.now
         (T.tap taps.old) (T.tap taps.new)) }
-    ensures err { let book = ⟦<KeyedDraws as Draws>⟧.book draws.now in
-        let history = serial_history script.now.shape in
-        OnErr result (TapsGainFronts script.now.shape.servers
-        (λ j. bytes_of (relayed_exchange script.now book seeds.now history j))
+    ensures err { OnErr result (GainRunFronts
+        (serial_run script.now (⟦<KeyedDraws as Draws>⟧.book draws.now)) seeds.now
         (T.tap taps.old) (T.tap taps.new)) }
     ensures others { TapsKeepBut script.now.shape.servers (T.tap taps.old) (T.tap taps.new) }
     ensures rose { IfErr result (λ e. e ≡ RelayRunError.Taps

@@ -1,11 +1,7 @@
 //! The servers' replies to all reads of a turn, which are over one epoch: each server goes over its blocks once.
-ghost use Rattle.std.specs.Prelude.{◌≡◌, ◌≤◌, List, length, map, All, IfOk, OnOk};
-ghost use Rattle.tk_shape.specs.declared.shape.Shape.{Shape};
-ghost use Rattle.tk_frames.specs.declared.entry.Placed.{Placed};
-ghost use Rattle.tk_frames.specs.Order.{before};
-ghost use Rattle.tk_table.specs.Table.{layout, blocks_of};
-ghost use Rattle.tk_cluster.specs.Sets.{StandsAtMark};
+ghost use Rattle.std.specs.Prelude.{◌≡◌, ◌≤◌, length, map, All, IfOk, OnOk};
 ghost use Rattle.tk_relay.specs.Reads.{HasAllParts, AreServed, HaveReplies, part_of};
+ghost use Rattle.tk_relay.specs.Serving.{ForBlocksOf};
 
 use crate::relayed_read::RelayedRead;
 use crate::{Pads, Part, serve_parts};
@@ -23,9 +19,8 @@ pub(crate) fn serve_all(
     requires counted { length pads.now ≡ length reads.old }
     requires one_shape { All (λ p. p.shape ≡ set.now.shape) pads.now }
     requires whole { All (HasAllParts set.now.shape) reads.old }
-    ensures { (shape : Shape) (E : List Placed) → StandsAtMark shape E set.now.number set.now
-        → let blocks = blocks_of (layout shape (before E set.now.number)) in
-        OnOk result (AreServed shape blocks pads.now 1 shape.servers reads.old reads.new) }
+    ensures { ForBlocksOf set.now (λ shape blocks. OnOk result
+        (AreServed shape blocks pads.now 1 shape.servers reads.old reads.new)) }
 {
     for server in 1..set.servers() + 1 {
         serve(alloc, set, server, pads, reads)?;
@@ -47,9 +42,8 @@ fn serve(
     requires one_shape { All (λ p. p.shape ≡ set.now.shape) pads.now }
     requires whole { All (HasAllParts set.now.shape) reads.old }
     ensures whole { OnOk result (All (HasAllParts set.now.shape) reads.new) }
-    ensures served { (shape : Shape) (E : List Placed) → StandsAtMark shape E set.now.number set.now
-        → let blocks = blocks_of (layout shape (before E set.now.number)) in
-        OnOk result (AreServed shape blocks pads.now server 1 reads.old reads.new) }
+    ensures served { ForBlocksOf set.now (λ shape blocks. OnOk result
+        (AreServed shape blocks pads.now server 1 reads.old reads.new)) }
 {
     let parts = passed_on(alloc, server, reads)?;
     // all parts are of the set's epoch, so that only memory may be wanting

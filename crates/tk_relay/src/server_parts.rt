@@ -1,21 +1,18 @@
-ghost use Rattle.std.specs.Prelude.{◌≡◌, ◌*◌, ◌≤◌, ◌++◌, ℕ, List, All, length, map, None, IfOk, IfErr, OnOk};
-ghost use Rattle.std.specs.List.{zip, AllByRecursion};
+ghost use Rattle.std.specs.Prelude.{◌≡◌, ◌*◌, ◌≤◌, ◌++◌, All, length, map, None, IfOk, IfErr, OnOk};
+ghost use Rattle.std.specs.List.{zip};
 ghost use Rattle.std.specs.Result.{result_err};
 ghost use Rattle.tk_shape.specs.declared.shape.Shape.{Shape};
 ghost use Rattle.tk_shape.specs.Lengths.{vector_len, width};
-ghost use Rattle.tk_frames.specs.declared.entry.Placed.{Placed};
-ghost use Rattle.tk_frames.specs.Order.{before};
 ghost use Rattle.tk_kernel.specs.Chosen.{chosen_sum};
 ghost use Rattle.tk_kernel.specs.Pieces.{AllSized};
-ghost use Rattle.tk_table.specs.Table.{layout, blocks_of};
-ghost use Rattle.tk_cluster.specs.Sets.{StandsAtMark};
 ghost use Rattle.tk_relay.specs.declared.part_error.PartError.TheVariants as fault;
 ghost use Rattle.tk_relay.specs.Halves.{HasHalves};
 ghost use Rattle.tk_relay.specs.Pads.{masked};
 ghost use Rattle.tk_relay.specs.Parts.{halves_of, part_with};
 ghost use Rattle.tk_relay.specs.Refusals.{IsRefused, other_epoch, first_other_epoch};
 ghost use Rattle.tk_relay.specs.Serving.{served_part, served_parts, first_asked, second_asked};
-ghost use Rattle.tk_relay.specs.Serving.{AreAskedParts, AreHad, AreChosenSums};
+ghost use Rattle.tk_relay.specs.Serving.{AreAskedParts, AreHad, AreOfShape, AreSumsAsked};
+ghost use Rattle.tk_relay.specs.Serving.{ForBlocksOf, ForBlocksAsked, ForShapeAsked, ForShapeHad};
 
 use crate::halves::Halves;
 use crate::{Pads, Part, PartError};
@@ -42,9 +39,8 @@ pub fn serve_part(
     ensures kept { OnOk result (other_epoch set.now.number part.now ≡ None) }
     ensures refused { IfErr result (IsRefused fault.Memory (other_epoch set.now.number part.now)) }
     ensures sized { IfOk result (λ p. HasHalves (width set.now.shape) (halves_of p)) }
-    ensures served { (shape : Shape) (E : List Placed) → StandsAtMark shape E set.now.number set.now
-        → let blocks = blocks_of (layout shape (before E set.now.number)) in
-        IfOk result (λ p. p ≡ served_part shape blocks pads.now.pads server part.now) }
+    ensures served { ForBlocksOf set.now (λ shape blocks. IfOk result
+        (λ p. p ≡ served_part shape blocks pads.now.pads server part.now)) }
 {
     let parts = slice::from_ref(part);
     let replies = serve_parts(alloc, set, server, parts, slice::from_ref(pads))?;
@@ -73,9 +69,8 @@ pub fn serve_parts(
         (IsRefused fault.Memory (first_other_epoch set.now.number parts.now)) }
     ensures sized { IfOk result
         (λ rs. All (λ p. HasHalves (width set.now.shape) (halves_of p)) rs.items) }
-    ensures served { (shape : Shape) (E : List Placed) → StandsAtMark shape E set.now.number set.now
-        → let blocks = blocks_of (layout shape (before E set.now.number)) in
-        IfOk result (λ rs. rs.items ≡ served_parts shape blocks server pads.now parts.now) }
+    ensures served { ForBlocksOf set.now (λ shape blocks. IfOk result
+        (λ rs. rs.items ≡ served_parts shape blocks server pads.now parts.now)) }
 {
     check_epochs(set.number(), parts)?;
     Ok(replies_over(alloc, set.blocks(server), server, parts, pads)?)
@@ -115,14 +110,11 @@ fn replies_over(
 ) -> Result<Vec<Part>, Memory>
     requires { (shape : Shape) × AreHad shape blocks.now
         × AreAskedParts shape server pads.now parts.now }
-    ensures sized { (shape : Shape) → AreHad shape blocks.now
-        → AreAskedParts shape server pads.now parts.now
-        → IfOk result
-        (λ rs. AllByRecursion (λ p. HasHalves (width shape) (halves_of p)) rs.items) }
-    ensures served { (shape : Shape) → AreHad shape blocks.now
-        → AreAskedParts shape server pads.now parts.now
-        → IfOk result
-        (λ rs. rs.items ≡ served_parts shape blocks.now.blocks server pads.now parts.now) }
+    ensures sized { ForShapeHad blocks.now server pads.now parts.now
+        (λ shape. IfOk result (λ rs. AreOfShape shape rs.items)) }
+    ensures served { let had = blocks.now in
+        ForShapeHad had server pads.now parts.now (λ shape. IfOk result
+        (λ rs. rs.items ≡ served_parts shape had.blocks server pads.now parts.now)) }
 {
     let vectors = vectors_for(alloc, server, parts, pads)?;
     let sums = sums_of_all(alloc, blocks, vectors)?;
@@ -155,8 +147,8 @@ fn vectors_for(
     pads: &[Pads],
 ) -> Result<Vec<Bytes>, Memory>
     requires { (shape : Shape) × AreAskedParts shape server pads.now parts.now }
-    ensures sized { (shape : Shape) → AreAskedParts shape server pads.now parts.now
-        → IfOk result (λ vectors. AllSized (vector_len shape) vectors.items) }
+    ensures sized { ForShapeAsked server pads.now parts.now
+        (λ shape. IfOk result (λ vectors. AllSized (vector_len shape) vectors.items)) }
     ensures vectors { let asked = zip pads.now parts.now in
         IfOk result (λ vectors. vectors.items
         ≡ map (first_asked server) asked ++ map (second_asked server) asked) }
@@ -181,16 +173,12 @@ fn replies_with(
     first: &[Bytes],
     second: &[Bytes],
 ) -> Result<Vec<Part>, Memory>
-    requires { (shape : Shape) × (blocks : List (List ℕ))
-        × AreAskedParts shape server pads.now parts.now
-        × AreChosenSums shape blocks server (zip pads.now parts.now) first.now second.now }
-    ensures sized { (shape : Shape) → AreAskedParts shape server pads.now parts.now
-        → IfOk result
-        (λ rs. AllByRecursion (λ p. HasHalves (width shape) (halves_of p)) rs.items) }
-    ensures served { (shape : Shape) (blocks : List (List ℕ))
-        → AreAskedParts shape server pads.now parts.now
-        → AreChosenSums shape blocks server (zip pads.now parts.now) first.now second.now
-        → IfOk result (λ rs. rs.items ≡ served_parts shape blocks server pads.now parts.now) }
+    requires { AreSumsAsked server pads.now parts.now first.now second.now }
+    ensures sized { ForShapeAsked server pads.now parts.now
+        (λ shape. IfOk result (λ rs. AreOfShape shape rs.items)) }
+    ensures served { ForBlocksAsked server pads.now parts.now first.now second.now
+        (λ shape blocks. IfOk result
+        (λ rs. rs.items ≡ served_parts shape blocks server pads.now parts.now)) }
 {
     let mut replies = Vec::new(alloc);
     for (i, part) in parts.iter().enumerate() {

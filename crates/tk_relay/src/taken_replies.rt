@@ -1,16 +1,13 @@
 //! What clients take of the one reply to each read.
-ghost use Rattle.std.specs.Prelude.{◌≡◌, ◌<◌, ◌+◌, ℕ, List, length, map, IfOk, OnOk};
+ghost use Rattle.std.specs.Prelude.{◌≡◌, ◌<◌, length, IfOk, OnOk};
 ghost use Rattle.std.specs.List.{AllByRecursion};
 ghost use Rattle.tk_shape.specs.Lengths.{turn_count, width};
-ghost use Rattle.tk_words.specs.Words.{words_of, seed_at};
-ghost use Rattle.tk_frames.specs.Spelling.{reply_frame};
-ghost use Rattle.tk_report.specs.Clients.{AreClients, client_before};
 ghost use Rattle.tk_relay.specs.Halves.{HasHalves};
 ghost use Rattle.tk_relay.specs.Parts.{halves_of};
 ghost use Rattle.tk_relay.specs.Serving.{gathered_part};
-ghost use Rattle.tk_relay.specs.Replies.{replies_from};
-ghost use Rattle.tk_relay.specs.Pads.{padding_of, paddings_of};
-ghost use Rattle.tk_relay.specs.Running.{client_asked, IsRelayed, AreRelayed};
+ghost use Rattle.tk_relay.specs.Replies.{reply_frames_from};
+ghost use Rattle.tk_relay.specs.Running.{ClientAsked, ClientRead, ClientsAsked, ClientsRead};
+ghost use Rattle.tk_relay.specs.Running.{AreRepliedUnder, IsRepliedUnder};
 
 use crate::relayed_read::RelayedRead;
 use crate::{Pads, gather, replies_for};
@@ -31,17 +28,12 @@ pub(crate) fn take_all<D: Draws>(
 ) -> Result<(), Memory>
     requires turn_in { turn < turn_count plan.now.script.now.shape }
     requires counted { length pads.now ≡ plan.now.script.now.shape.clients }
-    requires reads { let S = plan.now.script.now in
-        (seeds : List (List ℕ)) × (pads.now ≡ paddings_of S.shape seeds turn)
-        × AreRelayed S (D.book plan.now.draws.now) seeds plan.now.history.now turn S.shape.servers
-        reads.now }
-    requires clients { let S = plan.now.script.now in
-        let words = words_of S.shape (D.book plan.now.draws.now) in
-        AreClients S.shape.clients (client_asked S words plan.now.history.now turn) clients.old }
-    ensures { let S = plan.now.script.now in
-        let words = words_of S.shape (D.book plan.now.draws.now) in
-        OnOk result (AreClients S.shape.clients
-        (client_before S words plan.now.history.now (turn + 1)) clients.new) }
+    requires reads { AreRepliedUnder plan.now.script.now (D.book plan.now.draws.now)
+        plan.now.history.now turn pads.now reads.now }
+    requires clients { ClientsAsked plan.now.script.now (D.book plan.now.draws.now)
+        plan.now.history.now turn clients.old }
+    ensures { OnOk result (ClientsRead plan.now.script.now (D.book plan.now.draws.now)
+        plan.now.history.now turn clients.new) }
 {
     'taking: for (i, client) in clients.iter_mut().enumerate() {
         take_one(alloc, plan, turn, i as u32, &pads[i], &reads[i], client)?;
@@ -61,17 +53,12 @@ fn take_one<D: Draws>(
 ) -> Result<(), Memory>
     requires turn_in { turn < turn_count plan.now.script.now.shape }
     requires number_in { number < plan.now.script.now.shape.clients }
-    requires read { let S = plan.now.script.now in
-        (seeds : List (List ℕ)) × (pads.now ≡ padding_of S.shape (seed_at seeds number) turn)
-        × IsRelayed S (D.book plan.now.draws.now) seeds plan.now.history.now turn S.shape.servers
-        number read.now }
-    requires client { let S = plan.now.script.now in
-        let words = words_of S.shape (D.book plan.now.draws.now) in
-        client.old ≡ client_asked S words plan.now.history.now turn number }
-    ensures { let S = plan.now.script.now in
-        let words = words_of S.shape (D.book plan.now.draws.now) in
-        OnOk result
-        (client.new ≡ client_before S words plan.now.history.now (turn + 1) number) }
+    requires read { IsRepliedUnder plan.now.script.now (D.book plan.now.draws.now)
+        plan.now.history.now turn number pads.now read.now }
+    requires client { ClientAsked plan.now.script.now (D.book plan.now.draws.now)
+        plan.now.history.now turn number client.old }
+    ensures { OnOk result (ClientRead plan.now.script.now (D.book plan.now.draws.now)
+        plan.now.history.now turn number client.new) }
 {
     let replies = replies_to(alloc, &plan.script.shape, pads, read)?;
     // what servers send are the replies to what was asked, so that only memory may be wanting
@@ -92,9 +79,8 @@ fn replies_to(
     requires counted { length read.now.replies.items ≡ shape.now.servers }
     requires sized { AllByRecursion (λ p. HasHalves (width shape.now) (halves_of p))
         read.now.replies.items }
-    ensures { let joined = gathered_part read.now.replies.items in
-        IfOk result (λ replies. replies.items
-        ≡ map reply_frame (replies_from shape.now pads.now.pads joined)) }
+    ensures { IfOk result (λ replies. replies.items
+        ≡ reply_frames_from shape.now pads.now.pads (gathered_part read.now.replies.items)) }
 {
     // all servers reply to one read, so that only memory may be wanting
     let Ok(joined) = gather(alloc, read.replies.as_slice()) else {

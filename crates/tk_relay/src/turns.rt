@@ -1,18 +1,13 @@
-ghost use Rattle.std.specs.Prelude.{◌≡◌, ◌≤◌, ◌<◌, ◌+◌, map, length, IfOk};
+ghost use Rattle.std.specs.Prelude.{◌≡◌, ◌≤◌, ◌<◌, ◌+◌, length, IfOk};
 ghost use Rattle.std.specs.Prelude.{IfErr, OnOk, OnErr};
 ghost use Rattle.std.specs.Arc.{arc_value};
-ghost use Rattle.std.specs.List.{range_with_len};
 ghost use Rattle.tk_io.specs.Content.{Rose};
-ghost use Rattle.tk_io.specs.Tapped.{TapsGain, TapsGainFronts, TapsKeepBut};
+ghost use Rattle.tk_io.specs.Tapped.{TapsKeepBut};
 ghost use Rattle.tk_shape.specs.Lengths.{turn_count};
 ghost use Rattle.tk_schedule.specs.Schedule.{epoch_at, serial_history};
-ghost use Rattle.tk_words.specs.Words.{words_of};
-ghost use Rattle.tk_report.specs.Clients.{AreClients, client_before};
-ghost use Rattle.tk_report.specs.Exchange.{bytes_of};
-ghost use Rattle.tk_report.specs.Turns.{placed_before};
-ghost use Rattle.tk_cluster.specs.Sets.{StandsAtMark};
-ghost use Rattle.tk_relay.specs.Relayed.{relayed_turn, relayed_exchange};
-ghost use Rattle.tk_relay.specs.Running.{IsRunBefore, HaveWritten, AreRelayed, client_wrote};
+ghost use Rattle.tk_relay.specs.Running.{ClientsWrote, ClientsRead, AreReplied, StandsAfter};
+ghost use Rattle.tk_relay.specs.Running.{planned, turn_sights, IsBefore, IsAtEnd, IsWritten};
+ghost use Rattle.tk_relay.specs.Running.{GainRun, GainRunFronts, GainTurn, GainTurnFronts};
 
 use crate::RelayRunError;
 use crate::asked_reads::{ask_all, pads_of_all};
@@ -47,23 +42,14 @@ pub(crate) fn take_all_turns<'a, B: Naming, R: Wait + AllocGlobal, D: Draws, T: 
 ) -> Result<(), RelayRunError>
     requires serial { plan.now.history.now ≡ serial_history plan.now.script.now.shape }
     requires seeds { length seeds.now ≡ plan.now.script.now.shape.clients }
-    requires run { let r = run.old in
-        IsRunBefore B.shape plan.now.script.now (D.book plan.now.draws.now) plan.now.history.now 0
+    requires run { let r = run.old in IsBefore B.shape (planned plan.now) 0
         r.group r.servers.passes.items r.servers.publisher r.servers.taken }
-    ensures run { let r = run.new in let end = turn_count plan.now.script.now.shape in
-        OnOk result (IsRunBefore B.shape plan.now.script.now (D.book plan.now.draws.now)
-        plan.now.history.now end
+    ensures run { let r = run.new in OnOk result (IsAtEnd B.shape (planned plan.now)
         r.group r.servers.passes.items r.servers.publisher r.servers.taken) }
-    ensures ok { let S = plan.now.script.now in
-        let book = D.book plan.now.draws.now in
-        OnOk result (TapsGain S.shape.servers
-        (λ j. bytes_of (relayed_exchange S book seeds.now plan.now.history.now j))
-        (T.tap taps.old) (T.tap taps.new)) }
-    ensures err { let S = plan.now.script.now in
-        let book = D.book plan.now.draws.now in
-        OnErr result (TapsGainFronts S.shape.servers
-        (λ j. bytes_of (relayed_exchange S book seeds.now plan.now.history.now j))
-        (T.tap taps.old) (T.tap taps.new)) }
+    ensures ok { OnOk result
+        (GainRun (planned plan.now) seeds.now (T.tap taps.old) (T.tap taps.new)) }
+    ensures err { OnErr result
+        (GainRunFronts (planned plan.now) seeds.now (T.tap taps.old) (T.tap taps.new)) }
     ensures others { TapsKeepBut plan.now.script.now.shape.servers
         (T.tap taps.old) (T.tap taps.new) }
     ensures rose { IfErr result (λ e. e ≡ RelayRunError.Taps
@@ -88,23 +74,14 @@ fn take_turn<'a, B: Naming, R: Wait + AllocGlobal, D: Draws, T: Taps>(
     requires turn_in { turn < turn_count plan.now.script.now.shape }
     requires serial { plan.now.history.now ≡ serial_history plan.now.script.now.shape }
     requires seeds { length seeds.now ≡ plan.now.script.now.shape.clients }
-    requires run { let r = run.old in
-        IsRunBefore B.shape plan.now.script.now (D.book plan.now.draws.now) plan.now.history.now turn
+    requires run { let r = run.old in IsBefore B.shape (planned plan.now) turn
         r.group r.servers.passes.items r.servers.publisher r.servers.taken }
-    ensures run { let r = run.new in
-        OnOk result (IsRunBefore B.shape plan.now.script.now (D.book plan.now.draws.now)
-        plan.now.history.now (turn + 1)
+    ensures run { let r = run.new in OnOk result (IsBefore B.shape (planned plan.now) (turn + 1)
         r.group r.servers.passes.items r.servers.publisher r.servers.taken) }
-    ensures ok { let S = plan.now.script.now in
-        let book = D.book plan.now.draws.now in
-        OnOk result (TapsGain S.shape.servers
-        (relayed_turn S book seeds.now plan.now.history.now turn)
-        (T.tap taps.old) (T.tap taps.new)) }
-    ensures err { let S = plan.now.script.now in
-        let book = D.book plan.now.draws.now in
-        OnErr result (TapsGainFronts S.shape.servers
-        (relayed_turn S book seeds.now plan.now.history.now turn)
-        (T.tap taps.old) (T.tap taps.new)) }
+    ensures ok { OnOk result
+        (GainTurn (planned plan.now) seeds.now turn (T.tap taps.old) (T.tap taps.new)) }
+    ensures err { OnErr result
+        (GainTurnFronts (planned plan.now) seeds.now turn (T.tap taps.old) (T.tap taps.new)) }
     ensures others { TapsKeepBut plan.now.script.now.shape.servers
         (T.tap taps.old) (T.tap taps.new) }
     ensures rose { IfErr result (λ e. e ≡ RelayRunError.Taps
@@ -128,18 +105,12 @@ fn meet<'a, B: Naming, R: Wait + AllocGlobal, D: Draws>(
     requires turn_in { turn < turn_count plan.now.script.now.shape }
     requires serial { plan.now.history.now ≡ serial_history plan.now.script.now.shape }
     requires seeds { length seeds.now ≡ plan.now.script.now.shape.clients }
-    requires run { let r = run.old in
-        IsRunBefore B.shape plan.now.script.now (D.book plan.now.draws.now) plan.now.history.now turn
+    requires run { let r = run.old in IsBefore B.shape (planned plan.now) turn
         r.group r.servers.passes.items r.servers.publisher r.servers.taken }
-    ensures run { let r = run.new in
-        OnOk result (IsRunBefore B.shape plan.now.script.now (D.book plan.now.draws.now)
-        plan.now.history.now (turn + 1)
+    ensures run { let r = run.new in OnOk result (IsBefore B.shape (planned plan.now) (turn + 1)
         r.group r.servers.passes.items r.servers.publisher r.servers.taken) }
-    ensures sights { let S = plan.now.script.now in
-        let book = D.book plan.now.draws.now in
-        IfOk result (λ sights. sights.items
-        ≡ map (relayed_turn S book seeds.now plan.now.history.now turn)
-        (range_with_len 1 S.shape.servers)) }
+    ensures sights { IfOk result
+        (λ sights. sights.items ≡ turn_sights (planned plan.now) seeds.now turn) }
 {
     let set = write_turn(alloc, plan, turn, run)?;
     let clients = run.group.clients.as_mut_slice();
@@ -159,11 +130,9 @@ fn write_turn<'a, B: Naming, R: Wait + AllocGlobal, D: Draws>(
 ) -> Result<Arc<EpochSet>, Memory>
     requires turn_in { turn < turn_count plan.now.script.now.shape }
     requires serial { plan.now.history.now ≡ serial_history plan.now.script.now.shape }
-    requires run { let r = run.old in
-        IsRunBefore B.shape plan.now.script.now (D.book plan.now.draws.now) plan.now.history.now turn
+    requires run { let r = run.old in IsBefore B.shape (planned plan.now) turn
         r.group r.servers.passes.items r.servers.publisher r.servers.taken }
-    ensures { let r = run.new in IfOk result (λ set.
-        HaveWritten B.shape plan.now.script.now (D.book plan.now.draws.now) plan.now.history.now turn
+    ensures { let r = run.new in IfOk result (λ set. IsWritten B.shape (planned plan.now) turn
         r.group r.servers.passes.items r.servers.publisher r.servers.taken (arc_value set)
         r.servers.seen.items) }
 {
@@ -192,22 +161,15 @@ fn read_turn<D: Draws>(
     requires turn_in { turn < turn_count plan.now.script.now.shape }
     requires serial { plan.now.history.now ≡ serial_history plan.now.script.now.shape }
     requires seeds { length seeds.now ≡ plan.now.script.now.shape.clients }
-    requires clients { let S = plan.now.script.now in
-        let words = words_of S.shape (D.book plan.now.draws.now) in
-        AreClients S.shape.clients (client_wrote S words plan.now.history.now turn) clients.old }
-    requires set { let S = plan.now.script.now in
-        let words = words_of S.shape (D.book plan.now.draws.now) in
-        StandsAtMark S.shape (placed_before S words plan.now.history.now (turn + 1)) set.now.number
-        set.now }
+    requires clients { ClientsWrote plan.now.script.now (D.book plan.now.draws.now)
+        plan.now.history.now turn clients.old }
+    requires set { StandsAfter plan.now.script.now (D.book plan.now.draws.now)
+        plan.now.history.now turn set.now }
     requires epoch { set.now.number ≡ epoch_at plan.now.history.now turn 0 }
-    ensures clients { let S = plan.now.script.now in
-        let words = words_of S.shape (D.book plan.now.draws.now) in
-        OnOk result (AreClients S.shape.clients
-        (client_before S words plan.now.history.now (turn + 1)) clients.new) }
-    ensures reads { let S = plan.now.script.now in
-        let book = D.book plan.now.draws.now in
-        IfOk result (λ reads. AreRelayed S book seeds.now plan.now.history.now turn
-        S.shape.servers reads.items) }
+    ensures clients { OnOk result (ClientsRead plan.now.script.now (D.book plan.now.draws.now)
+        plan.now.history.now turn clients.new) }
+    ensures reads { IfOk result (λ reads. AreReplied plan.now.script.now
+        (D.book plan.now.draws.now) seeds.now plan.now.history.now turn reads.items) }
 {
     let shape = &plan.script.shape;
     let keyed = pads_of_all(alloc, shape, seeds, turn)?;
