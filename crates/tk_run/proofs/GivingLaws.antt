@@ -9,13 +9,13 @@ use Rattle.tk_shape.specs.declared.shape.Shape.{Shape}
 use Rattle.tk_frames.specs.declared.entry.Placed.{Placed}
 use Rattle.tk_io.specs.Content.{gained}
 use Rattle.tk_run.specs.declared.server.Server.{Server}
-use Rattle.tk_run.specs.Servers.{IsServerAt, AreServers, MayWriteAndPin, AreReady, nothing_seen}
+use Rattle.tk_run.specs.Servers.{IsServerAt, AreServers, IsReadyServer, AreReady, nothing_seen}
 use Rattle.tk_io.specs.Tapped.{GainsFront, TapsGain, TapsGainFronts}
 use Rattle.tk_io.proofs.Offers.{fronts-here}
 
 -- a server has what another has, and has seen nothing since
 pub record IsGiven (s t : Server) : Type 0 where
-  pub ready : (shape : Shape) (E : List Placed) → MayWriteAndPin shape E s → MayWriteAndPin shape E t
+  pub ready : (shape : Shape) (E : List Placed) → IsReadyServer shape E s → IsReadyServer shape E t
   pub server : (shape : Shape) (E : List Placed) (bytes : List ℕ) →
       IsServerAt shape E bytes s → IsServerAt shape E [] t
 

@@ -21,7 +21,7 @@ use Rattle.tk_cluster.specs.Passes.{Passing, fresh}
 use Rattle.tk_cluster.specs.Tellings.{Telling}
 use Rattle.tk_cluster.specs.Clusters.{Opened}
 use Rattle.tk_cluster.specs.Closings.{Ended, Apart, AllOnce, by_client, EndsPass, Closes}
-use Rattle.tk_run.specs.Acting.{MayWriteAndPin}
+use Rattle.tk_run.specs.Acting.{IsReadyServer}
 use Rattle.tk_run.specs.Ran.{epochs_in, PassesAt, Ran}
 use Rattle.tk_run.proofs.EntryLists.{same_list}
 use Rattle.tk_run.proofs.TurnNumbers.{over_first}
@@ -63,7 +63,7 @@ ran_first {shape} write {p} {xs} h =
 
 all_ready : (shape : Shape) (K : List TurnOrder) (p : Telling) (most off : ℕ)
     (xs : List Passing) → length K < turn_count shape → phases_over shape (length K) ≤ most →
-    PassesAt shape K p off xs → All (MayWriteAndPin shape most) xs
+    PassesAt shape K p off xs → All (IsReadyServer shape most) xs
 all_ready shape K p most off [] low le at k d inside = absurd (omega (arith, inside))
 all_ready shape K p most off (a ∷ xs) low le at zero d inside =
     record {
@@ -76,7 +76,7 @@ all_ready shape K p most off (a ∷ xs) low le at (suc k) d inside =
 module _ {shape : Shape} {write : ℕ → ℕ → WriteFrame} {K : List TurnOrder} {xs : List Passing}
     {p : Telling} (ran : Ran shape write K xs p) where
   pub ran_ready : length K < turn_count shape →
-      All (MayWriteAndPin shape (phases_over shape (length K + 1))) xs
+      All (IsReadyServer shape (phases_over shape (length K + 1))) xs
   ran_ready low =
       all_ready shape K p (phases_over shape (length K + 1)) 0 xs low
       (omega (arith, phases-next shape (length K))) ran.passes

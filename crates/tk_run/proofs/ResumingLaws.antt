@@ -18,7 +18,7 @@ use Rattle.tk_report.specs.Displaced.{displaced_in}
 use Rattle.tk_run.specs.declared.server.Server.{Server}
 use Rattle.tk_run.specs.Keeping.{AreAccepted, AreGiven, CheckpointsAccepted, HasBegunAnew, HaveBegunAnew}
 use Rattle.tk_run.specs.Keeping.{IsAccepted, OneRefuses, StandIn}
-use Rattle.tk_run.specs.Servers.{IsServerAt, AreServers, MayWriteAndPin, AreReady, alike, nothing_seen}
+use Rattle.tk_run.specs.Servers.{IsServerAt, AreServers, IsReadyServer, AreReady, alike, nothing_seen}
 
 -- a state that may be written has applied nothing behind its last mark
 pub at_mark : (s : ReplicaView) → checkpoint_refusal s ≡ None → last_upto s ≡ s.applied
@@ -63,7 +63,7 @@ accepted-where is_sound reads_back shape E F order ends =
 pub record GoesOn (shape : Shape) (bytes : List ℕ) (old new : Server) : Type 0 where
   pub accepted : (E : List Placed) (seen : List ℕ) → IsServerAt shape E seen old → IsAccepted shape E bytes
   pub anew : HasBegunAnew shape bytes new
-  pub ready : (E : List Placed) → MayWriteAndPin shape E old → MayWriteAndPin shape E new
+  pub ready : (E : List Placed) → IsReadyServer shape E old → IsReadyServer shape E new
   pub stands : (E F : List Placed) (seen : List ℕ) → IsServerAt shape E seen old → IsOrder shape F →
       EndsWithMark F → displaced_in shape F ≡ displaced_in shape E → bytes ≡ saved shape F →
       IsServerAt shape F seen new

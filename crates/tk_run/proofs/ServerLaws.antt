@@ -21,7 +21,7 @@ use Rattle.tk_report.specs.Exchange.{bytes_of, with_reply}
 use Rattle.tk_run.specs.Rows.{Frame, in_pairs}
 use Rattle.tk_report.proofs.Offers.{none-displaced}
 use Rattle.tk_run.specs.declared.server.Server.{Server}
-use Rattle.tk_run.specs.Servers.{AreReadFrames, MayWriteAndPin, IsServerAt, answered}
+use Rattle.tk_run.specs.Servers.{AreReadFrames, IsReadyServer, IsServerAt, answered}
 
 -- ---- an entry
 
@@ -36,7 +36,7 @@ floor-next E p floor last low at =
     ] (marks-push E p)
 
 -- a server before any entry
-pub ready-opened : (shape : Shape) (s : Server) → IsServerAt shape [] [] s → MayWriteAndPin shape [] s
+pub ready-opened : (shape : Shape) (s : Server) → IsServerAt shape [] [] s → IsReadyServer shape [] s
 ready-opened shape s is =
     record {
       same = is.state.same;

@@ -8,13 +8,13 @@ use Rattle.tk_frames.specs.InOrder.{IsNext}
 use Rattle.tk_frames.proofs.Offers.{order-push}
 use Rattle.tk_report.specs.Displaced.{displaced_in}
 use Rattle.tk_run.specs.declared.server.Server.{Server}
-use Rattle.tk_run.specs.Servers.{IsServerAt, AreServers, MayWriteAndPin, AreReady, MayTakeReplies, MayTakeAll, with_more}
+use Rattle.tk_run.specs.Servers.{IsServerAt, AreServers, IsReadyServer, AreReady, MayTakeEntry, MayTakeAll, with_more}
 use Rattle.tk_lists.proofs.Offers.{ChangedUpTo}
 
 -- a server has seen an entry and taken it
 pub record Takes (p : Placed) (old new : Server) : Type 0 where
-  pub ready : (shape : Shape) (E : List Placed) → MayWriteAndPin shape E old → IsNext shape E p →
-      MayWriteAndPin shape (E ++ p ∷ []) new
+  pub ready : (shape : Shape) (E : List Placed) → IsReadyServer shape E old → IsNext shape E p →
+      IsReadyServer shape (E ++ p ∷ []) new
   pub server : (shape : Shape) (E : List Placed) (bytes : List ℕ) → IsServerAt shape E bytes old →
       IsServerAt shape (E ++ p ∷ []) (bytes ++ placed_frame p) new
 
@@ -48,13 +48,13 @@ all_hold p i old new shape Es seen past h are =
 -- a server that has not changed may take what all may
 pub one_may_take : (Changes : Server → Server → Type 0) (p : Placed) (i : ℕ)
     (old new : List Server) (d : Server) → MayTakeAll p old → i < length old →
-    ChangedUpTo Changes i old new → MayTakeReplies p (slice_index_or new i d)
+    ChangedUpTo Changes i old new → MayTakeEntry p (slice_index_or new i d)
 one_may_take Changes p i old new d may low h =
     record {
       shape = may.shape;
       E = may.E;
       is =
-          subst (MayWriteAndPin may.shape may.E) (sym (h.left i d (omega arith))) (may.are.each i d low);
+          subst (IsReadyServer may.shape may.E) (sym (h.left i d (omega arith))) (may.are.each i d low);
       next = may.next;
     }
 

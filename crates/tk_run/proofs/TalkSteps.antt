@@ -28,7 +28,7 @@ use Rattle.tk_report.specs.Clients.{AreClients, client_knowing}
 use Rattle.tk_run.specs.Turns.{placed_before}
 use Rattle.tk_run.specs.Courses.{IsTalk, AreTalks, MayRead, AreBlank}
 use Rattle.tk_run.specs.declared.pinned_write.PinnedWrite.{PinnedWrite}
-use Rattle.tk_run.specs.Reading.{MayReadOn, HasAsked, MayTakeReplies, TookReplies, EachAt, readers, talks_of}
+use Rattle.tk_run.specs.Reading.{MayReadOn, HasAsked, MayTakeEntry, TookReplies, EachAt, readers, talks_of}
 use Rattle.tk_run.specs.Answering.{AreAllAsked, IsAnswered, AllStand, set_of}
 use Rattle.tk_report.proofs.Offers.{map-map}
 use Rattle.tk_run.specs.Ranged.{Summing, MakesBlocks}
@@ -209,7 +209,7 @@ module _ {S : Script} {b : WordBook} {H : History} (shards : ℕ) (sum : Summing
 
   -- what they are replied may be taken
   pub all-takeable : {n : ℕ} {rs : List Reading} → Stage n (Replied S b H shards sum g) rs →
-      All (MayTakeReplies S.shape) rs
+      All (MayTakeEntry S.shape) rs
   all-takeable {n} {rs} h k d low =
       let r = slice_index_or rs k d in
       let V = serving S b H shards sum g in

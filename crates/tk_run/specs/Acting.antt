@@ -18,7 +18,7 @@ use Rattle.tk_run.specs.Ran.{AllLearn, set_on}
 use Rattle.tk_run.specs.Ticks.{Done}
 
 -- a pass may write once more, and pin a set of at most this number
-pub record MayWriteAndPin (shape : Shape) (most : ℕ) (a : Passing) : Type 0 where
+pub record IsReadyServer (shape : Shape) (most : ℕ) (a : Passing) : Type 0 where
   pub room : length (own a) < turn_count shape
   pub known : a.reads.known ≤ most
 

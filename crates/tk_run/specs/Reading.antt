@@ -44,7 +44,7 @@ HasAsked b old new = AsksFor b old.client old.talk new.talk new.client
 -- ---- taking
 
 -- a client that waits for the replies that lie with it, one of each server
-pub record MayTakeReplies (shape : Shape) (r : Reading) : Type 0 where
+pub record MayTakeEntry (shape : Shape) (r : Reading) : Type 0 where
   pub same : r.client.shape ≡ shape
   pub waits : IsSome r.client.read
   pub counted : length r.talk.replies.items ≡ shape.servers

@@ -60,7 +60,7 @@ WhereAlike shape servers says =
 
 -- It has seen as many marks as there are among these entries, whatever its table has, and no more writes
 -- were displaced than these are.
-pub record MayWriteAndPin (shape : Shape) (E : List Placed) (s : Server) : Type 0 where
+pub record IsReadyServer (shape : Shape) (E : List Placed) (s : Server) : Type 0 where
   pub same : s.state.shape ≡ shape
   pub last : s.state.last ≡ mark_count E
   pub some : s.state.floor ≤ s.state.last
@@ -70,15 +70,15 @@ pub record AreReady (shape : Shape) (E : List Placed) (servers : List Server) : 
   pub counted : length servers ≡ shape.servers
   pub order : IsOrder shape E
   pub each : (i : ℕ) (d : Server) → i < length servers →
-      MayWriteAndPin shape E (slice_index_or servers i d)
+      IsReadyServer shape E (slice_index_or servers i d)
 
 -- ---- taking entries
 
 -- a server for which this entry is the next one
-pub record MayTakeReplies (p : Placed) (s : Server) : Type 0 where
+pub record MayTakeEntry (p : Placed) (s : Server) : Type 0 where
   pub shape : Shape
   pub E : List Placed
-  pub is : MayWriteAndPin shape E s
+  pub is : IsReadyServer shape E s
   pub next : IsNext shape E p
 
 -- servers for which it is

@@ -3,7 +3,7 @@ ghost use Rattle.tk_shape.specs.Lengths.{turn_count};
 ghost use Rattle.tk_schedule.specs.Schedule.{is_closing, phases_over};
 ghost use Rattle.tk_cluster.specs.Clusters.{Each};
 ghost use Rattle.tk_cluster.specs.Passes.{Learns, ReadsOnly};
-ghost use Rattle.tk_run.specs.Acting.{MayWriteAndPin, Acted};
+ghost use Rattle.tk_run.specs.Acting.{IsReadyServer, Acted};
 ghost use Rattle.tk_run.specs.Ticks.{AllBy};
 
 use crate::pinned_write::PinnedWrite;
@@ -50,9 +50,9 @@ pub(crate) struct Herald<B: Naming> {
 
 /// It writes, and then pins; it comes to the gate before and after.
 impl<'a, B: Naming + Send + Sync, G: Gate> Clerk<Cue<'a, B, G>, Desk> for Pass<B> {
-    ghost use Rattle.tk_run.specs.Acting.{MayWriteAndPin, WroteAndPinned};
+    ghost use Rattle.tk_run.specs.Acting.{IsReadyServer, WroteAndPinned};
 
-    ghost able = { λ cue a. MayWriteAndPin B.shape cue.most a };
+    ghost able = { λ cue a. IsReadyServer B.shape cue.most a };
 
     ghost fits = { λ cue d. Unit {0} };
 
@@ -129,7 +129,7 @@ pub(crate) fn act<'a, B: Naming + Send + Sync, G: Gate, R: Threads + Wait + Sync
     desks: &mut [Desk],
     herald: &mut Herald<B>,
 ) -> Result<(), Memory>
-    requires ready { All (MayWriteAndPin B.shape cue.now.most) passes.old }
+    requires ready { All (IsReadyServer B.shape cue.now.most) passes.old }
     requires desks { length desks.old ≡ length passes.old }
     requires on { All (λ a. a.reads.board ≡ herald.old.publisher.board) passes.old }
     requires room { length herald.old.publisher.shown ≤ B.shape.phases }

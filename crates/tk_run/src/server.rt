@@ -44,7 +44,7 @@ impl Server {
     ghost use Rattle.tk_checkpoint.specs.Saved.{saved};
     ghost use Rattle.tk_report.specs.Displaced.{displaced_in};
     ghost use Rattle.tk_run.specs.Resumption.{IfRefused};
-    ghost use Rattle.tk_run.specs.Servers.{IsServerAt, MayWriteAndPin, MayTakeReplies, WhateverItHolds, WhicheverReads};
+    ghost use Rattle.tk_run.specs.Servers.{IsServerAt, IsReadyServer, MayTakeEntry, WhateverItHolds, WhicheverReads};
     ghost use Rattle.tk_run.specs.Servers.{answered};
     ghost use Rattle.tk_run.specs.Rows.{in_pairs};
     ghost use Rattle.tk_run.specs.Keeping.{HasBegunAnew, IsAccepted};
@@ -64,10 +64,10 @@ impl Server {
     /// Sees the frame of an entry and takes it. Before a mark all epochs but the last are let go, so
     /// that there are never more than two.
     pub(crate) fn take(&mut self, alloc: Global, placed: &Placed) -> Result<(), Memory>
-        requires { MayTakeReplies placed.now self.old }
+        requires { MayTakeEntry placed.now self.old }
         ensures ready { (shape : Shape) (E : List Placed)
-            → MayWriteAndPin shape E self.old → IsNext shape E placed.now
-            → OnOk result (MayWriteAndPin shape (E ++ placed.now ∷ []) self.new) }
+            → IsReadyServer shape E self.old → IsNext shape E placed.now
+            → OnOk result (IsReadyServer shape (E ++ placed.now ∷ []) self.new) }
         ensures server { WhateverItHolds self.old (λ shape E bytes. OnOk result
             (IsServerAt shape (E ++ placed.now ∷ []) (bytes ++ placed_frame placed.now) self.new)) }
     {
@@ -85,8 +85,8 @@ impl Server {
     /// The replies to reads, in their order, in one pass over what the server holds. It sees each
     /// read and its reply.
     pub(crate) fn answer(&mut self, alloc: Global, frames: &[Bytes]) -> Result<Vec<Bytes>, Memory>
-        ensures ready { (shape : Shape) (E : List Placed) → MayWriteAndPin shape E self.old
-            → OnOk result (MayWriteAndPin shape E self.new) }
+        ensures ready { (shape : Shape) (E : List Placed) → IsReadyServer shape E self.old
+            → OnOk result (IsReadyServer shape E self.new) }
         ensures replies { WhicheverReads self.old frames.now (λ shape E bytes reads. IfOk result
             (λ replies. replies.items ≡ map reply_frame (map (reply_for shape E) reads))) }
         ensures server { WhicheverReads self.old frames.now (λ shape E bytes reads. OnOk result
@@ -136,8 +136,8 @@ impl Server {
         ensures refused { (E : List Placed) (seen : List ℕ) → IsServerAt shape.now E seen self.old
             → IfRefused result (¬ IsAccepted shape.now E bytes.now) }
         ensures anew { OnOk result (HasBegunAnew shape.now bytes.now self.new) }
-        ensures ready { (E : List Placed) → MayWriteAndPin shape.now E self.old
-            → OnOk result (MayWriteAndPin shape.now E self.new) }
+        ensures ready { (E : List Placed) → IsReadyServer shape.now E self.old
+            → OnOk result (IsReadyServer shape.now E self.new) }
         ensures stands { (E F : List Placed) (seen : List ℕ) → IsServerAt shape.now E seen self.old
             → IsOrder shape.now F → EndsWithMark F → displaced_in shape.now F ≡ displaced_in shape.now E
             → bytes.now ≡ saved shape.now F → OnOk result (IsServerAt shape.now F seen self.new) }

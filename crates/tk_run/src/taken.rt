@@ -3,7 +3,7 @@ ghost use Rattle.std.specs.Prelude.{◌≡◌, true, All, IsSome, length, OnOk};
 ghost use Rattle.std.specs.Thread.{IsSync};
 ghost use Rattle.tk_words.specs.Words.{words_of};
 ghost use Rattle.tk_client.specs.Client.{after_replies};
-ghost use Rattle.tk_run.specs.Reading.{MayTakeReplies, TookReplies, EachAt};
+ghost use Rattle.tk_run.specs.Reading.{MayTakeEntry, TookReplies, EachAt};
 
 use crate::sums::Sums;
 use crate::talk::{Reading, Round, Talk, all_done};
@@ -31,7 +31,7 @@ fn take<D: Draws>(draws: &D, client: &mut Client, talk: &Talk) -> Result<(), Mem
 
 /// A client takes the replies to its read, and notes whether it could.
 fn take_on<D: Draws>(draws: &D, reading: &mut Reading)
-    requires { MayTakeReplies (D.shape draws.now) reading.old }
+    requires { MayTakeEntry (D.shape draws.now) reading.old }
     ensures { reading.new.done ≡ true → TookReplies (D.book draws.now) reading.old reading.new }
 {
     reading.done = take(draws, &mut reading.client, &reading.talk).is_ok();
@@ -44,13 +44,13 @@ pub(crate) fn take_all<'a, D: Draws, A: Sums, R: Threads + Sync>(
     round: &Round<'a, D, A>,
     readings: &mut [Reading],
 ) -> Result<(), Memory>
-    requires { All (MayTakeReplies (D.shape round.now.draws.now)) readings.old }
+    requires { All (MayTakeEntry (D.shape round.now.draws.now)) readings.old }
     ensures { OnOk result
         (EachAt (TookReplies (D.book round.now.draws.now)) readings.old readings.new) }
 {
     let draws = round.draws;
     let work = |_i: usize, reading: &mut Reading|
-        requires { IsSync D.row × MayTakeReplies (D.shape draws.now) reading.now }
+        requires { IsSync D.row × MayTakeEntry (D.shape draws.now) reading.now }
         ensures { reading.exit.now.done ≡ true
             → TookReplies (D.book draws.entry.now) reading.entry.now reading.exit.now }
     { take_on(draws, reading) };

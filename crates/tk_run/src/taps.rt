@@ -2,7 +2,7 @@ ghost use Rattle.std.specs.Prelude.{◌≡◌, ◌≢◌, ◌≤◌, ℕ, [], Li
 ghost use Rattle.tk_io.specs.Content.{Rose, gained};
 ghost use Rattle.tk_shape.specs.declared.shape.Shape.{Shape};
 ghost use Rattle.tk_frames.specs.declared.entry.Placed.{Placed};
-ghost use Rattle.tk_run.specs.Servers.{IsServerAt, MayWriteAndPin, AreReady, AreServers, WhateverItHolds};
+ghost use Rattle.tk_run.specs.Servers.{IsServerAt, IsReadyServer, AreReady, AreServers, WhateverItHolds};
 ghost use Rattle.tk_run.specs.Servers.{WhateverTheyHold, nothing_seen};
 ghost use Rattle.tk_io.specs.Tapped.{GainsFront, TapsGain, TapsGainFronts, TapsKeepBut};
 
@@ -35,8 +35,8 @@ pub(crate) fn give_all<T: Taps>(servers: &mut [Server], taps: &mut T) -> Result<
 fn give<T: Taps>(server: &mut Server, number: u32, taps: &mut T) -> Result<(), Failed>
     requires low { 1 ≤ number }
     requires high { number ≤ 8 }
-    ensures ready { (shape : Shape) (E : List Placed) → MayWriteAndPin shape E server.old
-        → OnOk result (MayWriteAndPin shape E server.new) }
+    ensures ready { (shape : Shape) (E : List Placed) → IsReadyServer shape E server.old
+        → OnOk result (IsReadyServer shape E server.new) }
     ensures server { WhateverItHolds server.old
         (λ shape E bytes. OnOk result (IsServerAt shape E [] server.new)) }
     ensures ok { let seen = server.old.seen.items in

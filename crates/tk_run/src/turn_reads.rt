@@ -5,7 +5,7 @@ ghost use Rattle.tk_frames.specs.declared.entry.Placed.{Placed};
 ghost use Rattle.tk_run.specs.Plays.{AllAre, AreReplied, HasSeenTurn, HaveSeenTurn, OnceAsked};
 ghost use Rattle.tk_run.specs.Plays.{OnceItIsAsked, OnceItIsReplied, OnceReplied, OnceTaken};
 ghost use Rattle.tk_run.specs.Plays.{idle_at, played_before, play_of, replies_at};
-ghost use Rattle.tk_run.specs.Servers.{AreReady, MayWriteAndPin};
+ghost use Rattle.tk_run.specs.Servers.{AreReady, IsReadyServer};
 ghost use Rattle.tk_run.specs.Under.{AreAsking, AreIdle, AskedInTurn, IsIdle, client_under};
 
 use crate::asked_frames::ask_all;
@@ -87,8 +87,8 @@ fn answer_one<D: Draws>(
 ) -> Result<Vec<Bytes>, Memory>
     requires turn_in { spot.turn < turn_count plan.now.script.now.shape }
     requires server_in { spot.place < plan.now.script.now.shape.servers }
-    ensures ready { (shape : Shape) (E : List Placed) → MayWriteAndPin shape E server.old
-        → OnOk result (MayWriteAndPin shape E server.new) }
+    ensures ready { (shape : Shape) (E : List Placed) → IsReadyServer shape E server.old
+        → OnOk result (IsReadyServer shape E server.new) }
     ensures replies { let play = play_of plan.now in OnceItIsAsked play spot asked.now server.old
         (λ V Es. IfOk result (λ replies. replies.items ≡ replies_at play V spot)) }
     ensures server { let play = play_of plan.now in OnceItIsAsked play spot asked.now server.old

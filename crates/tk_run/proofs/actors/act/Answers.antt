@@ -7,7 +7,7 @@ use Rattle.tk_cluster.specs.declared.set.EpochSet.{EpochSet}
 use Rattle.tk_cluster.specs.Clusters.{Each}
 use Rattle.tk_cluster.specs.Passes.{Passing, ReadsOnly, Learns}
 use Rattle.tk_cluster.specs.Tellings.{Published}
-use Rattle.tk_run.specs.Acting.{MayWriteAndPin, WroteAndPinned, Heralds}
+use Rattle.tk_run.specs.Acting.{IsReadyServer, WroteAndPinned, Heralds}
 use Rattle.tk_run.specs.Ran.{AllLearn}
 use Rattle.tk_run.specs.Ticks.{AllBy, Done}
 use Rattle.tk_run.proofs.ActLaws.{all_by, all_free, still_on, nothing_told}
@@ -15,7 +15,7 @@ use Rattle.tk_run.proofs.actors.act.Goals as goal
 
 pub serve_with-requires-clause-able : goal.serve_with-requires-clause-able
 serve_with-requires-clause-able g c κs within =
-    all_by (MayWriteAndPin g.B.Naming.shape c.args.cue.now.most) c.args.passes.now c.requires.ready
+    all_by (IsReadyServer g.B.Naming.shape c.args.cue.now.most) c.args.passes.now c.requires.ready
 
 pub serve_with-requires-clause-fits : goal.serve_with-requires-clause-fits
 serve_with-requires-clause-fits g c κs within = all_free c.args.desks.now

@@ -3,7 +3,7 @@ use Rattle.std.proofs.Common.{◌≡◌, ◌+◌, ◌≤◌, arith, sym, subst, 
 use Rattle.tk_shape.specs.declared.shape.Shape.{Shape}
 use Rattle.tk_schedule.specs.Schedule.{phases_over}
 use Rattle.tk_cluster.specs.Passes.{Passing}
-use Rattle.tk_run.specs.Acting.{MayWriteAndPin}
+use Rattle.tk_run.specs.Acting.{IsReadyServer}
 use Rattle.tk_run.proofs.RanEnds.{ran_ready, ran_on}
 use Rattle.tk_run.proofs.CourseStarts.{ran_room}
 use Rattle.tk_run.proofs.course.act_in.Goals as goal
@@ -15,14 +15,14 @@ act-requires-clause-ready g c κs within =
     let passes = course.passes.items in
     let most = phases_over S.shape (c.args.turn + 1) in
     let all = ran_ready c.requires.ran (omega (arith, c.requires.turns, c.requires.turn_in)) in
-    let now : All (MayWriteAndPin S.shape most) passes =
-    subst (λ n. All (MayWriteAndPin S.shape (phases_over S.shape (n + 1))) passes) c.requires.turns all
+    let now : All (IsReadyServer S.shape most) passes =
+    subst (λ n. All (IsReadyServer S.shape (phases_over S.shape (n + 1))) passes) c.requires.turns all
     in
-    let there : All (MayWriteAndPin S.shape most) c.as_mut_slice.result.now =
-    subst (λ (xs : List Passing). All (MayWriteAndPin S.shape most) xs)
+    let there : All (IsReadyServer S.shape most) c.as_mut_slice.result.now =
+    subst (λ (xs : List Passing). All (IsReadyServer S.shape most) xs)
     (sym c.as_mut_slice.ensures.value) now
     in
-    subst (λ (shape : Shape). All (MayWriteAndPin shape most) c.as_mut_slice.result.now)
+    subst (λ (shape : Shape). All (IsReadyServer shape most) c.as_mut_slice.result.now)
     (sym c.args.stage.now.same) there
 
 pub act-requires-clause-on : goal.act-requires-clause-on

@@ -2,7 +2,7 @@
 use Rattle.std.proofs.Common.{[], sym, subst}
 use Rattle.std.specs.Prelude.{All}
 use Rattle.std.proofs.lemmas.List.Elements.{All-push}
-use Rattle.tk_run.specs.Servers.{IsServerAt, MayWriteAndPin}
+use Rattle.tk_run.specs.Servers.{IsServerAt, IsReadyServer}
 use Rattle.tk_report.proofs.Offers.{length-next}
 use Rattle.tk_run.proofs.ServerLaws.{ready-opened}
 use Rattle.tk_run.proofs.servers.open_servers.Goals as goal
@@ -12,7 +12,7 @@ loop-preserved c =
     let so_far = c.loop.invariant in
     let pushed = c.in_ok-push.ensures.items in
     let opened = IsServerAt c.args.shape.now [] [] in
-    let ready = MayWriteAndPin c.args.shape.now [] in
+    let ready = IsReadyServer c.args.shape.now [] in
     let server = c.in_ok-open.field-0 in
     record {
       counted =

@@ -1,7 +1,7 @@
 -- As many servers are open as the loop has counted.
 use Rattle.std.proofs.Common.{◌≡◌, [], length}
 use Rattle.std.specs.Prelude.{All}
-use Rattle.tk_run.specs.Servers.{IsServerAt, MayWriteAndPin}
+use Rattle.tk_run.specs.Servers.{IsServerAt, IsReadyServer}
 use Rattle.tk_run.proofs.servers.open_servers.Given as goal
 
 abbrev pub invariant-loop : goal.invariant-loop
@@ -9,5 +9,5 @@ invariant-loop l =
     record {
       counted : length l.servers.items ≡ l.counter;
       opened : All (IsServerAt l.shape [] []) l.servers.items;
-      ready : All (MayWriteAndPin l.shape []) l.servers.items;
+      ready : All (IsReadyServer l.shape []) l.servers.items;
     }

@@ -12,7 +12,7 @@ use Rattle.tk_run.specs.Courses.{MayRead, AreBlank, AreTalks}
 use Rattle.tk_run.specs.Ranged.{Summing, MakesBlocks}
 use Rattle.tk_run.specs.Ranging.{over_ranges}
 use Rattle.tk_run.specs.Under.{client_under}
-use Rattle.tk_run.specs.Reading.{MayReadOn, MayTakeReplies, readers, talks_of}
+use Rattle.tk_run.specs.Reading.{MayReadOn, MayTakeEntry, readers, talks_of}
 use Rattle.tk_run.proofs.TalkAll.{Begins, one-shape}
 use Rattle.tk_run.proofs.TalkSteps.{Stage, stage-same, stage-moved, begun, asking, replied, ended, all-begun}
 use Rattle.tk_run.proofs.TalkSteps.{all-answerable, all-stand, all-takeable, all-talked}
@@ -104,7 +104,7 @@ take_all-requires-after_bounds g c κs within =
     (asking n make c.ask_all.new.readings c.ask_all.auto.readings c.in_ok-ask_all.ensures
     (begins g at c.requires.3))
     in
-    subst (λ (shape : Shape). All (MayTakeReplies shape) c.answer_all.new.readings) c.requires.2
+    subst (λ (shape : Shape). All (MayTakeEntry shape) c.answer_all.new.readings) c.requires.2
     (all-takeable n make
     (replied n make c.answer_all.new.readings c.answer_all.auto.readings c.in_ok-answer_all.ensures ask))
 

@@ -3,7 +3,7 @@ use Rattle.std.proofs.Common.{◌≡◌, ◌+◌, length}
 use Rattle.tk_report.proofs.Offers.{IsSplit}
 use Rattle.tk_run.specs.Plays.{OnceAsked, played_before, play_of, words_played}
 use Rattle.tk_run.specs.Rows.{AreRows}
-use Rattle.tk_run.specs.Servers.{MayWriteAndPin, IsServerAt}
+use Rattle.tk_run.specs.Servers.{IsReadyServer, IsServerAt}
 use Rattle.tk_run.specs.Turns.{entries_seen}
 use Rattle.tk_run.specs.Under.{replied_under, turn_under}
 use Rattle.tk_run.proofs.turn_reads.answer_all.Given as goal
@@ -17,7 +17,7 @@ invariant-answering g l =
     record {
       counted : length l.servers ≡ length l.fn.servers;
       each : length l.rows.items ≡ S.shape.clients;
-      ready : IsSplit l.i (λ k s. MayWriteAndPin S.shape E s) (λ k s. MayWriteAndPin S.shape E s) l.servers;
+      ready : IsSplit l.i (λ k s. IsReadyServer S.shape E s) (λ k s. IsReadyServer S.shape E s) l.servers;
       rows : OnceAsked (play_of l.plan) l.turn l.asked l.fn.servers
           (λ V Es. AreRows S.shape.clients (replied_under S book H V l.turn l.i) l.rows.items);
       servers : OnceAsked (play_of l.plan) l.turn l.asked l.fn.servers (λ V Es. IsSplit l.i
