@@ -239,10 +239,15 @@ fn runs_of_each_kind(rt: HostRuntime) -> Result<(), Fail> {
     for kinds in [DRAWN, KEYED] {
         for kind in kinds {
             let input = input_of(rt.alloc(), &kind, b"")?;
-            for words in [["serial"].as_slice(), &["resume", "1"]] {
+            for words in [
+                ["serial"].as_slice(),
+                &["resume", "0"],
+                &["resume", "1"],
+                &["resume", "2"],
+            ] {
                 assert!(rt; done(&rt, words, &input)?.as_slice() == REPORT);
             }
-            for words in [["run"].as_slice(), &["run", "2", "3"]] {
+            for words in [["run"].as_slice(), &["run", "2"], &["run", "2", "3"]] {
                 let told = done(&rt, words, &input)?;
                 assert!(rt; is_retold(rt.alloc(), &input, &told)?);
             }
