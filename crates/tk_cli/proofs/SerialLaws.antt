@@ -14,9 +14,8 @@ use Rattle.tk_words.specs.declared.book.Book.{Book}
 use Rattle.tk_words.specs.Book.{words_in}
 use Rattle.tk_words.specs.Words.{WordBook, words_of}
 use Rattle.tk_report.specs.declared.outcome.Outcome.{Outcome}
-use Rattle.tk_report.specs.Exchange.{exchange, bytes_of}
 use Rattle.tk_report.specs.Outcomes.{IsLeftBy, OutcomesReport, outcome_text}
-use Rattle.tk_relay.specs.Relayed.{relayed_exchange, seeds_of}
+use Rattle.tk_run.specs.Plays.{serial_sight}
 use Rattle.tk_run.specs.declared.run_error.RunError.{RunError}
 use Rattle.tk_run.specs.declared.run_error.RunError.TheVariants as run_error
 use Rattle.tk_cli.specs.declared.request.Request.{Request}
@@ -27,7 +26,7 @@ use Rattle.tk_cli.specs.Puts.{PutsText, PutsNothing}
 use Rattle.tk_cli.specs.Inputs.{IsDoneWith, HasScript}
 use Rattle.tk_cli.specs.Outside.{Outside, NoCountFalls}
 use Rattle.tk_cli.specs.Endings.{report_in, output_of, TapsSee, TapsSeeFronts, TapsGainAll, TapsGainSome}
-use Rattle.tk_cli.specs.Endings.{HandsNothing, HandsAs, HandsSerial, HandsBack, LeavesTaps, Ends}
+use Rattle.tk_cli.specs.Endings.{HandsNothing, HandsAs, HandsSerial, HandsBack, LeavesTaps, Ends, relayed_sight}
 use Rattle.tk_cli.proofs.EndingLaws.{told}
 use Rattle.tk_cli.proofs.WordLaws.{ReadsInput, Taken, IsOverOk, serial-reads, relay-reads, resume-reads}
 use Rattle.tk_cli.proofs.WordLaws.{run-early, run-told, as-input}
@@ -35,12 +34,6 @@ use Rattle.tk_cli.proofs.WordLaws.{run-early, run-told, as-input}
 -- what a server sees of a serial run, of a script with the words of a book
 abbrev pub Seen : Type 0
 Seen = Script → WordBook → ℕ → List ℕ
-
-abbrev pub serial_seen : Seen
-serial_seen S b j = bytes_of (exchange S b (serial_history S.shape) j)
-
-abbrev pub relay_seen : Seen
-relay_seen S b j = bytes_of (relayed_exchange S b (seeds_of b) (serial_history S.shape) j)
 
 -- what a serial run left, and what the taps gained
 pub record IsSerialRun (seen : Seen) (S : Script) (b : WordBook) (left : Result Outcome RunError)
@@ -64,7 +57,7 @@ pub record RunsSerially (r : Request) (seen : Seen) : Type 0 where
   pub back : (input : Input) (H : History) (e : Ended) → HandsSerial input H e →
       HandsBack r input H e
 
-pub serial-runs : RunsSerially request.Serial serial_seen
+pub serial-runs : RunsSerially request.Serial serial_sight
 serial-runs = record {
   reads = serial-reads;
   taps = λ no. no;
@@ -74,7 +67,7 @@ serial-runs = record {
   back = λ input H e hands. hands;
 }
 
-pub relay-runs : RunsSerially request.Relay relay_seen
+pub relay-runs : RunsSerially request.Relay relayed_sight
 relay-runs = record {
   reads = relay-reads;
   taps = λ no. no;
@@ -84,7 +77,7 @@ relay-runs = record {
   back = λ input H e hands. hands;
 }
 
-pub resume-runs : (epoch : ℕ) → RunsSerially (request.Resume epoch) serial_seen
+pub resume-runs : (epoch : ℕ) → RunsSerially (request.Resume epoch) serial_sight
 resume-runs epoch = record {
   reads = resume-reads epoch;
   taps = λ no. no;

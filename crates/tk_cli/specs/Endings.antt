@@ -3,6 +3,7 @@ use Rattle.std.specs.Prelude.{◌≡◌, ◌⊎◌, ℕ, List, [], ◌++◌, tak
 use Rattle.tk_io.specs.Content.{Rose, gained, TakesUpTo}
 use Rattle.tk_io.specs.Tapped.{TapsGain, TapsGainFronts, TapsKeep, TapsKeepBut}
 use Rattle.tk_schedule.specs.declared.history.History.{History}
+use Rattle.tk_schedule.specs.Schedule.{serial_history}
 use Rattle.tk_script.specs.declared.input.Input.{Input}
 use Rattle.tk_script.specs.declared.script.Script.{Script}
 use Rattle.tk_script.specs.Book.{book_of}
@@ -32,7 +33,7 @@ use Rattle.tk_cli.specs.Chosen.{chosen}
 use Rattle.tk_cli.specs.Puts.{PutsSome}
 use Rattle.tk_cli.specs.Texts.{IsTextOf}
 use Rattle.tk_cli.specs.Inputs.{ReadsWhole, IsDoneWith, IsHistoryFor, Stops, form_of, kept_in, refusal_of}
-use Rattle.tk_cli.specs.Outside.{Outside, IsUnread, IsUnwritten, IsUntapped, NoCountFalls}
+use Rattle.tk_cli.specs.Outside.{Outside, IsUnread, IsUnwritten, IsUntapped, NoCountFalls, outside}
 
 -- ---- what a request gives
 
@@ -48,6 +49,10 @@ abbrev pub relayed_in : Input → History → ℕ → List ℕ
 relayed_in input H j =
     let b = book_of input in
     bytes_of (relayed_exchange input.first b (seeds_of b) H j)
+
+-- so of the serial run of a script
+abbrev pub relayed_sight : Script → WordBook → ℕ → List ℕ
+relayed_sight S b j = bytes_of (relayed_exchange S b (seeds_of b) (serial_history S.shape) j)
 
 -- the frames that a server sees of it, one a line
 abbrev pub view_in : ℕ → Input → History → List ℕ
@@ -262,3 +267,12 @@ pub record Ends (r : Request) (e : Ended) (old new : Outside) : Type 0 where
   pub unread : LeavesSource r → IsUnread old new
   pub untapped : LeavesTaps r → IsUntapped old new
   pub how : HowEnds r e old new
+
+-- so between a source, a sink and taps before and after, by what each tells
+module _ {S K T : Type 0} (r : Request) (e : Ended) (left : S → Option (List ℕ)) (faults : S → ℕ)
+    (held : K → Option (List ℕ)) (sink_faults : K → ℕ) (tap : T → ℕ → Option (List ℕ))
+    (tap_faults : T → ℕ) where
+  abbrev pub EndsFromTo : S → K → T → S → K → T → Type 0
+  EndsFromTo s k t s' k' t' =
+      Ends r e (outside (left s) (faults s) (held k) (sink_faults k) (tap t) (tap_faults t))
+      (outside (left s') (faults s') (held k') (sink_faults k') (tap t') (tap_faults t'))

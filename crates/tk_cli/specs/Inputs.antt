@@ -152,6 +152,12 @@ Stops r status.Write left left' faults faults' = ⊥
 Stops r status.TooLong left left' faults faults' = Unit {0}
 Stops r s left left' faults faults' = IsRefusedWith r s left left'
 
+-- so for each request of a form
+abbrev pub StopsForm :
+    Form → Status → (left left' : Option (List ℕ)) → (faults faults' : ℕ) → Type 0
+StopsForm f s left left' faults faults' =
+    (r : Request) → form_of r ≡ f → Stops r s left left' faults faults'
+
 -- some bytes spell this input
 pub record IsSpelled (f : Form) (input : Input) : Type 0 where
   pub bytes : List ℕ

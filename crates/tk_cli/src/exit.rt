@@ -1,9 +1,8 @@
 ghost use Rattle.std.specs.Prelude.{◌≡◌, IfOk};
 ghost use Rattle.tk_cli.specs.declared.ended.Ended.{Ended as EndOfRun};
 ghost use Rattle.tk_cli.specs.declared.request.Request.{Request as Requested};
-ghost use Rattle.tk_cli.specs.Endings.{Ends};
+ghost use Rattle.tk_cli.specs.Endings.{EndsFromTo};
 ghost use Rattle.tk_cli.specs.Exits.{ExitsWith, exit_line};
-ghost use Rattle.tk_cli.specs.Outside.{outside};
 ghost use Rattle.tk_cli.specs.Requests.{Asks};
 
 use crate::status::{Status, status_line};
@@ -34,11 +33,8 @@ pub fn exit_after<R: Threads + Wait + Sync + AllocGlobal, S: Source, K: Sink, T:
     gate: &G,
 ) -> Exit
     ensures { (ended : EndOfRun) × ExitsWith ended.status result × ((request : Requested) →
-        Asks words.now request → Ends request ended
-        (outside (S.left source.old) (S.faults source.old) (K.held sink.old) (K.faults sink.old)
-        (T.tap taps.old) (T.faults taps.old))
-        (outside (S.left source.new) (S.faults source.new) (K.held sink.new) (K.faults sink.new)
-        (T.tap taps.new) (T.faults taps.new))) }
+        Asks words.now request → EndsFromTo request ended S.left S.faults K.held K.faults T.tap T.faults
+        source.old sink.old taps.old source.new sink.new taps.new) }
 {
     let ended = talek(rt, words, source, sink, taps, gate);
     exit_with(rt.alloc(), &ended.status)

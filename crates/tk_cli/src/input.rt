@@ -3,8 +3,7 @@ ghost use Rattle.std.specs.Prelude.{◌≡◌, ◌≤◌, ℕ, List, None, Some,
 ghost use Rattle.tk_io.specs.Content.{TakesUpTo};
 ghost use Rattle.tk_schedule.specs.Told.{Names};
 ghost use Rattle.tk_script.specs.Book.{HasTape, IsOtherTape, IsWholeTape};
-ghost use Rattle.tk_cli.specs.declared.request.Request.{Request as Requested};
-ghost use Rattle.tk_cli.specs.Inputs.{form_of, kept_in, HasScript, ReadsWhole, Stops};
+ghost use Rattle.tk_cli.specs.Inputs.{kept_in, HasScript, ReadsWhole, StopsForm};
 ghost use Rattle.tk_cli.specs.Inputs.{HasHistory, bad_history_line, phase_refusal, server_refusal};
 ghost use Rattle.tk_cli.specs.Limits.{input_limit};
 
@@ -28,8 +27,7 @@ pub(crate) fn ready<S: Source>(
 ) -> Result<(Script, Book), Status>
     ensures ready { IfOk result (λ x.
         HasScript form (S.left source.old) (S.left source.new) x.0 x.1) }
-    ensures stopped { IfErr result (λ s. (request : Requested) → form_of request ≡ form →
-        Stops request s (S.left source.old) (S.left source.new)
+    ensures stopped { IfErr result (λ s. StopsForm form s (S.left source.old) (S.left source.new)
         (S.faults source.old) (S.faults source.new)) }
     ensures taken { (taken : List ℕ) × TakesUpTo input_limit (S.left source.old)
         (S.left source.new) (result ≡ Err Status.TooLong) taken }
@@ -48,8 +46,7 @@ pub(crate) fn input_from<S: Source>(
 ) -> Result<Input, Status>
     ensures read { IfOk result (λ input.
         ReadsWhole form (S.left source.old) (S.left source.new) input) }
-    ensures stopped { IfErr result (λ s. (request : Requested) → form_of request ≡ form →
-        Stops request s (S.left source.old) (S.left source.new)
+    ensures stopped { IfErr result (λ s. StopsForm form s (S.left source.old) (S.left source.new)
         (S.faults source.old) (S.faults source.new)) }
     ensures taken { (taken : List ℕ) × TakesUpTo input_limit (S.left source.old)
         (S.left source.new) (result ≡ Err Status.TooLong) taken }

@@ -5,12 +5,9 @@ ghost use Rattle.tk_io.specs.Tapped.{TapsGain, TapsGainFronts, TapsKeepBut};
 ghost use Rattle.tk_schedule.specs.Schedule.{serial_history};
 ghost use Rattle.tk_words.specs.Words.{keyed, words_of};
 ghost use Rattle.tk_words.specs.Book.{shape_of, words_in};
-ghost use Rattle.tk_report.specs.Exchange.{bytes_of};
 ghost use Rattle.tk_report.specs.Outcomes.{IsLeftBy};
-ghost use Rattle.tk_relay.specs.Relayed.{relayed_exchange, seeds_of};
-ghost use Rattle.tk_cli.specs.Endings.{Ends};
+ghost use Rattle.tk_cli.specs.Endings.{EndsFromTo, relayed_sight};
 ghost use Rattle.tk_cli.specs.Inputs.{HasBookOfKeys};
-ghost use Rattle.tk_cli.specs.Outside.{outside};
 
 use crate::ended::Ended;
 use crate::input::ready;
@@ -32,11 +29,8 @@ pub(crate) fn run_relayed<S: Source, K: Sink, T: Taps, R: Wait + AllocGlobal>(
     sink: &mut K,
     taps: &mut T,
 ) -> Ended
-    ensures { Ends Request.Relay result
-        (outside (S.left source.old) (S.faults source.old) (K.held sink.old) (K.faults sink.old)
-        (T.tap taps.old) (T.faults taps.old))
-        (outside (S.left source.new) (S.faults source.new) (K.held sink.new) (K.faults sink.new)
-        (T.tap taps.new) (T.faults taps.new)) }
+    ensures { EndsFromTo Request.Relay result S.left S.faults K.held K.faults T.tap T.faults
+        source.old sink.old taps.old source.new sink.new taps.new }
 {
     let alloc = rt.alloc();
     let (script, book) = match ready(alloc, source, Form::Relay) {
@@ -59,16 +53,10 @@ fn relayed_by<T: Taps, R: Wait + AllocGlobal>(
     requires keyed { HasBookOfKeys script.now (words_in book.now) }
     ensures left { let words = words_of script.now.shape (words_in book.now) in
         IfOk result (IsLeftBy script.now words (serial_history script.now.shape)) }
-    ensures ok { let history = serial_history script.now.shape in
-        let b = words_in book.now in
-        OnOk result (TapsGain script.now.shape.servers
-        (λ j. bytes_of (relayed_exchange script.now b (seeds_of b) history j))
-        (T.tap taps.old) (T.tap taps.new)) }
-    ensures err { let history = serial_history script.now.shape in
-        let b = words_in book.now in
-        OnErr result (TapsGainFronts script.now.shape.servers
-        (λ j. bytes_of (relayed_exchange script.now b (seeds_of b) history j))
-        (T.tap taps.old) (T.tap taps.new)) }
+    ensures ok { OnOk result (TapsGain script.now.shape.servers
+        (relayed_sight script.now (words_in book.now)) (T.tap taps.old) (T.tap taps.new)) }
+    ensures err { OnErr result (TapsGainFronts script.now.shape.servers
+        (relayed_sight script.now (words_in book.now)) (T.tap taps.old) (T.tap taps.new)) }
     ensures others { TapsKeepBut script.now.shape.servers (T.tap taps.old) (T.tap taps.new) }
     ensures rose { IfErr result (λ e. e ≡ RunError.Taps
         → Rose (T.faults taps.old) (T.faults taps.new)) }

@@ -3,8 +3,7 @@ ghost use Rattle.std.specs.Prelude.{◌≡◌, ◌≤◌, IfErr};
 ghost use Rattle.tk_io.specs.Content.{Rose};
 ghost use Rattle.tk_words.specs.Book.{shape_of, words_in};
 ghost use Rattle.tk_run.specs.Threads.{CameAbout};
-ghost use Rattle.tk_cli.specs.Endings.{Ends};
-ghost use Rattle.tk_cli.specs.Outside.{outside};
+ghost use Rattle.tk_cli.specs.Endings.{EndsFromTo};
 
 use crate::ended::Ended;
 use crate::input::ready;
@@ -41,11 +40,9 @@ pub(crate) fn run_threads<
 >(crew: &Crew<R, G>, source: &mut S, sink: &mut K, taps: &mut T) -> Ended
     requires workers { (1 ≤ crew.now.workers) × (crew.now.workers ≤ 64) }
     requires shards { (1 ≤ crew.now.shards) × (crew.now.shards ≤ 64) }
-    ensures { Ends (Request.Run crew.now.workers crew.now.shards) result
-        (outside (S.left source.old) (S.faults source.old) (K.held sink.old) (K.faults sink.old)
-        (T.tap taps.old) (T.faults taps.old))
-        (outside (S.left source.new) (S.faults source.new) (K.held sink.new) (K.faults sink.new)
-        (T.tap taps.new) (T.faults taps.new)) }
+    ensures { EndsFromTo (Request.Run crew.now.workers crew.now.shards) result
+        S.left S.faults K.held K.faults T.tap T.faults
+        source.old sink.old taps.old source.new sink.new taps.new }
 {
     let alloc = crew.rt.alloc();
     let (script, book) = match ready(alloc, source, Form::Run) {

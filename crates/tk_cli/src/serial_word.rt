@@ -5,10 +5,9 @@ ghost use Rattle.tk_io.specs.Tapped.{TapsGain, TapsGainFronts, TapsKeepBut};
 ghost use Rattle.tk_schedule.specs.Schedule.{serial_history};
 ghost use Rattle.tk_words.specs.Words.{words_of};
 ghost use Rattle.tk_words.specs.Book.{shape_of, words_in};
-ghost use Rattle.tk_report.specs.Exchange.{exchange, bytes_of};
 ghost use Rattle.tk_report.specs.Outcomes.{IsLeftBy};
-ghost use Rattle.tk_cli.specs.Endings.{Ends};
-ghost use Rattle.tk_cli.specs.Outside.{outside};
+ghost use Rattle.tk_run.specs.Plays.{serial_sight};
+ghost use Rattle.tk_cli.specs.Endings.{EndsFromTo};
 
 use crate::ended::Ended;
 use crate::input::ready;
@@ -28,11 +27,8 @@ pub(crate) fn run_serial<S: Source, K: Sink, T: Taps>(
     sink: &mut K,
     taps: &mut T,
 ) -> Ended
-    ensures { Ends Request.Serial result
-        (outside (S.left source.old) (S.faults source.old) (K.held sink.old) (K.faults sink.old)
-        (T.tap taps.old) (T.faults taps.old))
-        (outside (S.left source.new) (S.faults source.new) (K.held sink.new) (K.faults sink.new)
-        (T.tap taps.new) (T.faults taps.new)) }
+    ensures { EndsFromTo Request.Serial result S.left S.faults K.held K.faults T.tap T.faults
+        source.old sink.old taps.old source.new sink.new taps.new }
 {
     let (script, book) = match ready(alloc, source, Form::Run) {
         Ok(input) => input,
@@ -53,14 +49,10 @@ pub(crate) fn serial_by<T: Taps>(
     requires one_shape { shape_of book.now ≡ script.now.shape }
     ensures left { let words = words_of script.now.shape (words_in book.now) in
         IfOk result (IsLeftBy script.now words (serial_history script.now.shape)) }
-    ensures ok { let history = serial_history script.now.shape in
-        OnOk result (TapsGain script.now.shape.servers
-        (λ j. bytes_of (exchange script.now (words_in book.now) history j))
-        (T.tap taps.old) (T.tap taps.new)) }
-    ensures err { let history = serial_history script.now.shape in
-        OnErr result (TapsGainFronts script.now.shape.servers
-        (λ j. bytes_of (exchange script.now (words_in book.now) history j))
-        (T.tap taps.old) (T.tap taps.new)) }
+    ensures ok { OnOk result (TapsGain script.now.shape.servers
+        (serial_sight script.now (words_in book.now)) (T.tap taps.old) (T.tap taps.new)) }
+    ensures err { OnErr result (TapsGainFronts script.now.shape.servers
+        (serial_sight script.now (words_in book.now)) (T.tap taps.old) (T.tap taps.new)) }
     ensures others { TapsKeepBut script.now.shape.servers (T.tap taps.old) (T.tap taps.new) }
     ensures rose { IfErr result (λ e. e ≡ RunError.Taps
         → Rose (T.faults taps.old) (T.faults taps.new)) }

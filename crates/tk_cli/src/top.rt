@@ -1,7 +1,6 @@
 ghost use Rattle.std.specs.Prelude.{◌≡◌, ◌↔◌};
 ghost use Rattle.tk_cli.specs.declared.request.Request.{Request as Requested};
-ghost use Rattle.tk_cli.specs.Endings.{Ends};
-ghost use Rattle.tk_cli.specs.Outside.{outside};
+ghost use Rattle.tk_cli.specs.Endings.{EndsFromTo};
 ghost use Rattle.tk_cli.specs.Requests.{Asks, AsksNothing};
 
 use crate::ended::Ended;
@@ -37,11 +36,9 @@ pub fn talek<R: Threads + Wait + Sync + AllocGlobal, S: Source, K: Sink, T: Taps
     gate: &G,
 ) -> Ended
     ensures usage { (result.status ≡ Status.Usage) ↔ AsksNothing words.now }
-    ensures ends { (request : Requested) → Asks words.now request → Ends request result
-        (outside (S.left source.old) (S.faults source.old) (K.held sink.old) (K.faults sink.old)
-        (T.tap taps.old) (T.faults taps.old))
-        (outside (S.left source.new) (S.faults source.new) (K.held sink.new) (K.faults sink.new)
-        (T.tap taps.new) (T.faults taps.new)) }
+    ensures ends { (request : Requested) → Asks words.now request
+        → EndsFromTo request result S.left S.faults K.held K.faults T.tap T.faults
+        source.old sink.old taps.old source.new sink.new taps.new }
 {
     let alloc = rt.alloc();
     match request_of(words) {

@@ -3,7 +3,8 @@ use Rattle.std.proofs.Common.{refl, arith}
 use Rattle.tk_cli.specs.declared.request.Request.TheVariants as request
 use Rattle.tk_script.specs.declared.form.Form.TheVariants as form
 use Rattle.tk_cli.specs.Outside.{outside}
-use Rattle.tk_cli.proofs.SerialLaws.{serial-ends, relay-runs, relay_seen}
+use Rattle.tk_cli.specs.Endings.{relayed_sight}
+use Rattle.tk_cli.proofs.SerialLaws.{serial-ends, relay-runs}
 use Rattle.tk_cli.proofs.WordLaws.{relay-reads, early, relay-due, has-book_of_keys}
 use Rattle.tk_cli.proofs.relay_word.run_relayed.Goals as goal
 
@@ -36,7 +37,7 @@ returns g c =
     let new = outside left' (g.S.Source.faults c.ready.new.source)
     (g.K.Sink.held c.tell_left.new.sink) (g.K.Sink.faults c.tell_left.new.sink)
     (g.T.Taps.tap c.relayed_by-left.new.taps) (g.T.Taps.faults c.relayed_by-left.new.taps) in
-    serial-ends request.Relay relay_seen relay-runs c.tell_left.result old new
+    serial-ends request.Relay relayed_sight relay-runs c.tell_left.result old new
     (record {
       source = c.ready.ensures.counts;
       sink = told.counts;

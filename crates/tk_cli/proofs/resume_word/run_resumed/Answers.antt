@@ -2,8 +2,9 @@
 use Rattle.std.proofs.Common.{refl, arith}
 use Rattle.tk_cli.specs.declared.request.Request.TheVariants as request
 use Rattle.tk_script.specs.declared.form.Form.TheVariants as form
+use Rattle.tk_run.specs.Plays.{serial_sight}
 use Rattle.tk_cli.specs.Outside.{outside}
-use Rattle.tk_cli.proofs.SerialLaws.{serial-ends, resume-runs, serial_seen}
+use Rattle.tk_cli.proofs.SerialLaws.{serial-ends, resume-runs}
 use Rattle.tk_cli.proofs.WordLaws.{resume-reads, early, late, phase-short, resume-due, resume-stops}
 use Rattle.tk_cli.proofs.resume_word.run_resumed.Goals as goal
 
@@ -49,7 +50,7 @@ returns g c =
     let new = outside left' (g.S.Source.faults c.ready.new.source)
     (g.K.Sink.held c.tell_left.new.sink) (g.K.Sink.faults c.tell_left.new.sink)
     (g.T.Taps.tap c.resumed_by-left.new.taps) (g.T.Taps.faults c.resumed_by-left.new.taps) in
-    serial-ends (request.Resume c.args.epoch) serial_seen (resume-runs c.args.epoch) c.tell_left.result old new
+    serial-ends (request.Resume c.args.epoch) serial_sight (resume-runs c.args.epoch) c.tell_left.result old new
     (record {
       source = c.ready.ensures.counts;
       sink = told.counts;

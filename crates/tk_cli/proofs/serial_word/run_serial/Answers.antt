@@ -2,8 +2,9 @@
 use Rattle.std.proofs.Common.{refl, arith}
 use Rattle.tk_cli.specs.declared.request.Request.TheVariants as request
 use Rattle.tk_script.specs.declared.form.Form.TheVariants as form
+use Rattle.tk_run.specs.Plays.{serial_sight}
 use Rattle.tk_cli.specs.Outside.{outside}
-use Rattle.tk_cli.proofs.SerialLaws.{serial-ends, serial-runs, serial_seen}
+use Rattle.tk_cli.proofs.SerialLaws.{serial-ends, serial-runs}
 use Rattle.tk_cli.proofs.WordLaws.{serial-reads, early, serial-due}
 use Rattle.tk_cli.proofs.serial_word.run_serial.Goals as goal
 
@@ -30,7 +31,7 @@ returns g c =
     let new = outside left' (g.S.Source.faults c.ready.new.source)
     (g.K.Sink.held c.tell_left.new.sink) (g.K.Sink.faults c.tell_left.new.sink)
     (g.T.Taps.tap c.serial_by-left.new.taps) (g.T.Taps.faults c.serial_by-left.new.taps) in
-    serial-ends request.Serial serial_seen serial-runs c.tell_left.result old new
+    serial-ends request.Serial serial_sight serial-runs c.tell_left.result old new
     (record {
       source = c.ready.ensures.counts;
       sink = told.counts;
