@@ -1,20 +1,8 @@
 -- What the serial run has each client send and each server tell.
-use Rattle.std.specs.Prelude.{◌≡◌, ℕ, ◌≤◌, ◌<◌, min, List, [], ◌∷◌, length, map, flat_map}
-use Rattle.std.specs.List.{range_with_len}
-use Rattle.tk_shape.specs.Lengths.{turn_count}
-use Rattle.tk_schedule.specs.declared.history.History.{History}
-use Rattle.tk_schedule.specs.Schedule.{serial_history}
-use Rattle.tk_script.specs.declared.script.Script.{Script}
-use Rattle.tk_words.specs.Words.{WordBook, words_of}
-use Rattle.tk_frames.specs.declared.write_frame.WriteFrame.{WriteFrame}
-use Rattle.tk_frames.specs.declared.read_frame.ReadFrame.{ReadFrame}
-use Rattle.tk_frames.specs.declared.entry.Placed.{Placed}
-use Rattle.tk_client.specs.Writing.{Writing, with_text}
-use Rattle.tk_report.specs.Entries.{write_at, entries}
-use Rattle.tk_report.specs.Exchange.{read_at}
-use Rattle.tk_serve.specs.Seats.{Seat, seat_of}
-use Rattle.tk_serve.specs.Told.{told_of, turns_read, reply_told, epoch_told, epoch_bytes}
-use Rattle.tk_meeting.specs.Meeting.{Saying}
+use Rattle.tk_meeting.proofs.Terms.{◌≡◌, ℕ, ◌≤◌, ◌<◌, min, List, [], ◌∷◌, length, map, flat_map, range_with_len}
+use Rattle.tk_meeting.proofs.Terms.{turn_count, WordBook, words_of, Placed, ReadFrame, WriteFrame, serial_history}
+use Rattle.tk_meeting.proofs.Terms.{History, Script, Writing, with_text, write_at, entries, read_at, Seat, seat_of}
+use Rattle.tk_meeting.proofs.Terms.{told_of, turns_read, reply_told, epoch_told, epoch_bytes, Saying}
 
 abbrev pub serial : Script → History
 serial S = serial_history S.shape

@@ -1,16 +1,10 @@
 -- The course of a group apart in numbers: how far each client is, how many packets of each came to each
 -- server, and what is on its way. It depends on no text and no key.
-use Rattle.std.specs.Prelude.{ℕ, ◌+◌, ◌/◌, min, nat_lt, ◌==◌, ◌&&◌, cond, List, [], ◌∷◌, ◌++◌, map}
-use Rattle.std.specs.List.{range_with_len}
-use Rattle.tk_shape.specs.declared.shape.Shape.{Shape}
-use Rattle.tk_shape.specs.Lengths.{turn_count}
-use Rattle.tk_schedule.specs.Schedule.{phases_over}
-use Rattle.tk_serve.specs.Seats.{least}
-use Rattle.tk_serve.specs.Told.{turns_read}
-use Rattle.tk_meeting.specs.Events.{Event, Said, Ticked, WentAhead, Greeted, Up, Down, is_client, is_server}
-use Rattle.tk_meeting.specs.Meeting.{changed}
-use Rattle.tk_meeting.proofs.Pace.{Pace, Kind, Wrote, Asked, first_pace, acted, ticked, sent_ahead}
-use Rattle.tk_meeting.proofs.Pace.{reply_came, epoch_came, settled}
+use Rattle.tk_meeting.proofs.Terms.{ℕ, min, List, [], ◌∷◌, map, ◌+◌, ◌/◌, ◌==◌, cond, ◌++◌, range_with_len, nat_lt}
+use Rattle.tk_meeting.proofs.Terms.{◌&&◌, turn_count, Shape, phases_over, least, turns_read, Event, Said, Ticked}
+use Rattle.tk_meeting.proofs.Terms.{WentAhead, Greeted, Up, Down, is_client, is_server, changed}
+use Rattle.tk_meeting.proofs.Pace.{Pace, Kind, Wrote, Asked, first_pace, acted, ticked, sent_ahead, reply_came}
+use Rattle.tk_meeting.proofs.Pace.{epoch_came, settled}
 
 pub record Course : Type 0 where
   pub paces : ℕ → Pace

@@ -1,3 +1,4 @@
+pub mod Terms
 pub mod Canonical
 pub mod Pace
 pub mod Standing

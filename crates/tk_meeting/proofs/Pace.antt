@@ -1,12 +1,7 @@
 -- How far a client is, in numbers. When it writes and asks follows from these alone.
-use Rattle.std.specs.Prelude.{◌≡◌, ℕ, ◌+◌, ◌-◌, ◌*◌, ◌≤◌, ◌<◌, min, nat_le, nat_lt, ◌&&◌, Bool, true, false, not, cond}
-use Rattle.std.specs.Prelude.{List, [], ◌∷◌, ◌++◌, map, replicate}
-use Rattle.std.specs.List.{range_with_len, list_all}
-use Rattle.tk_shape.specs.declared.shape.Shape.{Shape}
-use Rattle.tk_shape.specs.Lengths.{turn_count}
-use Rattle.tk_schedule.specs.Schedule.{phases_over}
-use Rattle.tk_member.specs.Epochs.{least_of}
-use Rattle.tk_meeting.specs.Meeting.{changed}
+use Rattle.tk_meeting.proofs.Terms.{◌≡◌, ℕ, ◌≤◌, ◌<◌, min, List, [], ◌∷◌, map, ◌+◌, cond, ◌++◌, ◌-◌, ◌*◌, Bool, true}
+use Rattle.tk_meeting.proofs.Terms.{false, replicate, range_with_len, list_all, nat_lt, ◌&&◌, nat_le, not, turn_count}
+use Rattle.tk_meeting.proofs.Terms.{Shape, phases_over, least_of, changed}
 
 -- In how many turns it wrote, and in how many it asked; how many ticks wait, and how many writes may go
 -- ahead; whether a read is open; and by server how many epochs it told, and whether its reply to the

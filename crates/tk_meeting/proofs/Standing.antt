@@ -1,22 +1,10 @@
 -- How a member stands of which this much is known: how far it is, and what was said to it for the turn
 -- that it writes next.
-use Rattle.std.specs.Prelude.{◌≡◌, ℕ, ◌+◌, ◌-◌, ◌≤◌, ◌<◌, ◌==◌, cond, List, [], ◌∷◌, map, filter}
-use Rattle.std.specs.Prelude.{Option, Some, None, Result, Ok}
-use Rattle.std.specs.List.{AllByRecursion, range_with_len}
-use Rattle.tk_schedule.specs.Schedule.{phases_over}
-use Rattle.tk_script.specs.declared.script.Script.{Script}
-use Rattle.tk_words.specs.Words.{WordBook, words_of}
-use Rattle.tk_frames.specs.Spelling.{write_frame, read_frame}
-use Rattle.tk_client.specs.declared.open_read.OpenRead.{OpenRead}
-use Rattle.tk_packets.specs.Packets.{PacketView}
-use Rattle.tk_report.specs.Queues.{writing_before}
-use Rattle.tk_report.specs.Report.{reader_before, target_at}
-use Rattle.tk_member.specs.declared.fault.Fault.{Fault}
-use Rattle.tk_member.specs.Members.{MemberState}
-use Rattle.tk_member.specs.Acting.{ActedMember}
-use Rattle.tk_member.specs.Steps.{tells_and_acts}
-use Rattle.tk_meeting.specs.Meeting.{Saying, for_peer, frames_for}
-use Rattle.tk_meeting.specs.Laws.{sayings, tells_read}
+use Rattle.tk_meeting.proofs.Terms.{◌≡◌, ℕ, ◌≤◌, ◌<◌, List, [], ◌∷◌, map, ◌+◌, ◌==◌, cond, ◌-◌, filter, Option, Some}
+use Rattle.tk_meeting.proofs.Terms.{None, Result, Ok, range_with_len, AllByRecursion, WordBook, words_of, write_frame}
+use Rattle.tk_meeting.proofs.Terms.{read_frame, phases_over, Script, OpenRead, writing_before, reader_before, target_at}
+use Rattle.tk_meeting.proofs.Terms.{PacketView, ActedMember, MemberState, tells_and_acts, Fault, sayings, tells_read, Saying}
+use Rattle.tk_meeting.proofs.Terms.{for_peer, frames_for}
 use Rattle.tk_meeting.proofs.Canonical.{serial, write_in, read_from, reply_in, with_sayings, telling_of}
 use Rattle.tk_meeting.proofs.Pace.{Pace, Kind, Wrote, Asked, settled, acted}
 

@@ -1,9 +1,6 @@
 -- What acting does to a pace: so many writes and reads more as frames are sent, and no read is settled.
-use Rattle.std.proofs.Common.{◌≡◌, ◌∙◌, refl, ap, sym, ℕ, zero, suc, ◌+◌, ◌-◌, Bool, true, false, cond, arith}
-use Rattle.std.proofs.Common.{List, [], ◌∷◌, ◌++◌}
-use Rattle.std.specs.Prelude.{nat_lt, nat_le, ◌&&◌, not, replicate}
-use Rattle.tk_shape.specs.declared.shape.Shape.{Shape}
-use Rattle.tk_schedule.specs.Schedule.{phases_over}
+use Rattle.tk_meeting.proofs.Terms.{◌≡◌, ℕ, List, [], ◌∷◌, ◌+◌, cond, ◌++◌, ◌-◌, Bool, true, false, replicate, ◌∙◌}
+use Rattle.tk_meeting.proofs.Terms.{refl, ap, sym, zero, suc, arith, nat_lt, ◌&&◌, nat_le, not, Shape, phases_over}
 use Rattle.tk_meeting.proofs.Pace.{Pace, Paced, Kind, Wrote, Asked, acted, gone_ahead, gone_by_ticks, count_ahead}
 use Rattle.tk_meeting.proofs.Pace.{count_ticks, asks_now, has_asked, known_by, settled}
 

@@ -1,21 +1,9 @@
 -- A frame that comes to a client keeps what a meeting has where its course is known.
-use Rattle.std.proofs.Common.{◌≡◌, ◌∙◌, refl, ap, sym, subst, ℕ, ◌+◌, ◌-◌, ◌/◌, ◌≤◌, ◌<◌, Bool, true, false}
-use Rattle.std.proofs.Common.{cond, arith, List, [], ◌∷◌, ◌++◌, append-nil}
-use Rattle.std.specs.Prelude.{◌==◌, nat_lt, drop}
-use Rattle.std.proofs.Math.ListN.{drop_of_length-le}
-use Rattle.std.proofs.lemmas.Bool.{eqb-true, eqb-false, ltb-true, ltb-false}
-use Rattle.tk_script.specs.declared.script.Script.{Script}
-use Rattle.tk_words.specs.Words.{WordBook, words_of}
-use Rattle.tk_packets.specs.Packets.{PacketView}
-use Rattle.tk_report.specs.Report.{reader_before}
-use Rattle.tk_report.proofs.Offers.{flat_map-next}
-use Rattle.tk_member.specs.Members.{MemberState}
-use Rattle.tk_member.specs.News.{news}
-use Rattle.tk_member.specs.Steps.{served}
-use Rattle.tk_schedule.proofs.Offers.{one_if}
-use Rattle.tk_meeting.specs.Meeting.{Meeting, changed}
-use Rattle.tk_meeting.specs.Laws.{news_before}
-use Rattle.tk_meeting.specs.Events.{comes_down}
+use Rattle.tk_meeting.proofs.Terms.{◌≡◌, ℕ, ◌≤◌, ◌<◌, List, [], ◌∷◌, ◌+◌, ◌/◌, ◌==◌, cond, ◌++◌, ◌-◌, Bool, true, false}
+use Rattle.tk_meeting.proofs.Terms.{◌∙◌, refl, ap, sym, arith, subst, append-nil, drop, eqb-true, ltb-true}
+use Rattle.tk_meeting.proofs.Terms.{drop_of_length-le, eqb-false, ltb-false, nat_lt, WordBook, words_of, one_if, Script}
+use Rattle.tk_meeting.proofs.Terms.{flat_map-next, reader_before, PacketView, MemberState, news, served, comes_down}
+use Rattle.tk_meeting.proofs.Terms.{news_before, changed, Meeting}
 use Rattle.tk_meeting.proofs.Canonical.{stream, serial, reply_in, epoch_in}
 use Rattle.tk_meeting.proofs.Pace.{Pace, settled, reply_came, epoch_came, all_replied, with_reply_of, closed}
 use Rattle.tk_meeting.proofs.Standing.{Readies}
@@ -25,8 +13,8 @@ use Rattle.tk_meeting.proofs.servers.Numbers.{stream-length, next-reply, next-ep
 use Rattle.tk_meeting.proofs.telling.Foreseeing.{Foresees}
 use Rattle.tk_meeting.proofs.courses.Picks.{at-place, pick, itself}
 use Rattle.tk_meeting.proofs.courses.Balanced.{IsReady, IsBalanced, ArePaces}
-use Rattle.tk_meeting.proofs.courses.Coming.{RepliesNext, replies-next, tells-next, replies-came}
-use Rattle.tk_meeting.proofs.courses.Coming.{reply-numbers, reply-ready, epoch-ready}
+use Rattle.tk_meeting.proofs.courses.Coming.{RepliesNext, replies-next, tells-next, replies-came, reply-numbers}
+use Rattle.tk_meeting.proofs.courses.Coming.{reply-ready, epoch-ready}
 use Rattle.tk_meeting.proofs.courses.Keeps.{Keeps}
 use Rattle.tk_meeting.proofs.courses.Members.{IsPoised}
 use Rattle.tk_meeting.proofs.courses.Poised.{AreMembers, step-keeps, poised, news_then}

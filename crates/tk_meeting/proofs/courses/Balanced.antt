@@ -1,10 +1,9 @@
 -- What holds of every course: the packets of each client are at a server or on their way to it, and no more
 -- frames of a server came than it told, in their order.
-use Rattle.std.proofs.Common.{◌≡◌, ◌∙◌, ◌⊎◌, inl, inr, refl, ap, sym, ℕ, ◌+◌, ◌*◌, ◌/◌, ◌≤◌, ◌<◌, true}
-use Rattle.std.proofs.Common.{false, cond, arith, List, ◌++◌}
-use Rattle.tk_shape.specs.declared.shape.Shape.{Shape}
-use Rattle.tk_meeting.proofs.Pace.{Pace, Kind, first_pace, acted, IsPace, IsIdle, ticked}
-use Rattle.tk_meeting.proofs.Pace.{sent_ahead, reply_came, epoch_came}
+use Rattle.tk_meeting.proofs.Terms.{◌≡◌, ℕ, ◌≤◌, ◌<◌, List, ◌+◌, ◌/◌, cond, ◌++◌, ◌*◌, true, false, ◌∙◌, refl, ap, sym}
+use Rattle.tk_meeting.proofs.Terms.{arith, ◌⊎◌, inl, inr, Shape}
+use Rattle.tk_meeting.proofs.Pace.{Pace, Kind, first_pace, acted, IsPace, IsIdle, ticked, sent_ahead, reply_came}
+use Rattle.tk_meeting.proofs.Pace.{epoch_came}
 use Rattle.tk_meeting.proofs.Course.{Course, first_course, newest_by, replies_of, came_of, stream_len, goes_on}
 use Rattle.tk_meeting.proofs.courses.Picks.{at-place}
 use Rattle.tk_meeting.proofs.courses.Lengths.{over_first}

@@ -1,13 +1,9 @@
 -- A frame that comes to a client is one that it waits for.
-use Rattle.std.proofs.Common.{◌≡◌, ◌∙◌, inl, inr, refl, ap, sym, subst, ℕ, zero, suc, ◌+◌, ◌-◌, ◌*◌, ◌/◌, ◌≤◌}
-use Rattle.std.proofs.Common.{◌<◌, Bool, true, false, cond, arith, List}
-use Rattle.std.specs.Prelude.{◌==◌}
-use Rattle.std.specs.List.{range_with_len, list_all}
-use Rattle.std.proofs.lemmas.Bool.{eqb-true, eqb-false, and_parts, cases_eq}
-use Rattle.tk_shape.specs.declared.shape.Shape.{Shape}
-use Rattle.tk_meeting.specs.Meeting.{changed}
-use Rattle.tk_meeting.proofs.Pace.{Pace, Kind, IsPace, with_reply_of, all_replied, closed, reply_came}
-use Rattle.tk_meeting.proofs.Pace.{epoch_came, settled}
+use Rattle.tk_meeting.proofs.Terms.{◌≡◌, ℕ, ◌≤◌, ◌<◌, List, ◌+◌, ◌/◌, ◌==◌, cond, ◌-◌, ◌*◌, Bool, true, false, ◌∙◌}
+use Rattle.tk_meeting.proofs.Terms.{refl, ap, sym, zero, suc, arith, subst, eqb-true, inl, inr, eqb-false, and_parts}
+use Rattle.tk_meeting.proofs.Terms.{cases_eq, range_with_len, list_all, Shape, changed}
+use Rattle.tk_meeting.proofs.Pace.{Pace, Kind, IsPace, with_reply_of, all_replied, closed, reply_came, epoch_came}
+use Rattle.tk_meeting.proofs.Pace.{settled}
 use Rattle.tk_meeting.proofs.Course.{newest_by, replies_of, came_of, stream_len, pace_down}
 use Rattle.tk_meeting.proofs.courses.Lengths.{reply-next, epoch-next, newest-in, order-reply, order-epoch}
 use Rattle.tk_meeting.proofs.courses.Balanced.{IsLinked, IsReady, ArePaces, linked-by}

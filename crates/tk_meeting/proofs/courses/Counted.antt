@@ -1,20 +1,10 @@
 -- All servers but one see the same of two groups apart over as many tapes.
-use Rattle.std.proofs.Common.{◌≡◌, ℕ, List, length, map, refl, ap, ◌∙◌, arith}
-use Rattle.std.specs.List.{range_with_len}
-use Rattle.tk_shape.specs.declared.shape.Shape.{Shape}
-use Rattle.tk_shape.specs.Lengths.{tape_len}
-use Rattle.tk_schedule.specs.declared.history.History.{History}
-use Rattle.tk_schedule.specs.Schedule.{serial_history}
-use Rattle.tk_counts.proofs.Offers.{shown-as_often}
-use Rattle.tk_privacy.specs.Privacy.{mirror}
-use Rattle.tk_privacy.specs.Counts.{count_tapes}
-use Rattle.tk_privacy.proofs.Offers as privacy
-use Rattle.tk_meeting.specs.Meeting.{Meeting}
-use Rattle.tk_meeting.specs.Events.{met}
-use Rattle.tk_meeting.specs.Hidden.{LooksAlike}
+use Rattle.tk_meeting.proofs.Terms.{◌≡◌, ℕ, List, length, map, ◌∙◌, refl, ap, arith, range_with_len, tape_len, Shape}
+use Rattle.tk_meeting.proofs.Terms.{shown-as_often, serial_history, History, map-range_same, count_tapes, mirror, met}
+use Rattle.tk_meeting.proofs.Terms.{LooksAlike, Meeting}
 use Rattle.tk_meeting.specs.Counted.{link_seen, all_seen, MeetingsAsOften}
-use Rattle.tk_privacy.proofs.Offers.{map-range_same}
 use Rattle.tk_meeting.proofs.hidden.LookAlike.{meetings-look-alike}
+use Rattle.tk_privacy.proofs.Offers as privacy
 
 -- where two groups look alike, the same is seen of them
 same-seen : (shape : Shape) (h : ℕ) (m n : Meeting) → LooksAlike shape h m n →

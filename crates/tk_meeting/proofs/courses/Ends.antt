@@ -1,17 +1,10 @@
 -- When all is handed over each client has asked in every turn, and every read is settled.
-use Rattle.std.proofs.Common.{◌≡◌, ◌∙◌, ◌⊎◌, inl, inr, refl, ap, sym, subst, ℕ, zero, suc, ◌+◌, ◌-◌, ◌*◌, ◌/◌}
-use Rattle.std.proofs.Common.{◌≤◌, ◌<◌, Bool, true, false, cond, arith, List, [], map}
-use Rattle.std.specs.Prelude.{◌&&◌, not, nat_lt, nat_le, min}
-use Rattle.std.specs.List.{range_with_len, list_all}
-use Rattle.std.proofs.Math.Nat.{mul-div_left}
-use Rattle.std.proofs.lemmas.Bool.{cases_lt, and_from, lt-ltb, le-leb, both_ways}
-use Rattle.tk_shape.specs.declared.shape.Shape.{Shape}
-use Rattle.tk_shape.specs.Lengths.{turn_count}
-use Rattle.tk_schedule.specs.Schedule.{phases_over}
-use Rattle.tk_member.specs.Epochs.{least_of}
-use Rattle.tk_serve.proofs.Offers.{phase-past}
-use Rattle.tk_meeting.proofs.Pace.{Pace, Paced, Kind, IsPace, IsIdle, asks_now, gone_ahead}
-use Rattle.tk_meeting.proofs.Pace.{gone_by_ticks, known_by, all_replied, settled}
+use Rattle.tk_meeting.proofs.Terms.{◌≡◌, ℕ, ◌≤◌, ◌<◌, min, List, [], map, ◌+◌, ◌/◌, cond, ◌-◌, ◌*◌, Bool, true, false}
+use Rattle.tk_meeting.proofs.Terms.{◌∙◌, refl, ap, sym, zero, suc, arith, subst, ◌⊎◌, inl, inr, lt-ltb, le-leb}
+use Rattle.tk_meeting.proofs.Terms.{mul-div_left, cases_lt, and_from, both_ways, range_with_len, list_all, nat_lt, ◌&&◌}
+use Rattle.tk_meeting.proofs.Terms.{nat_le, not, turn_count, Shape, phases_over, phase-past, least_of}
+use Rattle.tk_meeting.proofs.Pace.{Pace, Paced, Kind, IsPace, IsIdle, asks_now, gone_ahead, gone_by_ticks, known_by}
+use Rattle.tk_meeting.proofs.Pace.{all_replied, settled}
 use Rattle.tk_meeting.proofs.Course.{newest_by, replies_of, came_of, stream_len}
 use Rattle.tk_meeting.proofs.servers.Numbers.{phases-ordered}
 use Rattle.tk_meeting.proofs.courses.Lengths.{order-epoch}

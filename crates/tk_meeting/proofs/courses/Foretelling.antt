@@ -1,14 +1,6 @@
 -- How far a client writes in a step follows from its numbers, whatever it was told to write.
-use Rattle.std.proofs.Common.{◌≡◌, ◌∙◌, ℕ, ◌+◌, ◌-◌, ◌*◌, arith, List}
-use Rattle.std.specs.Prelude.{min}
-use Rattle.tk_shape.specs.Lengths.{turn_count}
-use Rattle.tk_script.specs.declared.script.Script.{Script}
-use Rattle.tk_words.specs.Words.{WordBook}
-use Rattle.tk_member.specs.Epochs.{known}
-use Rattle.tk_member.specs.Members.{MemberState}
-use Rattle.tk_member.specs.Acting.{acts}
-use Rattle.tk_meeting.specs.Meeting.{Saying}
-use Rattle.tk_meeting.specs.Shown.{stand}
+use Rattle.tk_meeting.proofs.Terms.{◌≡◌, ℕ, min, List, ◌+◌, ◌-◌, ◌*◌, ◌∙◌, arith, turn_count, WordBook, Script, acts}
+use Rattle.tk_meeting.proofs.Terms.{known, MemberState, Saying, stand}
 use Rattle.tk_meeting.proofs.Pace.{Pace, acted, known_by, gone_ahead, count_ahead, count_ticks}
 use Rattle.tk_meeting.proofs.Standing.{IsAt}
 use Rattle.tk_meeting.proofs.members.Asking.{known-is}

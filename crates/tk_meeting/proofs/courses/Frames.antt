@@ -1,8 +1,6 @@
 -- Frames of what a client sends, one after the other.
-use Rattle.std.proofs.Common.{◌≡◌, refl, ap, ℕ, ◌+◌, arith, List, [], ◌∷◌, ◌++◌, length}
-use Rattle.tk_script.specs.declared.script.Script.{Script}
-use Rattle.tk_words.specs.Words.{WordBook}
-use Rattle.tk_frames.specs.Spelling.{write_frame, read_frame}
+use Rattle.tk_meeting.proofs.Terms.{◌≡◌, ℕ, List, [], ◌∷◌, length, ◌+◌, ◌++◌, refl, ap, arith, WordBook, write_frame}
+use Rattle.tk_meeting.proofs.Terms.{read_frame, Script}
 use Rattle.tk_meeting.proofs.Canonical.{write_in, read_from}
 use Rattle.tk_meeting.proofs.Pace.{Kind, Wrote, Asked}
 use Rattle.tk_meeting.proofs.Standing.{frames_of}

@@ -1,10 +1,5 @@
 -- What the laws of paces and of members come to, gathered.
-use Rattle.std.specs.Prelude.{List, ◌++◌}
-use Rattle.tk_shape.specs.declared.shape.Shape.{Shape}
-use Rattle.tk_script.specs.declared.script.Script.{Script}
-use Rattle.tk_words.specs.Words.{WordBook, IsBook}
-use Rattle.tk_meeting.specs.Laws.{HasWhatWasSaid}
-use Rattle.tk_meeting.specs.Events.{Event, met}
+use Rattle.tk_meeting.proofs.Terms.{List, ◌++◌, Shape, WordBook, IsBook, Script, Event, met, HasWhatWasSaid}
 use Rattle.tk_meeting.proofs.Course.{course_of}
 use Rattle.tk_meeting.proofs.members.Idle.{first-idle, acted-idle}
 use Rattle.tk_meeting.proofs.members.Paces.{pace-first, pace-ticked, pace-ahead, pace-replied, pace-epoch, pace-acted}

@@ -1,13 +1,7 @@
 -- What a meeting has where its course is known: each client, server and link is what the serial run makes
 -- of it.
-use Rattle.std.specs.Prelude.{◌≡◌, ℕ, ◌≤◌, ◌<◌, List, drop, filter, Option, None}
-use Rattle.tk_script.specs.declared.script.Script.{Script}
-use Rattle.tk_words.specs.Words.{WordBook}
-use Rattle.tk_packets.specs.Packets.{PacketView}
-use Rattle.tk_member.specs.declared.fault.Fault.{Fault}
-use Rattle.tk_member.specs.Members.{MemberState}
-use Rattle.tk_meeting.specs.Meeting.{Meeting, Saying}
-use Rattle.tk_meeting.specs.Laws.{news_before, tells_read}
+use Rattle.tk_meeting.proofs.Terms.{◌≡◌, ℕ, ◌≤◌, ◌<◌, List, filter, Option, None, drop, WordBook, Script, PacketView}
+use Rattle.tk_meeting.proofs.Terms.{MemberState, Fault, tells_read, news_before, Saying, Meeting}
 use Rattle.tk_meeting.proofs.Canonical.{AreFronts, stream}
 use Rattle.tk_meeting.proofs.Pace.{Pace, Kind, settled}
 use Rattle.tk_meeting.proofs.Standing.{IsAt, frames_of}

@@ -1,14 +1,8 @@
 -- How many frames a server tells of so many reads, and which one is next.
-use Rattle.std.proofs.Common.{◌≡◌, ◌⊎◌, inl, inr, ℕ, ◌+◌, ◌*◌, ◌/◌, ◌%◌, ◌<◌, ◌≤◌, map, ap, sym, subst, ◌∙◌, arith}
-use Rattle.std.specs.Prelude.{min}
-use Rattle.std.specs.List.{range_with_len}
-use Rattle.std.proofs.Math.Nat.{mul-le-mul_right, mul-div_left, div-eq_of_eq-mul_left, zero-mul}
-use Rattle.std.proofs.lemmas.Bool.{cases_lt, cases_eq}
-use Rattle.std.proofs.lemmas.List.FromFn.{length-map-range_with_len, get_or-map-range_with_len}
-use Rattle.tk_shape.specs.declared.shape.Shape.{Shape}
-use Rattle.tk_shape.specs.Lengths.{turn_count}
-use Rattle.tk_serve.specs.Seats.{least}
-use Rattle.tk_serve.proofs.Offers.{least-top, least-above, closing-last, phases-stay}
+use Rattle.tk_meeting.proofs.Terms.{◌≡◌, ℕ, ◌≤◌, ◌<◌, min, map, ◌+◌, ◌/◌, ◌*◌, ◌∙◌, ap, sym, arith, subst, ◌⊎◌, inl}
+use Rattle.tk_meeting.proofs.Terms.{inr, ◌%◌, mul-div_left, mul-le-mul_right, div-eq_of_eq-mul_left, zero-mul, cases_eq}
+use Rattle.tk_meeting.proofs.Terms.{cases_lt, length-map-range_with_len, get_or-map-range_with_len, range_with_len}
+use Rattle.tk_meeting.proofs.Terms.{turn_count, Shape, least-top, least-above, closing-last, phases-stay, least}
 use Rattle.tk_meeting.proofs.servers.Numbers.{phases-ordered}
 use Rattle.tk_meeting.proofs.Course.{newest_by, stream_len}
 

@@ -1,16 +1,8 @@
 -- A client's step keeps what a meeting has where its course is known.
-use Rattle.std.proofs.Common.{◌≡◌, ◌∙◌, refl, ap, sym, subst, ℕ, ◌+◌, ◌≤◌, ◌<◌, Bool, true, false, cond, arith}
-use Rattle.std.proofs.Common.{List, [], ◌++◌, filter}
-use Rattle.std.specs.Prelude.{◌==◌, drop, None, Result, Ok}
-use Rattle.std.proofs.lemmas.Bool.{eqb-true, eqb-false}
-use Rattle.std.proofs.lemmas.List.Elements.{filter-append}
-use Rattle.tk_script.specs.declared.script.Script.{Script}
-use Rattle.tk_words.specs.Words.{WordBook}
-use Rattle.tk_packets.specs.Packets.{PacketView}
-use Rattle.tk_member.specs.declared.fault.Fault.{Fault}
-use Rattle.tk_member.specs.Acting.{ActedMember}
-use Rattle.tk_meeting.specs.Meeting.{Meeting, Saying, member_went, for_peer, frames_for}
-use Rattle.tk_meeting.specs.Laws.{news_before, tells_read}
+use Rattle.tk_meeting.proofs.Terms.{◌≡◌, ℕ, ◌≤◌, ◌<◌, List, [], ◌+◌, ◌==◌, cond, ◌++◌, Bool, true, false, filter, None}
+use Rattle.tk_meeting.proofs.Terms.{Result, Ok, ◌∙◌, refl, ap, sym, arith, subst, drop, eqb-true, eqb-false}
+use Rattle.tk_meeting.proofs.Terms.{filter-append, WordBook, Script, PacketView, ActedMember, Fault, tells_read, news_before}
+use Rattle.tk_meeting.proofs.Terms.{Saying, for_peer, frames_for, Meeting, member_went}
 use Rattle.tk_meeting.proofs.Canonical.{AreFronts, stream}
 use Rattle.tk_meeting.proofs.Pace.{Pace, Kind, settled, acted}
 use Rattle.tk_meeting.proofs.Standing.{IsAt, frames_of, Goes}

@@ -1,7 +1,5 @@
 -- A choice by a test, and a function that is changed in one place.
-use Rattle.std.proofs.Common.{◌≡◌, refl, sym, subst, ℕ, Bool, true, false, cond}
-use Rattle.std.specs.Prelude.{◌==◌}
-use Rattle.std.proofs.lemmas.Bool.{eq-eqb, eqb-true}
+use Rattle.tk_meeting.proofs.Terms.{◌≡◌, ℕ, ◌==◌, cond, Bool, true, false, refl, sym, subst, eqb-true, eq-eqb}
 
 -- what holds either way holds
 pub pick : (P : Bool → Type 0) (k : Bool) → (k ≡ true → P true) → (k ≡ false → P false) → P k

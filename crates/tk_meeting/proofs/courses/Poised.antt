@@ -1,22 +1,11 @@
 -- A client that is about to take a step, and the meeting after it.
-use Rattle.std.proofs.Common.{◌≡◌, ◌∙◌, ap, sym, subst, ℕ, ◌+◌, ◌-◌, ◌≤◌, ◌<◌, true, false, cond, arith, List}
-use Rattle.std.proofs.Common.{[], ◌++◌, filter}
-use Rattle.std.specs.Prelude.{◌==◌, drop, Result, Ok}
-use Rattle.std.specs.List.{AllByRecursion}
-use Rattle.tk_script.specs.declared.script.Script.{Script}
-use Rattle.tk_words.specs.Words.{WordBook, words_of}
-use Rattle.tk_packets.specs.Packets.{PacketView}
-use Rattle.tk_report.specs.Report.{reader_before}
-use Rattle.tk_member.specs.declared.fault.Fault.{Fault}
-use Rattle.tk_member.specs.News.{news}
-use Rattle.tk_member.specs.Members.{MemberState}
-use Rattle.tk_member.specs.Acting.{ActedMember, behind, acts}
-use Rattle.tk_member.specs.Steps.{tells_and_acts, served}
-use Rattle.tk_meeting.specs.Meeting.{Meeting, Saying, member_went, opening}
-use Rattle.tk_meeting.specs.Laws.{news_before, tells_read}
+use Rattle.tk_meeting.proofs.Terms.{◌≡◌, ℕ, ◌≤◌, ◌<◌, List, [], ◌+◌, ◌==◌, cond, ◌++◌, ◌-◌, true, false, filter, Result}
+use Rattle.tk_meeting.proofs.Terms.{Ok, ◌∙◌, ap, sym, arith, subst, drop, AllByRecursion, WordBook, words_of, Script}
+use Rattle.tk_meeting.proofs.Terms.{reader_before, PacketView, ActedMember, acts, behind, MemberState, news, tells_and_acts}
+use Rattle.tk_meeting.proofs.Terms.{served, Fault, tells_read, news_before, Saying, Meeting, member_went, opening}
 use Rattle.tk_meeting.proofs.Canonical.{stream, serial, reply_in, epoch_in}
-use Rattle.tk_meeting.proofs.Pace.{Pace, settled, acted, IsPace, first_pace, reply_came, epoch_came}
-use Rattle.tk_meeting.proofs.Pace.{all_replied, with_reply_of}
+use Rattle.tk_meeting.proofs.Pace.{Pace, settled, acted, IsPace, first_pace, reply_came, epoch_came, all_replied}
+use Rattle.tk_meeting.proofs.Pace.{with_reply_of}
 use Rattle.tk_meeting.proofs.Standing.{IsAt, Goes, Readies, IsForetold}
 use Rattle.tk_meeting.proofs.Course.{Course, newest_by, came_of, goes_on}
 use Rattle.tk_meeting.proofs.telling.Foreseeing.{ForeseesOf, Foresees}

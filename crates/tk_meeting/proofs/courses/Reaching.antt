@@ -1,10 +1,7 @@
 -- A frame of a client reaches a server, and every course stays balanced.
-use Rattle.std.proofs.Common.{◌≡◌, refl, ap, sym, ◌∙◌, ℕ, ◌+◌, ◌≤◌, ◌<◌, true, cond, arith, le_trans, List, [], ◌∷◌}
-use Rattle.std.specs.Prelude.{◌&&◌, nat_lt, nat_le}
-use Rattle.std.proofs.lemmas.Bool.{and_parts, ltb-true, leb-true}
-use Rattle.tk_shape.specs.declared.shape.Shape.{Shape}
-use Rattle.tk_meeting.specs.Events.{Event, Said, Ticked, WentAhead, Greeted, Up, Down, is_client, is_server}
-use Rattle.tk_meeting.specs.Meeting.{changed}
+use Rattle.tk_meeting.proofs.Terms.{◌≡◌, ℕ, ◌≤◌, ◌<◌, List, [], ◌∷◌, ◌+◌, cond, true, ◌∙◌, refl, ap, sym, arith}
+use Rattle.tk_meeting.proofs.Terms.{ltb-true, le_trans, and_parts, leb-true, nat_lt, ◌&&◌, nat_le, Shape, Event, Said}
+use Rattle.tk_meeting.proofs.Terms.{Ticked, WentAhead, Greeted, Up, Down, is_client, is_server, changed}
 use Rattle.tk_meeting.proofs.Pace.{Kind, Wrote, Asked, ticked, sent_ahead}
 use Rattle.tk_meeting.proofs.Course.{Course, first_course, newest_by, came_of, stream_len, goes_on, course_up}
 use Rattle.tk_meeting.proofs.Course.{pace_down, course_down, moves, moved, course_of}
@@ -12,8 +9,8 @@ use Rattle.tk_meeting.proofs.courses.Acting.{wrote_in, asked_in}
 use Rattle.tk_meeting.proofs.courses.Picks.{at-place, pick, itself}
 use Rattle.tk_meeting.proofs.servers.Bumps.{newest-grows, bumped-above}
 use Rattle.tk_meeting.proofs.servers.Numbers.{length-grows}
-use Rattle.tk_meeting.proofs.courses.Balanced.{IsLinked, IsBalanced, ArePaces}
-use Rattle.tk_meeting.proofs.courses.Balanced.{first-balanced, goes_on-balanced, ticked-ready, ahead-ready}
+use Rattle.tk_meeting.proofs.courses.Balanced.{IsLinked, IsBalanced, ArePaces, first-balanced, goes_on-balanced}
+use Rattle.tk_meeting.proofs.courses.Balanced.{ticked-ready, ahead-ready}
 use Rattle.tk_meeting.proofs.courses.Coming.{down-ready}
 
 -- where more came to servers, and as much less is on its way to them, a course stays balanced

@@ -1,20 +1,10 @@
 -- However its packets are delivered, a meeting has what its course says.
-use Rattle.std.proofs.Common.{◌≡◌, ◌∙◌, refl, ap, sym, subst, ℕ, ◌+◌, ◌*◌, ◌/◌, ◌<◌, Bool, true, false, cond}
-use Rattle.std.proofs.Common.{arith, List, [], ◌∷◌, ◌++◌}
-use Rattle.std.specs.Prelude.{◌&&◌, min, Option, None}
-use Rattle.std.proofs.Math.ListN.{drop_of_length-le}
-use Rattle.std.proofs.lemmas.Bool.{and_parts}
-use Rattle.std.proofs.lemmas.List.{append_assoc}
-use Rattle.tk_shape.specs.declared.shape.Shape.{Shape}
-use Rattle.tk_script.specs.declared.script.Script.{Script}
-use Rattle.tk_words.specs.Words.{WordBook, IsBook}
-use Rattle.tk_member.specs.declared.fault.Fault.{Fault}
-use Rattle.tk_member.specs.declared.word.HostWord.TheVariants.{Say, Tick, Ahead, Has}
-use Rattle.tk_meeting.specs.Meeting.{Meeting, opening}
-use Rattle.tk_meeting.specs.Laws.{HasWhatWasSaid}
-use Rattle.tk_meeting.specs.Events.{Event, Said, Ticked, WentAhead, Greeted, Up, Down, is_client, is_server, happens}
-use Rattle.tk_meeting.specs.Events.{after_events, met, client_does, unless_ended, hears, noted, say_fault, greeting_of}
-use Rattle.tk_meeting.specs.Events.{comes_up, comes_down}
+use Rattle.tk_meeting.proofs.Terms.{◌≡◌, ℕ, ◌<◌, min, List, [], ◌∷◌, ◌+◌, ◌/◌, cond, ◌++◌, ◌*◌, Bool, true, false}
+use Rattle.tk_meeting.proofs.Terms.{Option, None, ◌∙◌, refl, ap, sym, arith, subst, append_assoc, drop_of_length-le}
+use Rattle.tk_meeting.proofs.Terms.{and_parts, ◌&&◌, Shape, WordBook, IsBook, Script, Fault, Say, Tick, Ahead, Has}
+use Rattle.tk_meeting.proofs.Terms.{Event, Said, Ticked, WentAhead, Greeted, Up, Down, is_client, is_server, comes_down}
+use Rattle.tk_meeting.proofs.Terms.{met, happens, after_events, client_does, unless_ended, hears, noted, say_fault}
+use Rattle.tk_meeting.proofs.Terms.{greeting_of, comes_up, HasWhatWasSaid, Meeting, opening}
 use Rattle.tk_meeting.proofs.Canonical.{stream}
 use Rattle.tk_meeting.proofs.Pace.{ticked, sent_ahead}
 use Rattle.tk_meeting.proofs.Standing.{frames_of}

@@ -1,31 +1,14 @@
 -- What its course says of a meeting is what the laws say.
-use Rattle.std.proofs.Common.{◌≡◌, ◌∙◌, refl, ap, sym, ℕ, ◌+◌, ◌-◌, ◌≤◌, ◌<◌, Bool, true, false, cond, arith}
-use Rattle.std.proofs.Common.{List, [], ◌++◌, length, filter, ap₂, ◌∷◌}
-use Rattle.std.specs.Prelude.{drop, ◌&&◌, ◌==◌, Option, Some, None}
-use Rattle.std.specs.Option.{is_none}
-use Rattle.std.proofs.lemmas.Bool.{eqb-true, eq-eqb, and_from, and_parts}
-use Rattle.tk_shape.specs.declared.shape.Shape.{Shape}
-use Rattle.tk_client.specs.declared.open_read.OpenRead.{OpenRead}
-use Rattle.tk_member.specs.Members.{MemberState, is_over}
+use Rattle.tk_meeting.proofs.Terms.{◌≡◌, ℕ, ◌≤◌, ◌<◌, List, [], ◌∷◌, length, ◌+◌, ◌==◌, cond, ◌++◌, ◌-◌, Bool, true}
+use Rattle.tk_meeting.proofs.Terms.{false, filter, Option, Some, None, ◌∙◌, refl, ap, sym, arith, drop, eqb-true}
+use Rattle.tk_meeting.proofs.Terms.{eq-eqb, ap₂, length-append, and_parts, and_from, length-drop, list_any, is_none}
+use Rattle.tk_meeting.proofs.Terms.{◌&&◌, turn_count, Shape, WordBook, words_of, IsBook, serial_history, unsent_count}
+use Rattle.tk_meeting.proofs.Terms.{Script, Reader, Writing, with_text, count_of, OpenRead, queues-send, writing_before}
+use Rattle.tk_meeting.proofs.Terms.{reader_before, logs, Seat, MemberState, is_over, Event, met, tells_read}
+use Rattle.tk_meeting.proofs.Terms.{news_before, HasWhatWasSaid, HasFront, HasTold, HasNoFaults, IsAllHanded, is_refusal, Saying}
+use Rattle.tk_meeting.proofs.Terms.{Meeting}
 use Rattle.tk_meeting.proofs.Standing.{read_of}
-use Rattle.std.proofs.lemmas.List.{length-append, length-drop}
-use Rattle.tk_script.specs.Sent.{unsent_count}
-use Rattle.tk_client.specs.Writing.{Writing, with_text, count_of}
-use Rattle.tk_report.specs.Queues.{writing_before}
-use Rattle.tk_report.proofs.Offers.{queues-send}
-use Rattle.tk_meeting.specs.Meeting.{Saying, Meeting}
 use Rattle.tk_meeting.proofs.Canonical.{with_sayings, stream, serial}
-use Rattle.std.specs.List.{list_any}
-use Rattle.tk_shape.specs.Lengths.{turn_count}
-use Rattle.tk_schedule.specs.Schedule.{serial_history}
-use Rattle.tk_script.specs.declared.script.Script.{Script}
-use Rattle.tk_words.specs.Words.{WordBook, IsBook, words_of}
-use Rattle.tk_client.specs.Reader.{Reader}
-use Rattle.tk_report.specs.Report.{reader_before, logs}
-use Rattle.tk_serve.specs.Seats.{Seat}
-use Rattle.tk_meeting.specs.Laws.{HasWhatWasSaid, HasFront, HasTold, HasNoFaults, IsAllHanded, news_before, tells_read}
-use Rattle.tk_meeting.specs.Laws.{is_refusal}
-use Rattle.tk_meeting.specs.Events.{Event, met}
 use Rattle.tk_meeting.proofs.Pace.{Pace, Kind, settled}
 use Rattle.tk_meeting.proofs.Course.{Course, newest_by, stream_len, came_of, course_of}
 use Rattle.tk_meeting.proofs.servers.Numbers.{stream-length}

@@ -1,15 +1,9 @@
 -- A frame that comes to a server keeps what a meeting has where its course is known.
-use Rattle.std.proofs.Common.{◌≡◌, ◌∙◌, refl, ap, sym, subst, ℕ, ◌+◌, ◌≤◌, ◌<◌, false, cond, arith, List, [], ◌∷◌, ◌++◌}
-use Rattle.std.proofs.Common.{length}
-use Rattle.std.specs.Prelude.{◌==◌, drop}
-use Rattle.std.proofs.lemmas.List.{drop-append-le}
-use Rattle.tk_shape.specs.Lengths.{turn_count}
-use Rattle.tk_script.specs.declared.script.Script.{Script}
-use Rattle.tk_words.specs.Words.{WordBook, IsBook}
-use Rattle.tk_frames.specs.Spelling.{write_frame, read_frame}
-use Rattle.tk_serve.specs.Steps.{SeatsAndPackets, step}
-use Rattle.tk_meeting.specs.Meeting.{Meeting, changed, server_went, frames_for}
-use Rattle.tk_meeting.specs.Events.{comes_up}
+use Rattle.tk_meeting.proofs.Terms.{◌≡◌, ℕ, ◌≤◌, ◌<◌, List, [], ◌∷◌, length, ◌+◌, ◌==◌, cond, ◌++◌, false, ◌∙◌, refl}
+use Rattle.tk_meeting.proofs.Terms.{ap, sym, arith, subst, drop, drop-append-le, turn_count, WordBook, IsBook}
+use Rattle.tk_meeting.proofs.Terms.{write_frame, read_frame, Script, SeatsAndPackets, comes_up, changed, frames_for, Meeting}
+use Rattle.tk_meeting.proofs.Terms.{server_went}
+use Rattle.tk_serve.specs.Steps.{step}
 use Rattle.tk_meeting.proofs.Canonical.{AreFronts, stream, write_in, read_from}
 use Rattle.tk_meeting.proofs.Pace.{Kind, Wrote, Asked}
 use Rattle.tk_meeting.proofs.Standing.{frames_of}

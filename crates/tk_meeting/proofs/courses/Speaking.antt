@@ -1,21 +1,10 @@
 -- What a host says keeps what a meeting has where its course is known.
-use Rattle.std.proofs.Common.{◌≡◌, ◌∙◌, refl, ap, sym, subst, ℕ, ◌+◌, ◌≤◌, ◌<◌, false, cond, arith}
-use Rattle.std.proofs.Common.{List, [], ◌∷◌, ◌++◌, filter, length, append-nil}
-use Rattle.std.specs.Prelude.{◌==◌, drop, Option, Some, None}
-use Rattle.std.proofs.lemmas.Bool.{ne_eqb}
-use Rattle.std.proofs.lemmas.List.FromFn.{length-map-range_with_len}
-use Rattle.tk_shape.specs.declared.shape.Shape.{Shape}
-use Rattle.tk_script.specs.declared.script.Script.{Script}
-use Rattle.tk_words.specs.Words.{WordBook}
-use Rattle.tk_client.specs.declared.say_error.SayError.{SayError}
-use Rattle.tk_member.specs.declared.word.HostWord.TheVariants.{Say, Tick, Ahead, Has}
-use Rattle.tk_member.specs.Members.{MemberState}
-use Rattle.tk_member.specs.Steps.{heard}
-use Rattle.tk_serve.specs.Seats.{Seat}
+use Rattle.tk_meeting.proofs.Terms.{◌≡◌, ℕ, ◌≤◌, ◌<◌, List, [], ◌∷◌, length, ◌+◌, ◌==◌, cond, ◌++◌, false, filter}
+use Rattle.tk_meeting.proofs.Terms.{Option, Some, None, ◌∙◌, refl, ap, sym, arith, subst, append-nil, drop, ne_eqb}
+use Rattle.tk_meeting.proofs.Terms.{length-map-range_with_len, Shape, WordBook, Script, SayError, Seat, MemberState}
+use Rattle.tk_meeting.proofs.Terms.{heard, Say, Tick, Ahead, Has, hears, noted, say_fault, greeting_of, tells_read}
+use Rattle.tk_meeting.proofs.Terms.{news_before, Saying, changed, Meeting}
 use Rattle.tk_meeting.proofs.courses.Frames.{frames-length}
-use Rattle.tk_meeting.specs.Meeting.{Meeting, Saying, changed}
-use Rattle.tk_meeting.specs.Laws.{news_before, tells_read}
-use Rattle.tk_meeting.specs.Events.{noted, say_fault, hears, greeting_of}
 use Rattle.tk_meeting.proofs.Canonical.{stream, write_in, read_from}
 use Rattle.tk_meeting.proofs.Pace.{Pace, Paced, settled, IsIdle, ticked, sent_ahead}
 use Rattle.tk_meeting.proofs.Course.{Course, newest_by, came_of, goes_on}

@@ -1,11 +1,7 @@
 -- A group is never stuck: where enough ticks came and no frame is on its way, each client wrote in all turns.
-use Rattle.std.proofs.Common.{◌≡◌, ◌∙◌, ◌⊎◌, inl, inr, refl, ap, sym, subst, ℕ, zero, suc, ◌+◌, ◌*◌, ◌/◌}
-use Rattle.std.proofs.Common.{◌≤◌, ◌<◌, arith, List, []}
-use Rattle.std.proofs.Math.Nat.{mul-le-mul_right, mul-div_left}
-use Rattle.std.proofs.lemmas.Bool.{cases_lt}
-use Rattle.tk_shape.specs.declared.shape.Shape.{Shape}
-use Rattle.tk_shape.specs.Lengths.{turn_count}
-use Rattle.tk_serve.proofs.Offers.{phase-past, phase-before}
+use Rattle.tk_meeting.proofs.Terms.{◌≡◌, ℕ, ◌≤◌, ◌<◌, List, [], ◌+◌, ◌/◌, ◌*◌, ◌∙◌, refl, ap, sym, zero, suc, arith}
+use Rattle.tk_meeting.proofs.Terms.{subst, ◌⊎◌, inl, inr, mul-div_left, mul-le-mul_right, cases_lt, turn_count, Shape}
+use Rattle.tk_meeting.proofs.Terms.{phase-past, phase-before}
 use Rattle.tk_meeting.proofs.Pace.{Pace, Paced, Kind, IsIdle, known_by}
 use Rattle.tk_meeting.proofs.Course.{Course, newest_by, came_of, stream_len}
 use Rattle.tk_meeting.proofs.members.Paces.{count_due, acted-written}

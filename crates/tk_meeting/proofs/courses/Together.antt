@@ -1,10 +1,6 @@
 -- A group apart is serial, and looks the same but for what it says.
-use Rattle.std.proofs.Common.{sym, subst, ℕ, ◌++◌}
-use Rattle.tk_script.specs.declared.script.Script.{Script}
-use Rattle.tk_words.specs.Words.{WordBook}
-use Rattle.tk_meeting.specs.Meeting.{Meeting}
-use Rattle.tk_meeting.specs.Laws.{HasWhatWasSaid, HasToldAll, IsSerial, MeetingsAreSerial}
-use Rattle.tk_meeting.specs.Events.{met}
+use Rattle.tk_meeting.proofs.Terms.{ℕ, ◌++◌, sym, subst, WordBook, Script, met, HasWhatWasSaid, HasToldAll, IsSerial}
+use Rattle.tk_meeting.proofs.Terms.{MeetingsAreSerial, Meeting}
 use Rattle.tk_meeting.proofs.own.Meetings.{same-met}
 use Rattle.tk_meeting.proofs.gotten.Telling.{told-of, told-whole}
 use Rattle.tk_meeting.proofs.courses.Serially.{HasToldWhole, IsSerialWhole}

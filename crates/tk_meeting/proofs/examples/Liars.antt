@@ -1,11 +1,7 @@
 -- Members whose servers lie, computed: two servers, of which the second one is hidden.
-use Rattle.std.specs.Prelude.{◌≡◌, List, [], ◌∷◌, length, Some, None}
-use Rattle.std.proofs.Common.{refl}
-use Rattle.tk_words.specs.Words.{drawn}
-use Rattle.tk_report.proofs.examples.OrdinaryRun.{script, tape}
-use Rattle.tk_member.specs.declared.fault.Fault.TheVariants.{Peer, Older, Refused}
-use Rattle.tk_meeting.specs.Meeting.{Meeting}
-use Rattle.tk_meeting.specs.Lying.{Deed, Ticks, Claims, Sends, Answers, Hidden, does, after_deeds, lied}
+use Rattle.tk_meeting.proofs.Terms.{◌≡◌, List, [], ◌∷◌, length, Some, None, refl, drawn, script, tape, Peer, Older}
+use Rattle.tk_meeting.proofs.Terms.{Refused, Deed, Ticks, Claims, Sends, Answers, Hidden, does, after_deeds, lied}
+use Rattle.tk_meeting.proofs.Terms.{Meeting}
 use Rattle.tk_meeting.proofs.examples.Orders.{computing}
 
 abbrev hidden : Hidden

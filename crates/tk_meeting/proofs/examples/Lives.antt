@@ -1,13 +1,9 @@
 -- A group of two clients and two servers, computed, in which a server loses all and a member is begun again.
-use Rattle.std.specs.Prelude.{◌≡◌, ℕ, List, [], ◌∷◌, ◌++◌, codes}
-use Rattle.std.proofs.Common.{refl}
-use Rattle.tk_frames.specs.Spelling.{be32}
-use Rattle.tk_report.proofs.examples.OrdinaryRun.{script}
-use Rattle.tk_member.specs.Steps as stepping
-use Rattle.tk_member.specs.Courses.{after_packets}
-use Rattle.tk_meeting.specs.Lives.{Lives, Happening, Hears, GoesUp, MemberAgain, ServerAgain, at_first}
-use Rattle.tk_meeting.specs.Lives.{lives_on, lives_after}
+use Rattle.tk_meeting.proofs.Terms.{◌≡◌, ℕ, List, [], ◌∷◌, ◌++◌, refl, codes, be32, script, after_packets}
+use Rattle.tk_meeting.specs.Lives.{Lives, Happening, Hears, GoesUp, MemberAgain, ServerAgain, at_first, lives_on}
+use Rattle.tk_meeting.specs.Lives.{lives_after}
 use Rattle.tk_meeting.proofs.examples.Orders.{computing, book}
+use Rattle.tk_member.specs.Steps as stepping
 
 abbrev lived : List Happening → Lives
 lived xs = lives_after script (λ c. book) (at_first script) xs

@@ -1,16 +1,8 @@
 -- A member and a server that are begun again, computed: two clients and two servers.
-use Rattle.std.specs.Prelude.{◌≡◌, ℕ, List, [], ◌∷◌, ◌++◌, length, codes, Option, Some, None}
-use Rattle.std.specs.Option.{option_map}
-use Rattle.std.proofs.Common.{refl}
-use Rattle.tk_frames.specs.Spelling.{be32}
-use Rattle.tk_packets.specs.Packets.{PacketView, packet}
-use Rattle.tk_report.proofs.examples.OrdinaryRun.{script}
-use Rattle.tk_member.specs.Acting.{ActedMember}
-use Rattle.tk_member.specs.Steps as stepping
-use Rattle.tk_member.specs.Courses.{after_packets}
-use Rattle.tk_meeting.specs.Meeting.{frames_for}
-use Rattle.tk_meeting.specs.Programs.{first_member}
+use Rattle.tk_meeting.proofs.Terms.{◌≡◌, ℕ, List, [], ◌∷◌, length, ◌++◌, Option, Some, None, refl, codes, option_map}
+use Rattle.tk_meeting.proofs.Terms.{be32, script, PacketView, packet, ActedMember, after_packets, frames_for, first_member}
 use Rattle.tk_meeting.proofs.examples.Orders.{computing, book}
+use Rattle.tk_member.specs.Steps as stepping
 
 -- ---- what a host says
 

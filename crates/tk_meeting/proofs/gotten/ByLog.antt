@@ -1,23 +1,10 @@
 -- What a client tells its host of its reads tells of each log a front of what the log gives to it.
-use Rattle.std.proofs.Common.{◌≡◌, refl, ap, ap₂, sym, ◌∙◌, arith, ◌⊎◌, inl, inr, append-nil}
-use Rattle.std.proofs.Common.{ℕ, zero, suc, ◌+◌, ◌^◌, ◌<◌, ◌≤◌, ◌==◌, Bool, true, false, cond, eq-eqb, ne_eqb}
-use Rattle.std.proofs.Common.{List, [], ◌∷◌, ◌++◌, length, drop, filter, flat_map}
-use Rattle.std.specs.Prelude.{◌≢◌}
-use Rattle.std.specs.List.{range_with_len}
-use Rattle.std.proofs.lemmas.Bool.{cases_lt}
-use Rattle.std.proofs.lemmas.Nat.{from_be_bytes-to_be_bytes_4}
-use Rattle.std.proofs.lemmas.List.Elements.{filter-append}
-use Rattle.tk_shape.specs.declared.shape.Shape.{Shape}
-use Rattle.tk_script.specs.declared.script.Script.{Script}
-use Rattle.tk_words.specs.Words.{WordBook, words_of}
-use Rattle.tk_client.specs.declared.got.Got.{Got}
-use Rattle.tk_client.specs.declared.got.Got.TheVariants.{Absent, Text}
-use Rattle.tk_client.specs.Reader.{Reader, got_in}
-use Rattle.tk_packets.specs.Packets.{PacketView}
-use Rattle.tk_report.specs.Report.{reader_before}
-use Rattle.tk_report.proofs.Offers.{flat_map-next}
-use Rattle.tk_member.specs.News.{got_packet, news_from, news_of, news}
-use Rattle.tk_meeting.specs.Laws.{tells_of, news_before}
+use Rattle.tk_meeting.proofs.Terms.{◌≡◌, ℕ, ◌≤◌, ◌<◌, List, [], ◌∷◌, length, flat_map, ◌+◌, ◌==◌, cond, ◌++◌, Bool}
+use Rattle.tk_meeting.proofs.Terms.{true, false, filter, ◌∙◌, refl, ap, sym, zero, suc, arith, append-nil, drop, ◌⊎◌}
+use Rattle.tk_meeting.proofs.Terms.{inl, inr, eq-eqb, ap₂, ne_eqb, ◌^◌, ◌≢◌, cases_lt, filter-append}
+use Rattle.tk_meeting.proofs.Terms.{from_be_bytes-to_be_bytes_4, range_with_len, Shape, WordBook, words_of, Script}
+use Rattle.tk_meeting.proofs.Terms.{Reader, got_in, Got, Absent, Text, flat_map-next, reader_before, PacketView, news}
+use Rattle.tk_meeting.proofs.Terms.{news_from, got_packet, news_of, news_before, tells_of}
 use Rattle.tk_meeting.proofs.Canonical.{serial}
 use Rattle.tk_meeting.proofs.gotten.Growing.{GrowsTo, turn-grows, first-none}
 

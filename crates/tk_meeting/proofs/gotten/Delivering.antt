@@ -1,27 +1,13 @@
 -- What a client told of a log is delivered: in a clear run each text as it was written, and each number that
 -- it told to be absent was rightly passed over.
-use Rattle.std.proofs.Common.{◌≡◌, ap, sym, ◌∙◌, ℕ, ◌<◌, List, ◌++◌, slice_get, Some}
-use Rattle.std.proofs.lemmas.Option.{slice_get_within}
-use Rattle.tk_shape.specs.Lengths.{turn_count}
-use Rattle.tk_script.specs.declared.script.Script.{Script}
-use Rattle.tk_words.specs.Words.{WordBook, IsBook, words_of, opened}
+use Rattle.tk_meeting.proofs.Terms.{◌≡◌, ℕ, ◌<◌, List, ◌++◌, Some, ◌∙◌, ap, sym, slice_get, slice_get_within}
+use Rattle.tk_meeting.proofs.Terms.{turn_count, WordBook, words_of, IsBook, opened, contains_from_in, records, text_in}
+use Rattle.tk_meeting.proofs.Terms.{retained, epoch_at, Script, Got, Absent, Text, retained-own, record-gives}
+use Rattle.tk_meeting.proofs.Terms.{first_some-gives, before-own, get-front, honest-passing_over, entries, got_of}
+use Rattle.tk_meeting.proofs.Terms.{lookup, read_over, met, IsSerial, MeetingsAreSerial, HasToldOf, Meeting}
 use Rattle.tk_words.specs.Opening.{IsNumber}
 use Rattle.tk_words.specs.OpeningLaws.{opens_sealed}
-use Rattle.tk_frames.specs.Order.{records}
-use Rattle.tk_frames.specs.Slots.{text_in}
-use Rattle.tk_frames.proofs.Offers.{contains_from_in}
-use Rattle.tk_table.specs.Table.{retained}
-use Rattle.tk_client.specs.declared.got.Got.{Got}
-use Rattle.tk_client.specs.declared.got.Got.TheVariants.{Absent, Text}
-use Rattle.tk_report.specs.Entries.{entries}
-use Rattle.tk_report.specs.Report.{lookup, read_over, got_of}
 use Rattle.tk_report.specs.Delivered.{IsClear}
-use Rattle.tk_report.proofs.Offers.{retained-own, record-gives, first_some-gives, before-own, get-front}
-use Rattle.tk_report.proofs.Offers.{honest-passing_over}
-use Rattle.tk_schedule.specs.Schedule.{epoch_at}
-use Rattle.tk_meeting.specs.Meeting.{Meeting}
-use Rattle.tk_meeting.specs.Events.{met}
-use Rattle.tk_meeting.specs.Laws.{HasToldOf, IsSerial, MeetingsAreSerial}
 use Rattle.tk_meeting.specs.Delivery.{IsAsWritten, HasDelivered, MeetingsDeliver}
 use Rattle.tk_meeting.proofs.Canonical.{serial}
 use Rattle.tk_meeting.proofs.gotten.Finding.{WasFound, texts-found}

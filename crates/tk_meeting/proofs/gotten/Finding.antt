@@ -1,23 +1,14 @@
 -- Each text that a log gave to a reader was found in some turn.
-use Rattle.std.proofs.Common.{◌≡◌, refl, ap, ap₂, sym, ◌∙◌, subst, arith, inl, inr, append_assoc, eqb-true}
-use Rattle.std.proofs.Common.{ℕ, zero, suc, ◌+◌, ◌-◌, ◌<◌, ◌==◌, true, false, cond}
-use Rattle.std.proofs.Common.{List, [], ◌∷◌, ◌++◌, map, filter, replicate, slice_get}
-use Rattle.std.proofs.Common.{slice_index_or, slice_set, Option, Some, None}
-use Rattle.std.specs.List.{AllByRecursion}
-use Rattle.std.proofs.lemmas.Bool.{cases_lt}
-use Rattle.tk_shape.specs.Lengths.{turn_count}
-use Rattle.tk_schedule.specs.declared.history.History.{History}
-use Rattle.tk_schedule.specs.Schedule.{epoch_at}
-use Rattle.tk_script.specs.declared.script.Script.{Script}
-use Rattle.tk_words.specs.Words.{BookWords}
-use Rattle.tk_client.specs.declared.got.Got.{Got}
-use Rattle.tk_client.specs.declared.got.Got.TheVariants.{Absent, Text}
-use Rattle.tk_client.specs.declared.target.Target.{Target}
-use Rattle.tk_client.specs.Reader.{Follow, Reader, next_of, new_follow, untried, at_epoch, follow_at}
-use Rattle.tk_client.specs.Reader.{follow_after, after_read, target, first_got, got_in}
-use Rattle.tk_report.specs.Report.{lookup, follows_of, read_over, target_for, target_at, answer_for, reader_before}
+use Rattle.tk_meeting.proofs.Terms.{◌≡◌, ℕ, ◌<◌, List, [], ◌∷◌, map, ◌+◌, ◌==◌, cond, ◌++◌, ◌-◌, true, false, replicate}
+use Rattle.tk_meeting.proofs.Terms.{filter, Option, Some, None, ◌∙◌, refl, ap, sym, zero, suc, arith, subst, eqb-true}
+use Rattle.tk_meeting.proofs.Terms.{inl, inr, append_assoc, ap₂, slice_get, slice_index_or, slice_set, cases_lt}
+use Rattle.tk_meeting.proofs.Terms.{AllByRecursion, turn_count, BookWords, epoch_at, History, Script, Reader, got_in}
+use Rattle.tk_meeting.proofs.Terms.{Follow, next_of, new_follow, untried, at_epoch, follow_at, follow_after, after_read}
+use Rattle.tk_meeting.proofs.Terms.{target, first_got, Got, Absent, Text, Target, get-front, target-is, shown_over}
+use Rattle.tk_meeting.proofs.Terms.{get-behind, absent_then, reader_before, target_at, lookup, read_over, follows_of}
+use Rattle.tk_meeting.proofs.Terms.{target_for, answer_for}
 use Rattle.tk_report.specs.PassingOver.{Reads}
-use Rattle.tk_report.proofs.Offers.{target-is, shown_over, get-front, get-behind, absent_then, settled}
+use Rattle.tk_report.proofs.Offers.{settled}
 
 -- number s of a log is one of the run, and gave a text in one of the first n turns
 pub record WasFound (S : Script) (w : BookWords) (H : History) (c n log s : ℕ) (text : List ℕ)

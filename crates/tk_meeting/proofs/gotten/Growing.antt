@@ -1,21 +1,10 @@
 -- What a log gave to a reader only grows, at its end, with each turn.
-use Rattle.std.proofs.Common.{◌≡◌, refl, ap, sym, ◌∙◌, subst, arith, append-nil, append_assoc}
-use Rattle.std.proofs.Common.{ℕ, zero, suc, ◌+◌, ◌-◌, ◌≤◌, ◌==◌, true, false, cond}
-use Rattle.std.proofs.Common.{List, [], ◌∷◌, ◌++◌, map, filter, replicate, Option, Some, None}
-use Rattle.std.specs.Prelude.{slice_set}
-use Rattle.tk_shape.specs.declared.shape.Shape.{Shape}
-use Rattle.tk_shape.specs.Lengths.{turn_count}
-use Rattle.tk_schedule.specs.declared.history.History.{History}
-use Rattle.tk_schedule.specs.Schedule.{epoch_at}
-use Rattle.tk_script.specs.declared.script.Script.{Script}
-use Rattle.tk_words.specs.Words.{BookWords}
-use Rattle.tk_client.specs.declared.got.Got.{Got}
-use Rattle.tk_client.specs.declared.got.Got.TheVariants.{Absent, Text}
-use Rattle.tk_client.specs.declared.target.Target.{Target}
-use Rattle.tk_client.specs.Reader.{Follow, Reader, new_follow, untried, at_epoch, follow_in, follow_after}
-use Rattle.tk_client.specs.Reader.{after_read, first_got, got_in}
-use Rattle.tk_report.specs.Report.{follows_of, target_for, answer_for, reader_before, got_of}
-use Rattle.tk_report.proofs.Offers.{after-log}
+use Rattle.tk_meeting.proofs.Terms.{◌≡◌, ℕ, ◌≤◌, List, [], ◌∷◌, map, ◌+◌, ◌==◌, cond, ◌++◌, ◌-◌, true, false, replicate}
+use Rattle.tk_meeting.proofs.Terms.{filter, Option, Some, None, ◌∙◌, refl, ap, sym, zero, suc, arith, subst, append-nil}
+use Rattle.tk_meeting.proofs.Terms.{append_assoc, slice_set, turn_count, Shape, BookWords, epoch_at, History, Script}
+use Rattle.tk_meeting.proofs.Terms.{Reader, got_in, Follow, new_follow, untried, at_epoch, follow_after, after_read}
+use Rattle.tk_meeting.proofs.Terms.{first_got, follow_in, Got, Absent, Text, Target, after-log, reader_before, got_of}
+use Rattle.tk_meeting.proofs.Terms.{follows_of, target_for, answer_for}
 
 -- what a log gave, and later that and more
 pub record GrowsTo (old new : List Got) : Type 0 where

@@ -1,17 +1,9 @@
 -- If a client told its host what the first turns give, it told of each log a front of what the log gives to
 -- it in the whole run; and if it told what all turns give, all of that.
-use Rattle.std.proofs.Common.{◌≡◌, refl, ap, ◌∙◌, ℕ, ◌<◌, ◌≤◌, Bool, true, false, List, [], ◌∷◌, filter}
-use Rattle.std.specs.Prelude.{◌&&◌, ◌==◌}
-use Rattle.tk_shape.specs.Lengths.{turn_count}
-use Rattle.tk_script.specs.declared.script.Script.{Script}
-use Rattle.tk_words.specs.Words.{WordBook, words_of}
-use Rattle.tk_frames.specs.Fields.{number_at}
-use Rattle.tk_client.specs.Reader.{got_in}
-use Rattle.tk_packets.specs.Packets.{PacketView}
-use Rattle.tk_report.specs.Report.{reader_before, got_of}
-use Rattle.tk_member.specs.News.{news_from}
-use Rattle.tk_meeting.specs.Meeting.{Meeting}
-use Rattle.tk_meeting.specs.Laws.{tells_read, tells_of, news_before, HasToldOf}
+use Rattle.tk_meeting.proofs.Terms.{◌≡◌, ℕ, ◌≤◌, ◌<◌, List, [], ◌∷◌, ◌==◌, Bool, true, false, filter, ◌∙◌, refl, ap}
+use Rattle.tk_meeting.proofs.Terms.{◌&&◌, turn_count, WordBook, words_of, number_at, Script, got_in, reader_before}
+use Rattle.tk_meeting.proofs.Terms.{got_of, PacketView, news_from, tells_read, news_before, tells_of, HasToldOf}
+use Rattle.tk_meeting.proofs.Terms.{Meeting}
 use Rattle.tk_meeting.proofs.Canonical.{serial}
 use Rattle.tk_meeting.proofs.gotten.Growing.{readers-grow}
 use Rattle.tk_meeting.proofs.gotten.ByLog.{told-logs}

@@ -1,19 +1,9 @@
 -- Two groups apart that are at one course look alike to each server but the hidden one.
-use Rattle.std.proofs.Common.{◌≡◌, ◌≢◌, ℕ, ◌+◌, ◌≤◌, ◌<◌, List, [], ◌∷◌, ◌++◌, map, drop, refl, ap, sym, ◌∙◌, subst}
-use Rattle.std.proofs.Common.{arith}
-use Rattle.tk_shape.specs.declared.shape.Shape.{Shape}
-use Rattle.tk_shape.specs.Lengths.{turn_count}
-use Rattle.tk_schedule.specs.Schedule.{serial_history}
-use Rattle.tk_script.specs.declared.script.Script.{Script}
-use Rattle.tk_words.specs.Words.{WordBook, IsBook, drawn, shows_vectors}
-use Rattle.tk_report.specs.Exchange.{read_at}
-use Rattle.tk_privacy.specs.Privacy.{mirror}
-use Rattle.tk_privacy.proofs.Offers.{length-mirror}
-use Rattle.tk_meeting.specs.Meeting.{Meeting}
-use Rattle.tk_meeting.specs.Events.{Event, met}
-use Rattle.tk_meeting.specs.OwnBooks.{HaveKeys}
-use Rattle.tk_meeting.specs.Laws.{HasWhatWasSaid}
-use Rattle.tk_meeting.specs.Hidden.{outline, SeesAlike, IsSizedAlike, ActsAlike, LooksAlike, MeetingsLookAlike}
+use Rattle.tk_meeting.proofs.Terms.{◌≡◌, ℕ, ◌≤◌, ◌<◌, List, [], ◌∷◌, map, ◌+◌, ◌++◌, ◌∙◌, refl, ap, sym, arith, subst}
+use Rattle.tk_meeting.proofs.Terms.{drop, ◌≢◌, turn_count, Shape, WordBook, IsBook, drawn, shows_vectors}
+use Rattle.tk_meeting.proofs.Terms.{serial_history, Script, read_at, length-mirror, mirror, Event, met, LooksAlike}
+use Rattle.tk_meeting.proofs.Terms.{outline, SeesAlike, IsSizedAlike, ActsAlike, MeetingsLookAlike, HasWhatWasSaid, Meeting}
+use Rattle.tk_meeting.proofs.Terms.{HaveKeys}
 use Rattle.tk_meeting.proofs.Canonical.{stream}
 use Rattle.tk_meeting.proofs.Course.{Course, newest_by, came_of, course_of}
 use Rattle.tk_meeting.proofs.Pace.{Kind, Wrote, Asked}

@@ -1,32 +1,14 @@
 -- The kinds and lengths of frames, which the shape gives.
-use Rattle.std.proofs.Common.{◌≡◌, ℕ, ◌+◌, ◌≤◌, ◌<◌, Bool, true, false, cond, List}
-use Rattle.std.proofs.Common.{length, refl, ap, sym, ◌∙◌, subst, arith, length-append, []}
-use Rattle.std.specs.Prelude.{slice_index, ◌==◌, nat_lt, ◌&&◌}
-use Rattle.std.proofs.lemmas.List.FromFn.{length-map-range_with_len}
-use Rattle.tk_shape.specs.declared.shape.Shape.{Shape}
-use Rattle.tk_shape.specs.Lengths.{turn_count, width, reply_len, write_len}
+use Rattle.tk_meeting.proofs.Terms.{◌≡◌, ℕ, ◌≤◌, ◌<◌, List, [], length, ◌+◌, ◌==◌, cond, Bool, true, false, ◌∙◌, refl}
+use Rattle.tk_meeting.proofs.Terms.{ap, sym, arith, subst, length-append, length-map-range_with_len, nat_lt, ◌&&◌}
+use Rattle.tk_meeting.proofs.Terms.{slice_index, chosen_sum, turn_count, width, reply_len, write_len, Shape}
+use Rattle.tk_meeting.proofs.Terms.{length-chosen_sum, WordBook, IsBook, shows_vectors, length-write_frame}
+use Rattle.tk_meeting.proofs.Terms.{length-read_frame, read_len_of, before, write_frame, read_frame, be32, read_kind}
+use Rattle.tk_meeting.proofs.Terms.{Placed, ReadFrame, Plain, Seeded, Shown, layout, blocks_of, serial-IsLegal, Script}
+use Rattle.tk_meeting.proofs.Terms.{frame_with, seeds_told, epochs-ordered, epochs-storable, blocks-whole, read_at}
+use Rattle.tk_meeting.proofs.Terms.{marks_len, mark_bytes, mark_byte, reply_told, epoch_told, epoch_bytes, outline}
 use Rattle.tk_kernel.specs.Pieces.{AllSized}
-use Rattle.tk_kernel.specs.Chosen.{chosen_sum}
-use Rattle.tk_bits.proofs.Offers.{length-chosen_sum}
-use Rattle.tk_schedule.proofs.Offers.{serial-IsLegal}
-use Rattle.tk_script.specs.declared.script.Script.{Script}
-use Rattle.tk_words.specs.Words.{WordBook, IsBook, shows_vectors}
-use Rattle.tk_frames.specs.declared.read_frame.ReadFrame.{ReadFrame}
-use Rattle.tk_frames.specs.declared.seeds.Seeds.TheVariants.{Plain, Seeded, Shown}
-use Rattle.tk_frames.specs.Order.{before}
-use Rattle.tk_frames.specs.Faults.{read_len_of}
-use Rattle.tk_frames.specs.declared.entry.Placed.{Placed}
-use Rattle.tk_frames.specs.Spelling.{be32, read_kind, read_frame, write_frame}
-use Rattle.tk_frames.proofs.Offers.{length-write_frame, length-read_frame}
-use Rattle.tk_table.specs.Table.{layout, blocks_of}
-use Rattle.tk_client.specs.Asked.{seeds_told, frame_with}
-use Rattle.tk_report.specs.Exchange.{read_at}
-use Rattle.tk_report.proofs.Offers.{epochs-ordered, epochs-storable, blocks-whole}
 use Rattle.tk_replica.specs.Epochs.{filter_of}
-use Rattle.tk_packets.specs.Frames.{marks_len}
-use Rattle.tk_packets.specs.Marks.{mark_byte, mark_bytes}
-use Rattle.tk_serve.specs.Told.{reply_told, epoch_told, epoch_bytes}
-use Rattle.tk_meeting.specs.Hidden.{outline}
 use Rattle.tk_meeting.proofs.servers.InRange.{read-in_range, write-in_range}
 use Rattle.tk_meeting.proofs.Canonical.{serial, whole, read_from, write_in}
 

@@ -1,11 +1,6 @@
 -- Groups whose courses are the same keep pace.
-use Rattle.std.proofs.Common.{◌≡◌, inl, inr, refl, ap, sym, ◌∙◌, subst, ℕ, suc, ◌+◌, ◌-◌, ◌≤◌, ◌<◌, List, [], ◌∷◌, length}
-use Rattle.std.proofs.lemmas.List.{length-drop}
-use Rattle.tk_shape.specs.declared.shape.Shape.{Shape}
-use Rattle.tk_script.specs.declared.script.Script.{Script}
-use Rattle.tk_words.specs.Words.{WordBook}
-use Rattle.tk_meeting.specs.Meeting.{Meeting}
-use Rattle.tk_meeting.specs.Events.{met}
+use Rattle.tk_meeting.proofs.Terms.{◌≡◌, ℕ, ◌≤◌, ◌<◌, List, [], ◌∷◌, length, ◌+◌, ◌-◌, ◌∙◌, refl, ap, sym, suc, subst}
+use Rattle.tk_meeting.proofs.Terms.{inl, inr, length-drop, Shape, WordBook, Script, met, Meeting}
 use Rattle.tk_meeting.specs.Pacing.{HaveOneForm, MeetingsKeepPace}
 use Rattle.tk_meeting.proofs.Canonical.{stream}
 use Rattle.tk_meeting.proofs.Pace.{Kind, Wrote, Asked}

@@ -1,18 +1,10 @@
 -- Two scripts of which the second has the book over the mirrored tape: each client writes the same in each
 -- turn, and asks the same of each server but the hidden one.
-use Rattle.std.proofs.Common.{◌≡◌, ◌≢◌, ℕ, ◌≤◌, ◌<◌, List, length, ap, sym, ◌∙◌, subst}
-use Rattle.tk_shape.specs.declared.shape.Shape.{Shape}
-use Rattle.tk_shape.specs.Lengths.{turn_count, tape_len}
-use Rattle.tk_schedule.specs.declared.history.History.{History}
-use Rattle.tk_schedule.specs.Schedule.{epoch_at}
-use Rattle.tk_script.specs.declared.script.Script.{Script}
-use Rattle.tk_words.specs.Words.{drawn, words_of, cell_write, write_cell}
-use Rattle.tk_client.specs.Writes.{dummy}
-use Rattle.tk_report.specs.Entries.{write_at}
-use Rattle.tk_report.specs.Exchange.{read_at}
-use Rattle.tk_privacy.specs.Privacy.{shown_read, normal, mirror, pairs_read}
+use Rattle.tk_meeting.proofs.Terms.{◌≡◌, ℕ, ◌≤◌, ◌<◌, List, length, ◌∙◌, ap, sym, subst, ◌≢◌, turn_count, tape_len}
+use Rattle.tk_meeting.proofs.Terms.{Shape, words_of, drawn, cell_write, write_cell, epoch_at, History, Script, dummy}
+use Rattle.tk_meeting.proofs.Terms.{write_at, read_at, length-mirror, same-normal, write-seen, read-seen, mirror}
+use Rattle.tk_meeting.proofs.Terms.{shown_read, normal, pairs_read}
 use Rattle.tk_privacy.specs.Laws.{AreMirrored}
-use Rattle.tk_privacy.proofs.Offers.{length-mirror, same-normal, write-seen, read-seen}
 
 -- ---- one script
 

@@ -1,16 +1,8 @@
 -- The kinds and lengths of frames on a link, where two groups have one shape and reads of the same kinds.
-use Rattle.std.proofs.Common.{◌≡◌, ℕ, zero, suc, ◌+◌, ◌≤◌, ◌<◌, min, List, [], ◌∷◌, ◌++◌, map, drop, flat_map}
-use Rattle.std.proofs.Common.{Bool, true, false, cond, refl, ap, ap₂, sym, ◌∙◌, arith}
-use Rattle.std.specs.Prelude.{nat_le, ◌&&◌}
-use Rattle.std.specs.List.{range_with_len}
-use Rattle.std.proofs.lemmas.List.{map-append}
-use Rattle.tk_shape.specs.declared.shape.Shape.{Shape}
-use Rattle.tk_shape.specs.Lengths.{turn_count}
-use Rattle.tk_script.specs.declared.script.Script.{Script}
-use Rattle.tk_words.specs.Words.{WordBook, IsBook}
-use Rattle.tk_schedule.specs.Schedule.{is_closing, phase_of}
-use Rattle.tk_serve.specs.Told.{closing_told, turns_read, epoch_bytes}
-use Rattle.tk_meeting.specs.Hidden.{outline}
+use Rattle.tk_meeting.proofs.Terms.{◌≡◌, ℕ, ◌≤◌, ◌<◌, min, List, [], ◌∷◌, map, flat_map, ◌+◌, cond, ◌++◌, Bool, true}
+use Rattle.tk_meeting.proofs.Terms.{false, ◌∙◌, refl, ap, sym, zero, suc, arith, drop, ap₂, map-append, range_with_len}
+use Rattle.tk_meeting.proofs.Terms.{◌&&◌, nat_le, turn_count, Shape, WordBook, IsBook, is_closing, phase_of, Script}
+use Rattle.tk_meeting.proofs.Terms.{turns_read, epoch_bytes, closing_told, outline}
 use Rattle.tk_meeting.proofs.Canonical.{read_from, whole, told_in_turn, stream}
 use Rattle.tk_meeting.proofs.Pace.{Kind, Wrote, Asked}
 use Rattle.tk_meeting.proofs.Standing.{frames_of}

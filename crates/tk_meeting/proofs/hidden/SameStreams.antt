@@ -1,20 +1,8 @@
 -- What a server has and tells of two scripts that have each client write and ask it the same.
-use Rattle.std.proofs.Common.{◌≡◌, ℕ, ◌+◌, ◌≤◌, ◌<◌, min, List, [], ◌∷◌, map, flat_map, refl, ap, ap₂, ◌∙◌, arith}
-use Rattle.std.specs.List.{range_with_len}
-use Rattle.tk_shape.specs.declared.shape.Shape.{Shape}
-use Rattle.tk_shape.specs.Lengths.{turn_count}
-use Rattle.tk_schedule.specs.Schedule.{serial_history}
-use Rattle.tk_schedule.proofs.Offers.{serial-IsLegal}
-use Rattle.tk_script.specs.declared.script.Script.{Script}
-use Rattle.tk_words.specs.Words.{WordBook, words_of}
-use Rattle.tk_frames.specs.declared.write_frame.WriteFrame.{WriteFrame}
-use Rattle.tk_frames.specs.declared.read_frame.ReadFrame.{ReadFrame}
-use Rattle.tk_frames.specs.declared.entry.Placed.{Placed}
-use Rattle.tk_frames.specs.Spelling.{write_frame, read_frame}
-use Rattle.tk_report.specs.Entries.{write_at, entries_before}
-use Rattle.tk_report.proofs.Offers.{flat_map-agree}
-use Rattle.tk_serve.specs.Told.{told_of, turns_read}
-use Rattle.tk_privacy.proofs.Offers.{map-range_same}
+use Rattle.tk_meeting.proofs.Terms.{◌≡◌, ℕ, ◌≤◌, ◌<◌, min, List, [], ◌∷◌, map, flat_map, ◌+◌, ◌∙◌, refl, ap, arith, ap₂}
+use Rattle.tk_meeting.proofs.Terms.{range_with_len, turn_count, Shape, WordBook, words_of, write_frame, read_frame}
+use Rattle.tk_meeting.proofs.Terms.{Placed, ReadFrame, WriteFrame, serial-IsLegal, serial_history, Script}
+use Rattle.tk_meeting.proofs.Terms.{flat_map-agree, write_at, entries_before, map-range_same, told_of, turns_read}
 use Rattle.tk_meeting.proofs.Canonical.{write_in, read_from, whole, seat_with, told_in_turn, stream}
 use Rattle.tk_meeting.proofs.Pace.{Kind, Wrote, Asked}
 use Rattle.tk_meeting.proofs.Standing.{frames_of}

@@ -1,8 +1,6 @@
 -- What is said decides nothing of the course of a group.
-use Rattle.std.proofs.Common.{◌≡◌, List, [], ◌∷◌, refl, ap, sym, ◌∙◌}
-use Rattle.tk_shape.specs.declared.shape.Shape.{Shape}
-use Rattle.tk_meeting.specs.Events.{Event, Said, Ticked, WentAhead, Greeted, Up, Down}
-use Rattle.tk_meeting.specs.Hidden.{unsaid}
+use Rattle.tk_meeting.proofs.Terms.{◌≡◌, List, [], ◌∷◌, ◌∙◌, refl, ap, sym, Shape, Event, Said, Ticked, WentAhead}
+use Rattle.tk_meeting.proofs.Terms.{Greeted, Up, Down, unsaid}
 use Rattle.tk_meeting.proofs.Course.{Course, moves, moved, first_course, course_of}
 
 moved-unsaid : (shape : Shape) (q : Course) (events : List Event) →

@@ -1,28 +1,13 @@
 -- Two groups in which the same is done but for what is said show the same to all servers but the hidden one.
-use Rattle.std.proofs.Common.{◌≡◌, refl, sym, ap, ap₂, ◌∙◌, subst, arith, inl, inr, ℕ, suc, ◌≤◌, ◌<◌, Bool, true}
-use Rattle.std.proofs.Common.{false, cond, List, [], ◌∷◌, ◌++◌, map, length, drop, Option, Some, None}
-use Rattle.std.specs.Prelude.{◌==◌, slice_index_or, Result, Ok, Err}
-use Rattle.std.proofs.lemmas.Bool.{ltb-true, true≢false}
-use Rattle.std.proofs.lemmas.List.{append_assoc}
-use Rattle.tk_shape.specs.declared.shape.Shape.{Shape}
-use Rattle.tk_shape.specs.Lengths.{turn_count}
-use Rattle.tk_script.specs.declared.script.Script.{Script}
-use Rattle.tk_words.specs.Words.{WordBook}
-use Rattle.tk_packets.specs.Packets.{PacketView}
-use Rattle.tk_client.specs.Client.{new_client}
-use Rattle.tk_client.specs.declared.say_error.SayError.{SayError}
-use Rattle.tk_report.specs.Queues.{writing_before}
-use Rattle.tk_privacy.specs.Privacy.{Pairs}
-use Rattle.tk_member.specs.declared.fault.Fault.{Fault}
-use Rattle.tk_member.specs.Members.{MemberState, new_member}
-use Rattle.tk_member.specs.Acting.{ActedMember, behind, acts}
-use Rattle.tk_meeting.specs.Meeting.{Meeting, Saying, opening, changed, for_peer, frames_for}
-use Rattle.tk_meeting.specs.Events.{say_fault, unless_ended, is_client}
-use Rattle.tk_meeting.specs.Laws.{HasWhatWasSaid}
-use Rattle.tk_meeting.specs.Shown.{Stand, stand}
-use Rattle.tk_meeting.specs.Lying.{Deed, Says, Ticks, GoesAhead, Claims, Sends, Answers, doer, deed_shown, Hidden}
-use Rattle.tk_meeting.specs.Lying.{member_does, said_more, said_after, went_on, does, after_deeds, lied}
-use Rattle.tk_meeting.specs.Lying.{DoAlike, StandAlike, HoldsBlocks}
+use Rattle.tk_meeting.proofs.Terms.{◌≡◌, ℕ, ◌≤◌, ◌<◌, List, [], ◌∷◌, length, map, ◌==◌, cond, ◌++◌, Bool, true, false}
+use Rattle.tk_meeting.proofs.Terms.{Option, Some, None, Result, Ok, ◌∙◌, refl, ap, sym, suc, arith, subst, drop}
+use Rattle.tk_meeting.proofs.Terms.{ltb-true, inl, inr, append_assoc, ap₂, slice_index_or, Err, true≢false, turn_count}
+use Rattle.tk_meeting.proofs.Terms.{Shape, WordBook, Script, new_client, SayError, writing_before, Pairs, PacketView}
+use Rattle.tk_meeting.proofs.Terms.{ActedMember, acts, behind, MemberState, new_member, Fault, is_client, unless_ended}
+use Rattle.tk_meeting.proofs.Terms.{say_fault, HasWhatWasSaid, Deed, Ticks, Claims, Sends, Answers, Hidden, does, after_deeds}
+use Rattle.tk_meeting.proofs.Terms.{lied, Says, GoesAhead, doer, deed_shown, member_does, said_more, said_after}
+use Rattle.tk_meeting.proofs.Terms.{went_on, DoAlike, StandAlike, HoldsBlocks, Saying, changed, for_peer, frames_for}
+use Rattle.tk_meeting.proofs.Terms.{Meeting, opening, stand, Stand}
 use Rattle.tk_meeting.proofs.lying.Books.{IsOf, ShowAlike, LiedAlike}
 use Rattle.tk_meeting.proofs.Canonical.{with_sayings}
 use Rattle.tk_meeting.proofs.telling.Foreseeing.{ForeseesOf, Foresees}

@@ -1,21 +1,8 @@
 -- Each read of a run is for the buckets that are noted for it.
-use Rattle.std.proofs.Common.{◌≡◌, refl, sym, ap, ◌∙◌, subst, arith, inl, inr, ℕ, ◌<◌, Bool, cond}
-use Rattle.std.proofs.Common.{List, [], ◌∷◌, ◌++◌, Option, Some, None}
-use Rattle.std.specs.Prelude.{◌⊎◌, ◌==◌, Result, Ok, Err}
-use Rattle.std.proofs.lemmas.Bool.{eqb-true, eq-eqb, ne_eqb}
-use Rattle.std.proofs.lemmas.List.{append_assoc}
-use Rattle.tk_shape.specs.declared.shape.Shape.{Shape}
-use Rattle.tk_script.specs.declared.script.Script.{Script}
-use Rattle.tk_words.specs.Words.{WordBook}
-use Rattle.tk_client.specs.declared.open_read.OpenRead.{OpenRead}
-use Rattle.tk_privacy.specs.Privacy.{Pairs}
-use Rattle.tk_member.specs.declared.fault.Fault.{Fault}
-use Rattle.tk_member.specs.Members.{MemberState}
-use Rattle.tk_member.specs.Acting.{ActedMember}
-use Rattle.tk_meeting.specs.Meeting.{opening}
-use Rattle.tk_meeting.specs.Events.{is_client}
-use Rattle.tk_meeting.specs.Lying.{Deed, doer, Hidden, pair_open}
-use Rattle.tk_meeting.specs.Matched.{pair_noted, no_pairs, pairs_of}
+use Rattle.tk_meeting.proofs.Terms.{◌≡◌, ℕ, ◌<◌, List, [], ◌∷◌, ◌==◌, cond, ◌++◌, Bool, Option, Some, None, Result, Ok}
+use Rattle.tk_meeting.proofs.Terms.{◌∙◌, refl, ap, sym, arith, subst, eqb-true, ◌⊎◌, inl, inr, eq-eqb, append_assoc}
+use Rattle.tk_meeting.proofs.Terms.{ne_eqb, Err, Shape, WordBook, Script, OpenRead, Pairs, ActedMember, MemberState, Fault}
+use Rattle.tk_meeting.proofs.Terms.{is_client, Deed, Hidden, doer, pair_open, pair_noted, no_pairs, pairs_of, opening}
 use Rattle.tk_meeting.proofs.lying.Outcomes.{table_of}
 use Rattle.tk_meeting.proofs.lying.Books.{IsOf, AreAsked}
 use Rattle.tk_meeting.proofs.courses.Picks.{at-place, pick}

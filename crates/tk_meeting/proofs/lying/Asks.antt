@@ -1,29 +1,11 @@
 -- Members that stand alike ask the same of each server to which their reads show the same.
-use Rattle.std.proofs.Common.{◌≡◌, ◌≢◌, refl, sym, ap, ◌∙◌, subst, arith, ℕ, ◌≤◌, ◌<◌, Bool, true, false, cond}
-use Rattle.std.proofs.Common.{List, [], ◌∷◌, Option}
-use Rattle.std.specs.Prelude.{nat_lt, nat_le, ◌&&◌}
-use Rattle.std.specs.Option.{is_none}
-use Rattle.std.specs.List.{range_with_len}
-use Rattle.std.proofs.lemmas.Bool.{and_parts, ltb-true}
-use Rattle.tk_shape.specs.declared.shape.Shape.{Shape}
-use Rattle.tk_shape.specs.Lengths.{turn_count}
-use Rattle.tk_schedule.specs.Schedule.{phases_over}
-use Rattle.tk_script.specs.declared.script.Script.{Script}
-use Rattle.tk_words.specs.Words.{WordBook, words_of}
-use Rattle.tk_frames.specs.declared.read_frame.ReadFrame.{ReadFrame}
-use Rattle.tk_frames.specs.Spelling.{read_frame}
-use Rattle.tk_client.specs.declared.target.Target.{Target}
-use Rattle.tk_client.specs.Asked.{pair_for, frame_for}
-use Rattle.tk_client.specs.Client.{target_over}
-use Rattle.tk_privacy.specs.Privacy.{Pairs}
-use Rattle.tk_member.specs.Epochs.{filter_of, marks_at}
-use Rattle.tk_member.specs.Members.{MemberState, known_to}
-use Rattle.tk_member.specs.Acting.{packets_from, may_ask, asks, asks_if_due, unmoved, epoch_due}
-use Rattle.tk_report.proofs.Offers.{map-map}
-use Rattle.tk_meeting.specs.Meeting.{frames_for}
+use Rattle.tk_meeting.proofs.Terms.{◌≡◌, ℕ, ◌≤◌, ◌<◌, List, [], ◌∷◌, cond, Bool, true, false, Option, ◌∙◌, refl, ap}
+use Rattle.tk_meeting.proofs.Terms.{sym, arith, subst, ltb-true, ◌≢◌, and_parts, range_with_len, is_none, nat_lt, ◌&&◌}
+use Rattle.tk_meeting.proofs.Terms.{nat_le, turn_count, Shape, WordBook, words_of, read_frame, ReadFrame, phases_over}
+use Rattle.tk_meeting.proofs.Terms.{Script, pair_for, frame_for, target_over, Target, map-map, Pairs, packets_from}
+use Rattle.tk_meeting.proofs.Terms.{may_ask, asks, asks_if_due, unmoved, epoch_due, filter_of, marks_at, MemberState}
+use Rattle.tk_meeting.proofs.Terms.{known_to, Hidden, frames_for, stand, Stand}
 use Rattle.tk_meeting.proofs.members.Packets.{own-frame}
-use Rattle.tk_meeting.specs.Shown.{Stand, stand}
-use Rattle.tk_meeting.specs.Lying.{Hidden}
 use Rattle.tk_meeting.proofs.lying.Books.{IsOf, ShowAlike}
 use Rattle.tk_meeting.proofs.shown.Steps.{asks_due, none-shown}
 

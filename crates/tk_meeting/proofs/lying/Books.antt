@@ -1,15 +1,7 @@
 -- Books over which two groups show the same, and buckets that are read.
-use Rattle.std.specs.Prelude.{◌≡◌, ◌≢◌, ℕ, ◌≤◌, ◌<◌, List, ◌++◌, Option, Some, None}
-use Rattle.tk_shape.specs.declared.shape.Shape.{Shape}
-use Rattle.tk_shape.specs.Lengths.{turn_count}
-use Rattle.tk_script.specs.declared.script.Script.{Script}
-use Rattle.tk_words.specs.Words.{WordBook, words_of}
-use Rattle.tk_client.specs.declared.open_read.OpenRead.{OpenRead}
-use Rattle.tk_client.specs.Asked.{frame_for}
-use Rattle.tk_privacy.specs.Privacy.{Pairs}
-use Rattle.tk_report.specs.Entries.{write_at}
-use Rattle.tk_meeting.specs.Laws.{HasWhatWasSaid}
-use Rattle.tk_meeting.specs.Lying.{Deed, Hidden, HoldsBlocks, pair_open, lied, DoAlike, StandAlike}
+use Rattle.tk_meeting.proofs.Terms.{◌≡◌, ℕ, ◌≤◌, ◌<◌, List, ◌++◌, Option, Some, None, ◌≢◌, turn_count, Shape, WordBook}
+use Rattle.tk_meeting.proofs.Terms.{words_of, Script, frame_for, OpenRead, write_at, Pairs, HasWhatWasSaid, Deed, Hidden, lied}
+use Rattle.tk_meeting.proofs.Terms.{DoAlike, StandAlike, HoldsBlocks, pair_open}
 
 -- a read that is open is for these buckets
 abbrev pub IsOf : Shape → WordBook → Pairs → ℕ → Option OpenRead → Type 0

@@ -1,20 +1,10 @@
 -- The members of a group without what they sent: how they go on follows from their words and from what comes.
-use Rattle.std.proofs.Common.{◌≡◌, refl, ap, ◌∙◌, ℕ, Bool, true, false, cond, List, [], ◌∷◌, Option, Some, None}
-use Rattle.std.specs.Prelude.{Result, Ok, Err}
-use Rattle.tk_shape.specs.declared.shape.Shape.{Shape}
-use Rattle.tk_words.specs.Words.{WordBook}
-use Rattle.tk_privacy.specs.Privacy.{Pairs}
-use Rattle.tk_member.specs.declared.fault.Fault.{Fault}
-use Rattle.tk_member.specs.declared.fault.Fault.TheVariants.{Peer}
-use Rattle.tk_member.specs.declared.word.HostWord.TheVariants.{Say, Tick, Ahead, Has}
-use Rattle.tk_member.specs.Members.{MemberState}
-use Rattle.tk_member.specs.Acting.{ActedMember}
-use Rattle.tk_member.specs.Steps.{heard, served}
-use Rattle.tk_meeting.specs.Meeting.{Meeting, changed}
-use Rattle.tk_meeting.specs.Events.{unless_ended, is_client, is_server}
-use Rattle.tk_meeting.specs.Lying.{Deed, Says, Ticks, GoesAhead, Claims, Sends, Answers, doer, Hidden, answer_to}
-use Rattle.tk_meeting.specs.Lying.{member_does, went_on, does, after_deeds}
-use Rattle.tk_meeting.specs.Matched.{pair_noted, pairs_noted, pairs_from}
+use Rattle.tk_meeting.proofs.Terms.{◌≡◌, ℕ, List, [], ◌∷◌, cond, Bool, true, false, Option, Some, None, Result, Ok, ◌∙◌}
+use Rattle.tk_meeting.proofs.Terms.{refl, ap, Err, Shape, WordBook, Pairs, ActedMember, MemberState, served, heard, Fault}
+use Rattle.tk_meeting.proofs.Terms.{Peer, Say, Tick, Ahead, Has, is_client, is_server, unless_ended, Deed, Ticks}
+use Rattle.tk_meeting.proofs.Terms.{Claims, Sends, Answers, Hidden, does, after_deeds, Says, GoesAhead, doer}
+use Rattle.tk_meeting.proofs.Terms.{member_does, went_on, answer_to, pair_noted, pairs_noted, pairs_from, changed}
+use Rattle.tk_meeting.proofs.Terms.{Meeting}
 use Rattle.tk_meeting.proofs.lying.Outcomes.{table_of}
 
 -- the member that is left, or why it ended

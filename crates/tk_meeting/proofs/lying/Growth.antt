@@ -1,21 +1,12 @@
 -- What was said to members whose servers lie only grows, as it does among honest servers.
-use Rattle.std.proofs.Common.{◌≡◌, refl, subst, ℕ, List, [], ◌∷◌, ◌++◌, Option, Some, None}
-use Rattle.std.specs.Prelude.{Result, Ok, Err}
-use Rattle.tk_shape.specs.declared.shape.Shape.{Shape}
-use Rattle.tk_script.specs.declared.script.Script.{Script}
-use Rattle.tk_words.specs.Words.{WordBook}
-use Rattle.tk_client.specs.declared.say_error.SayError.{SayError}
-use Rattle.tk_member.specs.declared.fault.Fault.{Fault}
-use Rattle.tk_member.specs.Members.{MemberState}
-use Rattle.tk_member.specs.Acting.{ActedMember}
-use Rattle.tk_meeting.specs.Meeting.{Meeting, Saying, opening, member_went}
-use Rattle.tk_meeting.specs.Events.{noted, say_fault}
-use Rattle.tk_meeting.specs.Laws.{HasWhatWasSaid}
+use Rattle.tk_meeting.proofs.Terms.{◌≡◌, ℕ, List, [], ◌∷◌, ◌++◌, Option, Some, None, Result, Ok, refl, subst, Err}
+use Rattle.tk_meeting.proofs.Terms.{Shape, WordBook, Script, SayError, ActedMember, MemberState, Fault, noted, say_fault}
+use Rattle.tk_meeting.proofs.Terms.{HasWhatWasSaid, Deed, Ticks, Claims, Sends, Answers, Hidden, does, after_deeds, lied, Says}
+use Rattle.tk_meeting.proofs.Terms.{GoesAhead, doer, member_does, said_more, said_after, went_on, Saying, Meeting}
+use Rattle.tk_meeting.proofs.Terms.{member_went, opening}
 use Rattle.tk_meeting.proofs.telling.Rising.{RisesIn, goes-rises}
 use Rattle.tk_meeting.proofs.telling.Growing.{Grows, grows-none, grows-next, grows-noted, grows-went}
 use Rattle.tk_meeting.proofs.telling.Foreseeing.{Foresees, foresees-by}
-use Rattle.tk_meeting.specs.Lying.{Deed, Says, Ticks, GoesAhead, Claims, Sends, Answers, doer, Hidden}
-use Rattle.tk_meeting.specs.Lying.{member_does, said_more, said_after, went_on, does, after_deeds, lied}
 use Rattle.tk_meeting.proofs.lying.Outcomes.{does_writing, deed-readies}
 use Rattle.tk_meeting.proofs.telling.Ways.{client-has}
 

@@ -1,27 +1,12 @@
 -- Each tape of a group is matched with just one of another: the reads over it are found read by read.
-use Rattle.std.proofs.Common.{◌≡◌, refl, sym, ap, ◌∙◌, subst, arith, ℕ, ◌≤◌, ◌<◌, Bool, true, false, cond}
-use Rattle.std.proofs.Common.{List, [], ◌∷◌, length, Option, Some, None}
-use Rattle.std.specs.Prelude.{◌==◌, Result}
-use Rattle.std.proofs.lemmas.Bool.{ltb-true}
-use Rattle.tk_shape.specs.declared.shape.Shape.{Shape}
-use Rattle.tk_shape.specs.Lengths.{turn_count, vector_len, tape_len}
-use Rattle.tk_script.specs.declared.script.Script.{Script}
-use Rattle.tk_bits.specs.Shares.{shares}
-use Rattle.tk_words.specs.Words.{WordBook, BookWords, drawn, words_of, read_cell, for_each, cell_pieces, piece_seed}
-use Rattle.tk_words.specs.Words.{piece_vector, fresh_seeds, fresh_vectors}
-use Rattle.tk_frames.specs.declared.read_frame.ReadFrame.{ReadFrame}
-use Rattle.tk_frames.specs.Spelling.{reply_frame}
-use Rattle.tk_table.specs.Replies.{reply_to}
-use Rattle.tk_client.specs.declared.open_read.OpenRead.{OpenRead}
-use Rattle.tk_client.specs.Asked.{pair_for, frame_with, frame_for}
-use Rattle.tk_privacy.specs.Privacy.{Pairs, shown_read_cell, normal_for, regained, unnormal_for}
-use Rattle.tk_privacy.proofs.Offers as privacy
-use Rattle.tk_member.specs.declared.fault.Fault.{Fault}
-use Rattle.tk_member.specs.Members.{MemberState}
-use Rattle.tk_meeting.specs.Meeting.{opening}
-use Rattle.tk_meeting.specs.Events.{is_client}
-use Rattle.tk_meeting.specs.Lying.{Deed, doer, Hidden, pair_open, frame_open, answer_to}
-use Rattle.tk_meeting.specs.Matched.{pair_noted, no_pairs, pairs_of, shown_tape, MatchedOneToOne}
+use Rattle.tk_meeting.proofs.Terms.{◌≡◌, ℕ, ◌≤◌, ◌<◌, List, [], ◌∷◌, length, ◌==◌, cond, Bool, true, false, Option}
+use Rattle.tk_meeting.proofs.Terms.{Some, None, Result, ◌∙◌, refl, ap, sym, arith, subst, ltb-true, turn_count}
+use Rattle.tk_meeting.proofs.Terms.{tape_len, vector_len, Shape, shares, WordBook, words_of, drawn, BookWords}
+use Rattle.tk_meeting.proofs.Terms.{read_cell, for_each, cell_pieces, piece_seed, piece_vector, fresh_seeds}
+use Rattle.tk_meeting.proofs.Terms.{fresh_vectors, reply_frame, ReadFrame, reply_to, Script, frame_with, pair_for}
+use Rattle.tk_meeting.proofs.Terms.{frame_for, OpenRead, Pairs, shown_read_cell, normal_for, regained, unnormal_for}
+use Rattle.tk_meeting.proofs.Terms.{MemberState, Fault, is_client, Deed, Hidden, doer, pair_open, answer_to, frame_open}
+use Rattle.tk_meeting.proofs.Terms.{pair_noted, no_pairs, pairs_of, shown_tape, MatchedOneToOne, opening}
 use Rattle.tk_meeting.proofs.lying.Outcomes.{table_of}
 use Rattle.tk_meeting.proofs.lying.Books.{IsOf}
 use Rattle.tk_meeting.proofs.lying.Cores.{Core, core, left, does_with, own_answer, unless_core, went_core, next_core}
@@ -29,6 +14,7 @@ use Rattle.tk_meeting.proofs.lying.Cores.{core_step, core_noted, core_pairs, pai
 use Rattle.tk_meeting.proofs.lying.Same.{does-same}
 use Rattle.tk_meeting.proofs.lying.Reads.{IsBelow}
 use Rattle.tk_meeting.proofs.lying.Asked.{AllInRun, opening-runs, step-moves, AreNoted, all-noted, pairs-stay}
+use Rattle.tk_privacy.proofs.Offers as privacy
 
 -- the read frame for server j of a client's read of two buckets, whose words are this read cell
 abbrev pub frame_from : Shape → List ℕ → ℕ → ℕ → ℕ → ℕ × ℕ → ℕ → ReadFrame

@@ -1,19 +1,12 @@
 -- Liars whose deeds are settled beforehand find what they look for over as many tapes of either group.
-use Rattle.std.proofs.Common.{◌≡◌, refl, ap, sym, ◌∙◌, subst, ℕ, ◌≤◌, List, ◌++◌, length}
-use Rattle.tk_shape.specs.declared.shape.Shape.{Shape}
-use Rattle.tk_shape.specs.Lengths.{tape_len}
-use Rattle.tk_script.specs.declared.script.Script.{Script}
-use Rattle.tk_words.specs.Words.{drawn}
+use Rattle.tk_meeting.proofs.Terms.{◌≡◌, ℕ, ◌≤◌, List, length, ◌++◌, ◌∙◌, refl, ap, sym, subst, tape_len, Shape, drawn}
+use Rattle.tk_meeting.proofs.Terms.{shown-as_often, AreBytes, Script, count_tapes, sight, LiarsAsOften, Deed, Hidden}
+use Rattle.tk_meeting.proofs.Terms.{lied, HoldsBlocks, pairs_of, shown_tape, AreGroups, AreMatched}
 use Rattle.tk_counts.specs.Counts.{IsUndoneBy}
-use Rattle.tk_counts.proofs.Offers.{AreBytes, shown-as_often}
-use Rattle.tk_privacy.specs.Counts.{count_tapes}
-use Rattle.tk_privacy.proofs.Offers as privacy
-use Rattle.tk_meeting.specs.Lying.{Deed, Hidden, HoldsBlocks, lied}
-use Rattle.tk_meeting.specs.Matched.{pairs_of, shown_tape, AreGroups, AreMatched}
-use Rattle.tk_meeting.specs.Adaptive.{sight, LiarsAsOften}
 use Rattle.tk_meeting.proofs.lying.Matches.{found_pairs, found_tape, found-shows, found-long, found-only}
 use Rattle.tk_meeting.proofs.lying.Plays.{same-sight}
 use Rattle.tk_meeting.proofs.lying.Tapes.{liars-see-alike}
+use Rattle.tk_privacy.proofs.Offers as privacy
 
 -- the groups the other way round
 turned : (A B : Script) (h : Hidden) → AreGroups A B h → AreGroups B A h

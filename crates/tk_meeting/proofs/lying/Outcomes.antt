@@ -1,36 +1,17 @@
 -- How a member stands after a deed, before it acts, follows from how it stood and from what shows of the deed.
-use Rattle.std.proofs.Common.{◌≡◌, inl, cond, refl, ap, ap₂, sym, ◌∙◌, arith, ℕ, ◌+◌, List, [], ◌∷◌, ◌++◌, Option}
-use Rattle.std.proofs.Common.{Some, None, length, length-append}
-use Rattle.std.specs.Prelude.{nat_le, ◌==◌, Result, Err}
-use Rattle.std.specs.Option.{is_none, is_some}
-use Rattle.std.proofs.lemmas.Bool.{true≢false}
-use Rattle.tk_shape.specs.declared.shape.Shape.{Shape}
-use Rattle.tk_shape.specs.Lengths.{width, reply_len}
-use Rattle.tk_kernel.specs.Chosen.{chosen_sum}
-use Rattle.tk_bits.proofs.Offers.{length-chosen_sum}
-use Rattle.tk_words.specs.Words.{WordBook}
-use Rattle.tk_frames.specs.declared.read_frame.ReadFrame.{ReadFrame}
+use Rattle.tk_meeting.proofs.Terms.{◌≡◌, ℕ, List, [], ◌∷◌, length, ◌+◌, ◌==◌, cond, ◌++◌, Option, Some, None, Result}
+use Rattle.tk_meeting.proofs.Terms.{◌∙◌, refl, ap, sym, arith, inl, ap₂, length-append, Err, true≢false, is_none}
+use Rattle.tk_meeting.proofs.Terms.{is_some, nat_le, chosen_sum, width, reply_len, Shape, length-chosen_sum, WordBook}
+use Rattle.tk_meeting.proofs.Terms.{first_fault, kind_check, version_check, client_check, turn_check, check_on}
+use Rattle.tk_meeting.proofs.Terms.{number_at, be32, ReadFrame, reply_to, layout, blocks_of, frame_with, Writing}
+use Rattle.tk_meeting.proofs.Terms.{OpenRead, MemberState, served, Fault, Peer, Say, Tick, Ahead, Has, is_server, Deed}
+use Rattle.tk_meeting.proofs.Terms.{Ticks, Claims, Sends, Answers, Hidden, Says, GoesAhead, doer, deed_shown}
+use Rattle.tk_meeting.proofs.Terms.{member_does, HoldsBlocks, answer_to, frame_open, stand, Stand, Face, face}
+use Rattle.tk_meeting.proofs.Terms.{read_shown, Sent, Replied, frame_shown}
+use Rattle.tk_meeting.proofs.shown.Steps.{heard_so, served_so, heard_writing, EndsOrReadies, either-goes, heard-readies}
+use Rattle.tk_meeting.proofs.shown.Steps.{served-readies}
 use Rattle.tk_frames.specs.declared.fault.Name.TheVariants as name
 use Rattle.tk_frames.specs.declared.fault.FrameError.TheVariants as fault
-use Rattle.tk_frames.specs.Fields.{number_at}
-use Rattle.tk_frames.specs.Faults.{first_fault, kind_check, version_check, client_check, turn_check, check_on}
-use Rattle.tk_frames.specs.Spelling.{be32}
-use Rattle.tk_table.specs.Table.{layout, blocks_of}
-use Rattle.tk_table.specs.Replies.{reply_to}
-use Rattle.tk_client.specs.Writing.{Writing}
-use Rattle.tk_client.specs.declared.open_read.OpenRead.{OpenRead}
-use Rattle.tk_client.specs.Asked.{frame_with}
-use Rattle.tk_member.specs.declared.fault.Fault.{Fault}
-use Rattle.tk_member.specs.declared.fault.Fault.TheVariants.{Peer}
-use Rattle.tk_member.specs.Steps.{served}
-use Rattle.tk_meeting.specs.Events.{is_server}
-use Rattle.tk_member.specs.declared.word.HostWord.TheVariants.{Say, Tick, Ahead, Has}
-use Rattle.tk_member.specs.Members.{MemberState}
-use Rattle.tk_meeting.specs.Shown.{Face, face, Stand, stand, read_shown, Sent, Replied, frame_shown}
-use Rattle.tk_meeting.specs.Lying.{Deed, Says, Ticks, GoesAhead, Claims, Sends, Answers, doer, deed_shown}
-use Rattle.tk_meeting.specs.Lying.{Hidden, answer_to, frame_open, member_does, HoldsBlocks}
-use Rattle.tk_meeting.proofs.shown.Steps.{heard_so, served_so, heard_writing, EndsOrReadies, either-goes}
-use Rattle.tk_meeting.proofs.shown.Steps.{heard-readies, served-readies}
 
 -- ---- answers of the hidden server
 

@@ -1,20 +1,12 @@
 -- Liars see the same of two groups over matched tapes, step by step.
-use Rattle.std.proofs.Common.{◌≡◌, refl, sym, ap, ap₂, ◌∙◌, subst, arith, ℕ, zero, suc, ◌+◌, List, [], ◌∷◌, ◌++◌, map}
-use Rattle.std.proofs.Common.{length, append-nil, length-append}
-use Rattle.std.specs.List.{range_with_len}
-use Rattle.std.proofs.lemmas.List.{append_assoc}
-use Rattle.tk_shape.specs.declared.shape.Shape.{Shape}
-use Rattle.tk_script.specs.declared.script.Script.{Script}
-use Rattle.tk_words.specs.Words.{WordBook, drawn}
-use Rattle.tk_privacy.proofs.Offers as privacy
-use Rattle.tk_meeting.specs.Meeting.{Meeting, Saying}
-use Rattle.tk_meeting.specs.Laws.{HasWhatWasSaid}
-use Rattle.tk_meeting.specs.Lying.{Deed, Says, Ticks, GoesAhead, Claims, Sends, Answers, deed_shown, Hidden, lied}
-use Rattle.tk_meeting.specs.Lying.{DoAlike, StandAlike}
-use Rattle.tk_meeting.specs.Matched.{AreGroups, AreMatched}
-use Rattle.tk_meeting.specs.Adaptive.{JointSight, sight, Liars, with_text_of, Play, play, retold, PlayAlike, LiarsPlayAlike}
-use Rattle.tk_privacy.proofs.Offers.{map-range_same}
+use Rattle.tk_meeting.proofs.Terms.{◌≡◌, ℕ, List, [], ◌∷◌, length, map, ◌+◌, ◌++◌, ◌∙◌, refl, ap, sym, zero, suc, arith}
+use Rattle.tk_meeting.proofs.Terms.{subst, append-nil, append_assoc, ap₂, length-append, range_with_len, Shape}
+use Rattle.tk_meeting.proofs.Terms.{WordBook, drawn, Script, map-range_same, sight, JointSight, Liars, with_text_of, Play}
+use Rattle.tk_meeting.proofs.Terms.{play, retold, PlayAlike, LiarsPlayAlike, HasWhatWasSaid, Deed, Ticks, Claims, Sends, Answers}
+use Rattle.tk_meeting.proofs.Terms.{Hidden, lied, Says, GoesAhead, deed_shown, DoAlike, StandAlike, AreGroups, AreMatched}
+use Rattle.tk_meeting.proofs.Terms.{Saying, Meeting}
 use Rattle.tk_meeting.proofs.lying.Tapes.{liars-see-alike}
+use Rattle.tk_privacy.proofs.Offers as privacy
 
 -- ---- the same is seen
 

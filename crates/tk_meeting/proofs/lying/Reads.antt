@@ -1,25 +1,11 @@
 -- A member keeps the read that it has open, closes it, or opens that of the next turn.
-use Rattle.std.proofs.Common.{◌≡◌, refl, sym, ◌∙◌, subst, arith, inl, inr, ℕ, ◌+◌, ◌-◌, ◌≤◌, ◌<◌, Bool}
-use Rattle.std.proofs.Common.{true, false, cond, List, Option, Some, None}
-use Rattle.std.specs.Prelude.{◌⊎◌, nat_lt, nat_le, ◌&&◌, Result, Ok, Err}
-use Rattle.std.specs.Option.{is_none}
-use Rattle.std.proofs.lemmas.Bool.{and_parts, ltb-true}
-use Rattle.tk_shape.specs.declared.shape.Shape.{Shape}
-use Rattle.tk_shape.specs.Lengths.{turn_count}
-use Rattle.tk_words.specs.Words.{WordBook, BookWords, words_of}
-use Rattle.tk_client.specs.declared.open_read.OpenRead.{OpenRead}
-use Rattle.tk_client.specs.Writing.{Writing}
-use Rattle.tk_member.specs.declared.fault.Fault.{Fault}
-use Rattle.tk_member.specs.declared.fault.Fault.TheVariants.{Peer}
-use Rattle.tk_member.specs.declared.word.HostWord.{HostWord}
-use Rattle.tk_member.specs.declared.word.HostWord.TheVariants.{Say, Tick, Ahead, Has}
-use Rattle.tk_member.specs.Members.{MemberState, known_to}
-use Rattle.tk_member.specs.Acting.{ActedMember, goes_ahead, goes_by_ticks, may_ask, asks, unmoved}
-use Rattle.tk_member.specs.Acting.{asks_if_due, ahead_due, ticks_due, epoch_due, acts}
-use Rattle.tk_member.specs.Steps.{heard, served}
-use Rattle.tk_meeting.specs.Lying.{Deed, Says, Ticks, GoesAhead, Claims, Sends, Answers}
-use Rattle.tk_meeting.specs.Events.{is_server}
-use Rattle.tk_meeting.specs.Shown.{Stand, stand, word_shown, frame_shown}
+use Rattle.tk_meeting.proofs.Terms.{◌≡◌, ℕ, ◌≤◌, ◌<◌, List, ◌+◌, cond, ◌-◌, Bool, true, false, Option, Some, None}
+use Rattle.tk_meeting.proofs.Terms.{Result, Ok, ◌∙◌, refl, sym, arith, subst, ltb-true, ◌⊎◌, inl, inr, Err, and_parts}
+use Rattle.tk_meeting.proofs.Terms.{is_none, nat_lt, ◌&&◌, nat_le, turn_count, Shape, WordBook, words_of, BookWords}
+use Rattle.tk_meeting.proofs.Terms.{Writing, OpenRead, ActedMember, acts, may_ask, asks, asks_if_due, unmoved, epoch_due}
+use Rattle.tk_meeting.proofs.Terms.{goes_ahead, goes_by_ticks, ahead_due, ticks_due, MemberState, known_to, served}
+use Rattle.tk_meeting.proofs.Terms.{heard, Fault, Peer, HostWord, Say, Tick, Ahead, Has, is_server, Deed, Ticks, Claims}
+use Rattle.tk_meeting.proofs.Terms.{Sends, Answers, Says, GoesAhead, stand, Stand, frame_shown, word_shown}
 use Rattle.tk_meeting.proofs.telling.Rising.{cond-has}
 use Rattle.tk_meeting.proofs.members.Wrote.{wrote-so}
 use Rattle.tk_meeting.proofs.lying.Cores.{does_with}

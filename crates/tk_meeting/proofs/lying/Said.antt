@@ -1,29 +1,12 @@
 -- What was said to members whose servers lie doesn't depend on their words, and there is a script that has it.
-use Rattle.std.proofs.Common.{◌≡◌, refl, sym, ap, ◌∙◌, subst, ℕ, Bool, true, false, cond, List, [], ◌∷◌, ◌++◌}
-use Rattle.std.proofs.Common.{Option, Some, None}
-use Rattle.std.specs.Prelude.{◌==◌, ◌||◌, Result, Ok, Err}
-use Rattle.std.specs.List.{list_any}
-use Rattle.std.proofs.lemmas.Bool.{true≢false}
-use Rattle.tk_shape.specs.declared.shape.Shape.{Shape}
-use Rattle.tk_script.specs.declared.script.Script.{Script}
-use Rattle.tk_words.specs.Words.{WordBook, drawn}
-use Rattle.tk_client.specs.declared.say_error.SayError.{SayError}
-use Rattle.tk_client.specs.declared.say_error.SayError.TheVariants.{NotWriter}
-use Rattle.tk_client.specs.declared.written.Written.{Written}
-use Rattle.tk_client.specs.Saying.{fault_of, text_fault, is_written}
-use Rattle.tk_member.specs.declared.fault.Fault.{Fault}
-use Rattle.tk_member.specs.declared.fault.Fault.TheVariants.{Peer}
-use Rattle.tk_member.specs.declared.word.HostWord.TheVariants.{Say, Tick, Ahead, Has}
-use Rattle.tk_member.specs.Members.{MemberState}
-use Rattle.tk_member.specs.Acting.{ActedMember}
-use Rattle.tk_member.specs.Steps.{served}
-use Rattle.tk_meeting.specs.Meeting.{Meeting, Saying, opening, changed}
-use Rattle.tk_meeting.specs.Events.{say_fault, unless_ended, is_server, is_client}
-use Rattle.tk_meeting.specs.Shown.{Stand, stand, outcome}
-use Rattle.tk_meeting.specs.Lying.{Deed, Says, Ticks, GoesAhead, Claims, Sends, Answers, doer, Hidden}
-use Rattle.tk_meeting.specs.Lying.{answer_to, member_does, said_more, said_after, went_on, does, after_deeds, lied}
-use Rattle.tk_meeting.specs.Lying.{HoldsBlocks}
-use Rattle.tk_meeting.specs.Scripts.{LiedHaveScripts}
+use Rattle.tk_meeting.proofs.Terms.{◌≡◌, ℕ, List, [], ◌∷◌, ◌==◌, cond, ◌++◌, Bool, true, false, Option, Some, None}
+use Rattle.tk_meeting.proofs.Terms.{Result, Ok, ◌∙◌, refl, ap, sym, subst, Err, true≢false, list_any, ◌||◌, Shape}
+use Rattle.tk_meeting.proofs.Terms.{WordBook, drawn, Script, fault_of, text_fault, is_written, SayError, NotWriter}
+use Rattle.tk_meeting.proofs.Terms.{Written, ActedMember, MemberState, served, Fault, Peer, Say, Tick, Ahead, Has, is_client}
+use Rattle.tk_meeting.proofs.Terms.{is_server, unless_ended, say_fault, Deed, Ticks, Claims, Sends, Answers, Hidden}
+use Rattle.tk_meeting.proofs.Terms.{does, after_deeds, lied, Says, GoesAhead, doer, member_does, said_more, said_after}
+use Rattle.tk_meeting.proofs.Terms.{went_on, HoldsBlocks, answer_to, Saying, changed, Meeting, opening, LiedHaveScripts}
+use Rattle.tk_meeting.proofs.Terms.{stand, Stand, outcome}
 use Rattle.tk_meeting.proofs.courses.Picks.{pick}
 use Rattle.tk_meeting.proofs.telling.Rising.{cond-has}
 use Rattle.tk_meeting.proofs.scripts.Lasting.{base_of, logs_of, LastsIn, heard-lasts, served-lasts}

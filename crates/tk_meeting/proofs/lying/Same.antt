@@ -1,27 +1,14 @@
 -- What a member knows and does but for the frames that it sends follows from its words alone, and from what comes.
-use Rattle.std.proofs.Common.{◌≡◌, refl, sym, ap, ◌∙◌, subst, ℕ, ◌+◌, ◌-◌, Bool, true, false, cond, List, []}
-use Rattle.std.proofs.Common.{Option, Some, None}
-use Rattle.std.specs.Prelude.{nat_lt, ◌==◌, ◌||◌, slice_index, slice_index_or, Result, Ok, Err}
-use Rattle.std.specs.Option.{is_none, is_some}
-use Rattle.tk_shape.specs.declared.shape.Shape.{Shape}
-use Rattle.tk_words.specs.Words.{WordBook, BookWords, words_of}
-use Rattle.tk_client.specs.Writing.{with_text}
-use Rattle.tk_client.specs.Saying.{fault_of}
-use Rattle.tk_client.specs.declared.say_error.SayError.{SayError}
-use Rattle.tk_client.specs.declared.take_error.TakeError.{TakeError}
-use Rattle.tk_client.specs.Client.{refusal_in, target_over, opened}
-use Rattle.tk_member.specs.declared.fault.Fault.{Fault}
-use Rattle.tk_member.specs.declared.fault.Fault.TheVariants.{Peer, Older}
-use Rattle.tk_member.specs.declared.word.HostWord.{HostWord}
-use Rattle.tk_member.specs.declared.word.HostWord.TheVariants.{Say, Tick, Ahead, Has}
-use Rattle.tk_member.specs.Epochs.{ToldMarks, with_epoch, filter_of, marks_at}
-use Rattle.tk_member.specs.Members.{MemberState}
-use Rattle.tk_member.specs.Acting.{ActedMember, goes_ahead, goes_by_ticks, may_ask, asks, unmoved, asks_if_due, epoch_due}
-use Rattle.tk_member.specs.Acting.{acts}
-use Rattle.tk_member.specs.Steps.{tells_and_acts, counted_up, said, heard, all_of, after_settling, settled}
-use Rattle.tk_member.specs.Steps.{settled_by, with_reply, replied, told_epoch, served}
-use Rattle.tk_meeting.specs.Events.{is_server}
-use Rattle.tk_meeting.specs.Lying.{Deed, Says, Ticks, GoesAhead, Claims, Sends, Answers}
+use Rattle.tk_meeting.proofs.Terms.{◌≡◌, ℕ, List, [], ◌+◌, ◌==◌, cond, ◌-◌, Bool, true, false, Option, Some, None}
+use Rattle.tk_meeting.proofs.Terms.{Result, Ok, ◌∙◌, refl, ap, sym, subst, slice_index_or, Err, is_none, is_some}
+use Rattle.tk_meeting.proofs.Terms.{nat_lt, slice_index, ◌||◌, Shape, WordBook, words_of, BookWords, target_over}
+use Rattle.tk_meeting.proofs.Terms.{refusal_in, fault_of, with_text, SayError, TakeError, ActedMember, acts, may_ask, asks}
+use Rattle.tk_meeting.proofs.Terms.{asks_if_due, unmoved, epoch_due, goes_ahead, goes_by_ticks, filter_of, marks_at}
+use Rattle.tk_meeting.proofs.Terms.{ToldMarks, with_epoch, MemberState, tells_and_acts, served, heard, settled}
+use Rattle.tk_meeting.proofs.Terms.{counted_up, said, all_of, after_settling, settled_by, with_reply, replied}
+use Rattle.tk_meeting.proofs.Terms.{told_epoch, Fault, Peer, Older, HostWord, Say, Tick, Ahead, Has, is_server, Deed}
+use Rattle.tk_meeting.proofs.Terms.{Ticks, Claims, Sends, Answers, Says, GoesAhead}
+use Rattle.tk_client.specs.Client.{opened}
 use Rattle.tk_meeting.proofs.lying.Cores.{left, does_with}
 use Rattle.tk_meeting.proofs.lying.Reads.{writes-keep}
 

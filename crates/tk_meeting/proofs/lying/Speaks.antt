@@ -1,25 +1,14 @@
 -- A member has to write what the script has, by what was said to it, whatever servers send it.
-use Rattle.std.proofs.Common.{◌≡◌, refl, sym, ap, ◌∙◌, subst, arith, ℕ, ◌+◌, ◌≤◌, ◌<◌, Bool, true, false, cond}
-use Rattle.std.proofs.Common.{List, [], ◌∷◌, ◌++◌, Option, Some, None}
-use Rattle.std.specs.Prelude.{◌==◌}
-use Rattle.std.proofs.lemmas.Bool.{eqb-true, eqb-false, ne_eqb}
-use Rattle.tk_shape.specs.declared.shape.Shape.{Shape}
-use Rattle.tk_shape.specs.Lengths.{turn_count}
-use Rattle.tk_script.specs.declared.script.Script.{Script}
-use Rattle.tk_words.specs.Words.{WordBook}
-use Rattle.tk_client.specs.Writing.{Writing, with_text}
-use Rattle.tk_client.specs.declared.say_error.SayError.{SayError}
-use Rattle.tk_client.specs.Saying.{fault_of}
-use Rattle.tk_member.specs.Members.{MemberState}
-use Rattle.tk_member.specs.Acting.{ActedMember, asks, unmoved, may_ask, asks_if_due, acts}
-use Rattle.tk_meeting.specs.Meeting.{Meeting, Saying, changed}
-use Rattle.tk_meeting.specs.Events.{say_fault}
+use Rattle.tk_meeting.proofs.Terms.{◌≡◌, ℕ, ◌≤◌, ◌<◌, List, [], ◌∷◌, ◌+◌, ◌==◌, cond, ◌++◌, Bool, true, false, Option}
+use Rattle.tk_meeting.proofs.Terms.{Some, None, ◌∙◌, refl, ap, sym, arith, subst, eqb-true, ne_eqb, eqb-false}
+use Rattle.tk_meeting.proofs.Terms.{turn_count, Shape, WordBook, Script, fault_of, Writing, with_text, SayError, ActedMember}
+use Rattle.tk_meeting.proofs.Terms.{acts, may_ask, asks, asks_if_due, unmoved, MemberState, say_fault, Deed, Ticks}
+use Rattle.tk_meeting.proofs.Terms.{Claims, Sends, Answers, Says, GoesAhead, doer, said_more, said_after, Saying}
+use Rattle.tk_meeting.proofs.Terms.{changed, Meeting, stand}
 use Rattle.tk_meeting.proofs.Standing.{IsForetold}
 use Rattle.tk_meeting.proofs.telling.Foreseeing.{ForeseesOf}
 use Rattle.tk_meeting.proofs.members.Hearing.{said-one}
 use Rattle.tk_meeting.proofs.courses.Picks.{itself}
-use Rattle.tk_meeting.specs.Shown.{stand}
-use Rattle.tk_meeting.specs.Lying.{Deed, Says, Ticks, GoesAhead, Claims, Sends, Answers, doer, said_more, said_after}
 use Rattle.tk_meeting.proofs.shown.Steps.{written_then, acts-written, ahead_of, said_writing, heard_writing}
 use Rattle.tk_meeting.proofs.members.Writing.{queue}
 use Rattle.tk_meeting.proofs.members.Acts.{Written, acts-so}

@@ -1,17 +1,8 @@
 -- Tapes over which two groups show the same to all servers but the hidden one.
-use Rattle.std.proofs.Common.{◌≡◌, ◌≢◌, sym, ◌∙◌, subst, ℕ, ◌≤◌, ◌<◌, List, [], ◌++◌, length}
-use Rattle.tk_shape.specs.declared.shape.Shape.{Shape}
-use Rattle.tk_shape.specs.Lengths.{turn_count, tape_len}
-use Rattle.tk_script.specs.declared.script.Script.{Script}
-use Rattle.tk_words.specs.Words.{drawn, words_of, cell_write, write_cell}
-use Rattle.tk_frames.specs.declared.read_frame.ReadFrame.{ReadFrame}
-use Rattle.tk_client.specs.Writes.{dummy}
-use Rattle.tk_client.specs.Asked.{frame_for}
-use Rattle.tk_report.specs.Entries.{write_at}
-use Rattle.tk_privacy.specs.Privacy.{Pairs, normal_for, shown_read}
-use Rattle.tk_privacy.proofs.Offers.{write-seen, read-seen}
-use Rattle.tk_meeting.specs.Lying.{Hidden}
-use Rattle.tk_meeting.specs.Matched.{pairs_of, AreGroups, LiarsSeeAlike}
+use Rattle.tk_meeting.proofs.Terms.{◌≡◌, ℕ, ◌≤◌, ◌<◌, List, [], length, ◌++◌, ◌∙◌, sym, subst, ◌≢◌, turn_count}
+use Rattle.tk_meeting.proofs.Terms.{tape_len, Shape, words_of, drawn, cell_write, write_cell, ReadFrame, Script}
+use Rattle.tk_meeting.proofs.Terms.{frame_for, dummy, write_at, write-seen, read-seen, shown_read, Pairs, normal_for}
+use Rattle.tk_meeting.proofs.Terms.{Hidden, pairs_of, AreGroups, LiarsSeeAlike}
 use Rattle.tk_meeting.proofs.lying.Books.{ShowAlike}
 use Rattle.tk_meeting.proofs.lying.Alike.{lied-alike}
 use Rattle.tk_meeting.proofs.lying.Asked.{are-asked}

@@ -1,20 +1,8 @@
 -- Two members that go on alike: what they are then, and what they sent.
-use Rattle.std.proofs.Common.{◌≡◌, ◌≢◌, refl, sym, ap, ap₂, ◌∙◌, subst, arith, ℕ, zero, suc, ◌+◌, ◌≤◌, ◌<◌, List, []}
-use Rattle.std.proofs.Common.{◌++◌, map}
-use Rattle.std.specs.Prelude.{replicate}
-use Rattle.tk_shape.specs.declared.shape.Shape.{Shape}
-use Rattle.tk_shape.specs.Lengths.{turn_count}
-use Rattle.tk_script.specs.declared.script.Script.{Script}
-use Rattle.tk_words.specs.Words.{WordBook}
-use Rattle.tk_frames.specs.declared.write_frame.WriteFrame.{WriteFrame}
-use Rattle.tk_frames.specs.Spelling.{write_frame}
-use Rattle.tk_packets.specs.Packets.{PacketView}
-use Rattle.tk_privacy.specs.Privacy.{Pairs}
-use Rattle.tk_member.specs.Members.{MemberState}
-use Rattle.tk_member.specs.Acting.{ActedMember, packets_from, asks_if_due, acts}
-use Rattle.tk_meeting.specs.Meeting.{Saying, frames_for}
-use Rattle.tk_meeting.specs.Shown.{Stand, stand}
-use Rattle.tk_meeting.specs.Lying.{Hidden}
+use Rattle.tk_meeting.proofs.Terms.{◌≡◌, ℕ, ◌≤◌, ◌<◌, List, [], map, ◌+◌, ◌++◌, replicate, ◌∙◌, refl, ap, sym, zero}
+use Rattle.tk_meeting.proofs.Terms.{suc, arith, subst, ap₂, ◌≢◌, turn_count, Shape, WordBook, write_frame, WriteFrame}
+use Rattle.tk_meeting.proofs.Terms.{Script, Pairs, PacketView, ActedMember, acts, packets_from, asks_if_due, MemberState}
+use Rattle.tk_meeting.proofs.Terms.{Hidden, Saying, frames_for, stand, Stand}
 use Rattle.tk_meeting.proofs.lying.Books.{IsOf, ShowAlike}
 use Rattle.tk_meeting.proofs.telling.Foreseeing.{ForeseesOf}
 use Rattle.tk_meeting.proofs.members.Packets.{AreToHost, frames-append, host-alone}

@@ -1,17 +1,9 @@
 -- What a member does when it acts is what is due at its pace.
-use Rattle.std.proofs.Common.{[], ◌≡◌, refl, sym, ap, ap₂, ◌∙◌, subst, arith, ℕ, ◌+◌, ◌-◌, ◌*◌, ◌≤◌}
-use Rattle.std.proofs.Common.{◌<◌, Bool, List, ◌++◌, map, filter, append-nil}
-use Rattle.std.specs.Prelude.{min}
-use Rattle.tk_shape.specs.Lengths.{turn_count}
-use Rattle.tk_script.specs.declared.script.Script.{Script}
-use Rattle.tk_words.specs.Words.{WordBook, words_of}
-use Rattle.tk_packets.specs.Packets.{PacketView}
-use Rattle.tk_member.specs.Members.{MemberState}
-use Rattle.tk_member.specs.Acting.{ActedMember, behind, followed_by, goes_ahead, goes_by_ticks, asks_if_due, acts}
-use Rattle.tk_member.specs.Steps.{tells_and_acts}
-use Rattle.tk_meeting.specs.Meeting.{Saying, for_peer, frames_for}
-use Rattle.tk_meeting.specs.Shown.{stand}
-use Rattle.tk_meeting.specs.Laws.{tells_read}
+use Rattle.tk_meeting.proofs.Terms.{◌≡◌, ℕ, ◌≤◌, ◌<◌, min, List, [], map, ◌+◌, ◌++◌, ◌-◌, ◌*◌, Bool, filter, ◌∙◌, refl}
+use Rattle.tk_meeting.proofs.Terms.{ap, sym, arith, subst, append-nil, ap₂, turn_count, WordBook, words_of, Script}
+use Rattle.tk_meeting.proofs.Terms.{PacketView, ActedMember, acts, behind, asks_if_due, goes_ahead, goes_by_ticks}
+use Rattle.tk_meeting.proofs.Terms.{followed_by, MemberState, tells_and_acts, tells_read, Saying, for_peer, frames_for}
+use Rattle.tk_meeting.proofs.Terms.{stand}
 use Rattle.tk_meeting.proofs.Pace.{Pace, IsPace, acted, asks_now, count_ahead, count_ticks, gone_ahead}
 use Rattle.tk_meeting.proofs.Standing.{IsAt, IsForetold, Goes, said_on, frames_of}
 use Rattle.tk_meeting.proofs.members.Members.{member_at, at-is, at-from}

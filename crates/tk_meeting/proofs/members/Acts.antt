@@ -1,20 +1,12 @@
 -- What any member does when it acts: it writes what the serial run has it write, and then asks if a read is due.
-use Rattle.std.proofs.Common.{◌≡◌, refl, ap, ap₂, sym, ◌∙◌, arith, ℕ, zero, suc, ◌+◌, ◌-◌, ◌≤◌, List}
-use Rattle.tk_shape.specs.Lengths.{turn_count}
-use Rattle.tk_script.specs.declared.script.Script.{Script}
-use Rattle.tk_words.specs.Words.{WordBook, words_of}
-use Rattle.tk_client.specs.Writing.{Writing}
-use Rattle.tk_packets.specs.Packets.{PacketView}
-use Rattle.tk_member.specs.Members.{MemberState}
-use Rattle.tk_member.specs.Acting.{ActedMember, behind, followed_by, wrote, goes_ahead, goes_by_ticks}
-use Rattle.tk_member.specs.Acting.{asks_if_due, acts}
-use Rattle.tk_meeting.specs.Meeting.{Saying}
-use Rattle.tk_meeting.specs.Laws.{sayings}
+use Rattle.tk_meeting.proofs.Terms.{◌≡◌, ℕ, ◌≤◌, List, ◌+◌, ◌-◌, ◌∙◌, refl, ap, sym, zero, suc, arith, ap₂, turn_count}
+use Rattle.tk_meeting.proofs.Terms.{WordBook, words_of, Script, Writing, PacketView, ActedMember, acts, behind, wrote}
+use Rattle.tk_meeting.proofs.Terms.{asks_if_due, goes_ahead, goes_by_ticks, followed_by, MemberState, sayings, Saying}
+use Rattle.tk_meeting.proofs.Terms.{stand}
 use Rattle.tk_meeting.proofs.Standing.{IsForetold, said_on}
 use Rattle.tk_meeting.proofs.members.Writing.{packets_on, packets-both, queue, with_writing, turned_with, wrote-so}
-use Rattle.tk_meeting.specs.Shown.{stand}
-use Rattle.tk_meeting.proofs.shown.Steps.{gone_ahead, gone_by_ticks, ahead_of, ticks_of}
 use Rattle.tk_meeting.proofs.members.Writing.{nothing-said, said-later, said-still}
+use Rattle.tk_meeting.proofs.shown.Steps.{gone_ahead, gone_by_ticks, ahead_of, ticks_of}
 
 -- ---- what is said and foretold, in two steps
 

@@ -1,46 +1,24 @@
 -- What the replies of all servers to a client's read give is what is looked up for its target.
-use Rattle.std.proofs.Common.{[], ◌≡◌, refl, None, ap, ap₂, sym, ◌∙◌, arith, ℕ, ◌+◌, ◌<◌, List, ◌∷◌}
-use Rattle.std.proofs.Common.{◌++◌, length, map, Option, Some, cond, length-append}
-use Rattle.std.specs.Option.{option_or, option_map}
-use Rattle.std.specs.List.{AllByRecursion, range_with_len}
-use Rattle.std.proofs.lemmas.Bool.{eq-eqb}
-use Rattle.tk_shape.specs.declared.shape.Shape.{Shape}
-use Rattle.tk_shape.specs.Lengths.{width, turn_count, reply_len}
-use Rattle.tk_kernel.specs.Chosen.{chosen_sum}
-use Rattle.tk_bits.proofs.Offers.{length-chosen_sum}
-use Rattle.tk_words.specs.Words.{WordBook, words_of, fresh_vectors, IsBook}
-use Rattle.tk_frames.specs.declared.read_frame.ReadFrame.{ReadFrame}
-use Rattle.tk_frames.specs.declared.reply_frame.ReplyFrame.{ReplyFrame}
-use Rattle.tk_frames.specs.Faults.{first_fault, reply_checks}
-use Rattle.tk_frames.specs.Ranges.{IsRead, IsReply}
-use Rattle.tk_frames.specs.Spelling.{reply_frame}
-use Rattle.tk_frames.specs.Order.{Record}
-use Rattle.tk_frames.proofs.Offers.{asked_passes}
+use Rattle.tk_meeting.proofs.Terms.{◌≡◌, ℕ, ◌<◌, List, [], ◌∷◌, length, map, ◌+◌, cond, ◌++◌, Option, Some, None, ◌∙◌}
+use Rattle.tk_meeting.proofs.Terms.{refl, ap, sym, arith, eq-eqb, ap₂, length-append, range_with_len, AllByRecursion}
+use Rattle.tk_meeting.proofs.Terms.{option_or, option_map, chosen_sum, turn_count, width, reply_len, Shape}
+use Rattle.tk_meeting.proofs.Terms.{length-chosen_sum, WordBook, words_of, IsBook, fresh_vectors, asked_passes}
+use Rattle.tk_meeting.proofs.Terms.{first_fault, reply_checks, Record, IsRead, IsReply, reply_frame, ReadFrame}
+use Rattle.tk_meeting.proofs.Terms.{ReplyFrame, reply_to, layout, serial-IsLegal, phases_over, epoch_at, Script}
+use Rattle.tk_meeting.proofs.Terms.{frames_in-spelled, asked-in_range, pair-in_range, fresh-whole, frame_with, pair_for}
+use Rattle.tk_meeting.proofs.Terms.{asked, AreWhole, reader_after, at_epoch, after_read, answer_in, frames_in}
+use Rattle.tk_meeting.proofs.Terms.{first_joined, second_joined, refusal, first_unread, first_other, other_name, Target}
+use Rattle.tk_meeting.proofs.Terms.{epochs-ordered, epochs-storable, blocks-whole, map-map, before-next, epoch-most}
+use Rattle.tk_meeting.proofs.Terms.{map_same, text-taken, asked-read_at, read_at, reader_before, target_at, read_over}
+use Rattle.tk_meeting.proofs.Terms.{answered, reply_told}
 use Rattle.tk_table.specs.Ordered.{AreOrdered}
 use Rattle.tk_table.specs.Stands.{IsPair}
-use Rattle.tk_table.specs.Table.{layout}
 use Rattle.tk_bucket.specs.Bytes.{blocks_of}
 use Rattle.tk_table.specs.Laws.{IsStorable}
-use Rattle.tk_table.specs.Replies.{reply_to}
-use Rattle.tk_schedule.specs.Schedule.{phases_over, epoch_at}
-use Rattle.tk_schedule.proofs.Offers.{serial-IsLegal}
-use Rattle.tk_script.specs.declared.script.Script.{Script}
-use Rattle.tk_serve.specs.Told.{reply_told}
-use Rattle.tk_client.specs.declared.target.Target.{Target}
-use Rattle.tk_client.specs.declared.take_error.TakeError.TheVariants as fault
-use Rattle.tk_client.specs.Asked.{asked, AreWhole, pair_for, frame_with}
-use Rattle.tk_client.specs.Reader.{at_epoch, after_read}
-use Rattle.tk_client.specs.Client.{reader_after}
-use Rattle.tk_client.specs.Replies.{answer_in, frames_in, first_joined, second_joined, refusal, first_unread}
-use Rattle.tk_client.specs.Replies.{first_other, other_name}
-use Rattle.tk_client.proofs.Offers.{frames_in-spelled, asked-in_range, pair-in_range, fresh-whole}
-use Rattle.tk_report.specs.Exchange.{read_at}
-use Rattle.tk_report.specs.Report.{answered, read_over, target_at, reader_before}
-use Rattle.tk_report.proofs.Offers.{before-next, epochs-ordered, epochs-storable, epoch-most}
-use Rattle.tk_report.proofs.Offers.{map_same, map-map, blocks-whole, text-taken, asked-read_at}
 use Rattle.tk_meeting.proofs.Canonical.{serial, read_from, reply_in}
 use Rattle.tk_meeting.proofs.Standing.{read_of}
 use Rattle.tk_meeting.proofs.members.Asking.{serial-epoch}
+use Rattle.tk_client.specs.declared.take_error.TakeError.TheVariants as fault
 
 -- so the answer to a read is what is looked up for its target
 pub answer-taken : (shape : Shape) (b : WordBook) (R : List Record) (g c e : ℕ) (t : Option Target)

@@ -1,36 +1,19 @@
 -- What a member asks in the turn that comes is what the serial run has it ask.
-use Rattle.std.proofs.Common.{[], ◌≡◌, refl, sym, ap, ap₂, ◌∙◌, arith, ℕ, zero, suc, ◌+◌, ◌-◌, ◌≤◌, ◌<◌, Bool}
-use Rattle.std.proofs.Common.{true, false, List, ◌∷◌, map, cond, length, Option, Some, None}
-use Rattle.std.specs.Prelude.{nat_le, nat_lt, not, ◌&&◌, replicate, slice_index}
-use Rattle.std.specs.Option.{is_none}
-use Rattle.std.specs.List.{range_with_len}
-use Rattle.std.proofs.lemmas.Bool.{true≢false}
-use Rattle.std.proofs.lemmas.List.FromFn.{get_or-map-range_with_len}
-use Rattle.tk_shape.specs.Lengths.{turn_count}
-use Rattle.tk_schedule.specs.Schedule.{phases_over, epoch_at, serial_history, serial_turn, blank_turn}
-use Rattle.tk_script.specs.declared.script.Script.{Script}
-use Rattle.tk_words.specs.Words.{WordBook, words_of}
-use Rattle.tk_bloom.specs.Filters.{all_marked}
-use Rattle.tk_frames.specs.Order.{before}
-use Rattle.tk_frames.specs.Spelling.{read_frame}
-use Rattle.tk_frames.specs.declared.read_frame.ReadFrame.{ReadFrame}
-use Rattle.tk_table.specs.Shown.{is_shown}
-use Rattle.tk_packets.specs.Packets.{PacketView}
-use Rattle.tk_client.specs.declared.target.Target.{Target}
-use Rattle.tk_client.specs.declared.open_read.OpenRead.{OpenRead}
-use Rattle.tk_client.specs.Asked.{asked, shown_by}
-use Rattle.tk_client.specs.Reader.{Reader, target, at_epoch}
-use Rattle.tk_client.specs.Client.{target_over}
-use Rattle.tk_report.specs.Report.{target_at, reader_before, read_over}
-use Rattle.tk_member.specs.Epochs.{filter_of, marks_at, epochs_in, known, least_of, Marks}
-use Rattle.tk_member.specs.Acting.{ActedMember, packets_from, may_ask, asks, asks_if_due, unmoved}
-use Rattle.tk_report.proofs.Offers.{map_same, map-map, asked-read_at}
-use Rattle.tk_meeting.specs.Meeting.{Saying, for_peer, frames_for}
+use Rattle.tk_meeting.proofs.Terms.{◌≡◌, ℕ, ◌≤◌, ◌<◌, List, [], ◌∷◌, length, map, ◌+◌, cond, ◌-◌, Bool, true, false}
+use Rattle.tk_meeting.proofs.Terms.{replicate, Option, Some, None, ◌∙◌, refl, ap, sym, zero, suc, arith, ap₂}
+use Rattle.tk_meeting.proofs.Terms.{true≢false, get_or-map-range_with_len, range_with_len, is_none, nat_lt, ◌&&◌}
+use Rattle.tk_meeting.proofs.Terms.{nat_le, not, slice_index, turn_count, WordBook, words_of, all_marked, before}
+use Rattle.tk_meeting.proofs.Terms.{read_frame, ReadFrame, is_shown, serial_history, phases_over, epoch_at, serial_turn}
+use Rattle.tk_meeting.proofs.Terms.{blank_turn, Script, asked, shown_by, target_over, Reader, at_epoch, target}
+use Rattle.tk_meeting.proofs.Terms.{OpenRead, Target, map-map, map_same, asked-read_at, reader_before, target_at}
+use Rattle.tk_meeting.proofs.Terms.{read_over, PacketView, ActedMember, packets_from, may_ask, asks, asks_if_due, unmoved}
+use Rattle.tk_meeting.proofs.Terms.{least_of, known, filter_of, marks_at, epochs_in, Marks, Saying, for_peer}
+use Rattle.tk_meeting.proofs.Terms.{frames_for}
 use Rattle.tk_meeting.proofs.Canonical.{serial, whole, read_from, marks_in, telling_of, reply_in}
 use Rattle.tk_meeting.proofs.Pace.{Pace, IsPace, known_by, asks_now, has_asked}
 use Rattle.tk_meeting.proofs.Standing.{read_of, reply_there, frames_of}
-use Rattle.tk_meeting.proofs.members.Members.{member_at, client_at, open_at, reader_at, replies_at}
-use Rattle.tk_meeting.proofs.members.Members.{tellings_at, length-range}
+use Rattle.tk_meeting.proofs.members.Members.{member_at, client_at, open_at, reader_at, replies_at, tellings_at}
+use Rattle.tk_meeting.proofs.members.Members.{length-range}
 use Rattle.tk_meeting.proofs.members.Marks.{known-marks, marks-show}
 use Rattle.tk_meeting.proofs.members.Paces.{Asks, asks-when, asked_by}
 use Rattle.tk_meeting.proofs.members.Packets.{own-frame, none-below}

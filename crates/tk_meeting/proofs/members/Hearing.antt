@@ -1,20 +1,8 @@
 -- What becomes of a member when its host tells it something.
-use Rattle.std.proofs.Common.{[], ◌≡◌, refl, ap, ◌∙◌, arith, ℕ, ◌+◌, ◌≤◌, List, ◌∷◌, ◌++◌, cond, Some, None}
-use Rattle.std.specs.Prelude.{min, Err}
-use Rattle.std.proofs.lemmas.Bool.{le-ltb}
-use Rattle.tk_shape.specs.Lengths.{turn_count}
-use Rattle.tk_script.specs.declared.script.Script.{Script}
-use Rattle.tk_words.specs.Words.{WordBook}
-use Rattle.tk_client.specs.Writing.{Writing, with_text}
-use Rattle.tk_client.specs.Saying.{fault_of}
-use Rattle.tk_client.specs.declared.say_error.SayError.{SayError}
-use Rattle.tk_member.specs.declared.fault.Fault.TheVariants.{Older}
-use Rattle.tk_member.specs.declared.word.HostWord.TheVariants.{Say, Tick, Ahead, Has}
-use Rattle.tk_member.specs.Members.{MemberState}
-use Rattle.tk_member.specs.News.{refused_packet}
-use Rattle.tk_member.specs.Steps.{heard, said, tells_and_acts}
-use Rattle.tk_report.specs.Queues.{writing_before}
-use Rattle.tk_meeting.specs.Meeting.{Saying}
+use Rattle.tk_meeting.proofs.Terms.{◌≡◌, ℕ, ◌≤◌, min, List, [], ◌∷◌, ◌+◌, cond, ◌++◌, Some, None, ◌∙◌, refl, ap, arith}
+use Rattle.tk_meeting.proofs.Terms.{Err, le-ltb, turn_count, WordBook, Script, fault_of, Writing, with_text, SayError}
+use Rattle.tk_meeting.proofs.Terms.{writing_before, MemberState, refused_packet, tells_and_acts, heard, said, Older}
+use Rattle.tk_meeting.proofs.Terms.{Say, Tick, Ahead, Has, Saying}
 use Rattle.tk_meeting.proofs.Canonical.{with_sayings}
 use Rattle.tk_meeting.proofs.Pace.{Pace, ticked, sent_ahead}
 use Rattle.tk_meeting.proofs.Standing.{IsAt, Readies}

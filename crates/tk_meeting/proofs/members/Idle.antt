@@ -1,12 +1,10 @@
 -- Where a client acted nothing is due any more.
-use Rattle.std.proofs.Common.{[], ◌≡◌, refl, sym, ap, ap₂, ◌∙◌, subst, arith, ◌+◌, ◌-◌, Bool, true, false, List, ◌++◌}
-use Rattle.std.specs.Prelude.{nat_le, nat_lt, not, ◌&&◌, replicate}
-use Rattle.tk_shape.specs.declared.shape.Shape.{Shape}
-use Rattle.tk_schedule.specs.Schedule.{phases_over}
-use Rattle.tk_meeting.proofs.Pace.{Pace, Paced, Kind, Wrote, IsPace, IsIdle, first_pace, acted, known_by}
-use Rattle.tk_meeting.proofs.Pace.{count_ahead, count_ticks, gone_ahead, gone_by_ticks, asks_now}
-use Rattle.tk_meeting.proofs.members.Paces.{paced, written_on, count_due, asked_by, asked_on, acted-pace}
-use Rattle.tk_meeting.proofs.members.Paces.{acted-kinds, written-pace}
+use Rattle.tk_meeting.proofs.Terms.{◌≡◌, List, [], ◌+◌, ◌++◌, ◌-◌, Bool, true, false, replicate, ◌∙◌, refl, ap, sym}
+use Rattle.tk_meeting.proofs.Terms.{arith, subst, ap₂, nat_lt, ◌&&◌, nat_le, not, Shape, phases_over}
+use Rattle.tk_meeting.proofs.Pace.{Pace, Paced, Kind, Wrote, IsPace, IsIdle, first_pace, acted, known_by, count_ahead}
+use Rattle.tk_meeting.proofs.Pace.{count_ticks, gone_ahead, gone_by_ticks, asks_now}
+use Rattle.tk_meeting.proofs.members.Paces.{paced, written_on, count_due, asked_by, asked_on, acted-pace, acted-kinds}
+use Rattle.tk_meeting.proofs.members.Paces.{written-pace}
 
 -- where no write is due, the pace is the same
 pub still : (shape : Shape) (p : Pace) → count_ahead shape p ≡ 0 → count_ticks shape p ≡ 0 →

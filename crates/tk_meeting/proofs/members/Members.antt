@@ -1,19 +1,8 @@
 -- The member of a client at a pace: all of it is told by the pace and by what was said to it.
-use Rattle.std.proofs.Common.{[], ◌≡◌, refl, sym, ap, ap₂, ◌∙◌, subst, ℕ, zero, suc, ◌+◌, ◌-◌, List, ◌∷◌, map}
-use Rattle.std.proofs.Common.{length, cond}
-use Rattle.std.specs.Prelude.{Option, Some, None, replicate}
-use Rattle.std.specs.List.{range_with_len}
-use Rattle.tk_script.specs.declared.script.Script.{Script}
-use Rattle.tk_words.specs.Words.{WordBook, words_of}
-use Rattle.tk_client.specs.Client.{ClientState, new_client}
-use Rattle.tk_client.specs.declared.open_read.OpenRead.{OpenRead}
-use Rattle.tk_client.specs.Reader.{Reader}
-use Rattle.tk_client.specs.Writing.{Writing}
-use Rattle.tk_report.specs.Queues.{writing_before, writes_of}
-use Rattle.tk_report.specs.Report.{reader_before, follows_of}
-use Rattle.tk_member.specs.Epochs.{ToldMarks}
-use Rattle.tk_member.specs.Members.{MemberState, new_member}
-use Rattle.tk_meeting.specs.Meeting.{Saying}
+use Rattle.tk_meeting.proofs.Terms.{◌≡◌, ℕ, List, [], ◌∷◌, length, map, ◌+◌, cond, ◌-◌, replicate, Option, Some, None}
+use Rattle.tk_meeting.proofs.Terms.{◌∙◌, refl, ap, sym, zero, suc, subst, ap₂, range_with_len, WordBook, words_of}
+use Rattle.tk_meeting.proofs.Terms.{Script, new_client, ClientState, Reader, Writing, OpenRead, writing_before}
+use Rattle.tk_meeting.proofs.Terms.{writes_of, reader_before, follows_of, ToldMarks, MemberState, new_member, Saying}
 use Rattle.tk_meeting.proofs.Canonical.{serial, with_sayings, telling_of}
 use Rattle.tk_meeting.proofs.Pace.{Pace, first_pace, settled}
 use Rattle.tk_meeting.proofs.Standing.{IsAt, read_of, reply_there}

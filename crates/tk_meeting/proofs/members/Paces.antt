@@ -1,17 +1,11 @@
 -- How the pace of a client goes on: it stays one that there is.
-use Rattle.std.proofs.Common.{[], ◌≡◌, refl, sym, ap, ◌∙◌, subst, arith, ℕ, zero, suc, ◌+◌, ◌-◌, ◌≤◌, ◌<◌, Bool}
-use Rattle.std.proofs.Common.{true, false, List, ◌∷◌, ◌++◌, map, cond}
-use Rattle.std.specs.Prelude.{nat_le, nat_lt, not, ◌&&◌, replicate}
-use Rattle.std.specs.List.{range_with_len, list_all}
-use Rattle.std.proofs.lemmas.Bool.{true≢false, false≢true, ltb-true, leb-true, and_parts}
-use Rattle.tk_shape.specs.declared.shape.Shape.{Shape}
-use Rattle.tk_shape.specs.Lengths.{turn_count}
-use Rattle.tk_schedule.specs.Schedule.{phases_over}
-use Rattle.tk_member.specs.Epochs.{least_of}
-use Rattle.tk_meeting.specs.Meeting.{changed}
-use Rattle.tk_meeting.proofs.Pace.{Pace, Paced, Kind, Wrote, Asked, IsPace, first_pace, acted, known_by}
-use Rattle.tk_meeting.proofs.Pace.{count_ahead, count_ticks, gone_ahead, gone_by_ticks, asks_now, has_asked}
-use Rattle.tk_meeting.proofs.Pace.{ticked, sent_ahead, with_reply_of, all_replied, closed, reply_came, epoch_came}
+use Rattle.tk_meeting.proofs.Terms.{◌≡◌, ℕ, ◌≤◌, ◌<◌, List, [], ◌∷◌, map, ◌+◌, cond, ◌++◌, ◌-◌, Bool, true, false}
+use Rattle.tk_meeting.proofs.Terms.{replicate, ◌∙◌, refl, ap, sym, zero, suc, arith, subst, ltb-true, and_parts}
+use Rattle.tk_meeting.proofs.Terms.{leb-true, true≢false, false≢true, range_with_len, list_all, nat_lt, ◌&&◌, nat_le}
+use Rattle.tk_meeting.proofs.Terms.{not, turn_count, Shape, phases_over, least_of, changed}
+use Rattle.tk_meeting.proofs.Pace.{Pace, Paced, Kind, Wrote, Asked, IsPace, first_pace, acted, known_by, count_ahead}
+use Rattle.tk_meeting.proofs.Pace.{count_ticks, gone_ahead, gone_by_ticks, asks_now, has_asked, ticked, sent_ahead}
+use Rattle.tk_meeting.proofs.Pace.{with_reply_of, all_replied, closed, reply_came, epoch_came}
 use Rattle.tk_meeting.proofs.courses.Picks.{at-place}
 
 -- all writes that are due are done

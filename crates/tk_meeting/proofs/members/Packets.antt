@@ -1,15 +1,8 @@
 -- Packets to several peers: those for one of them.
-use Rattle.std.proofs.Common.{[], ◌≡◌, refl, ap, ◌∙◌, arith, ℕ, suc, ◌+◌, ◌-◌, ◌≤◌, ◌<◌, false, List, ◌∷◌}
-use Rattle.std.proofs.Common.{◌++◌, length, map, get_or, cond, inl, inr}
-use Rattle.std.specs.Prelude.{◌==◌}
-use Rattle.std.specs.List.{range_with_len, AllByRecursion}
-use Rattle.std.proofs.lemmas.Bool.{cases_lt, ne_eqb, eq-eqb}
-use Rattle.std.proofs.lemmas.List.{map-append}
-use Rattle.std.proofs.lemmas.List.FromFn.{length-map-range_with_len, get_or-map-range_with_len}
-use Rattle.std.proofs.lemmas.List.Elements.{filter-append}
-use Rattle.tk_packets.specs.Packets.{PacketView, packet}
-use Rattle.tk_member.specs.Acting.{packets_from}
-use Rattle.tk_meeting.specs.Meeting.{for_peer, frames_for}
+use Rattle.tk_meeting.proofs.Terms.{◌≡◌, ℕ, ◌≤◌, ◌<◌, List, [], ◌∷◌, length, map, ◌+◌, ◌==◌, cond, ◌++◌, ◌-◌, false}
+use Rattle.tk_meeting.proofs.Terms.{◌∙◌, refl, ap, suc, arith, inl, inr, eq-eqb, ne_eqb, get_or, cases_lt, map-append}
+use Rattle.tk_meeting.proofs.Terms.{filter-append, length-map-range_with_len, get_or-map-range_with_len, range_with_len}
+use Rattle.tk_meeting.proofs.Terms.{AllByRecursion, PacketView, packet, packets_from, for_peer, frames_for}
 
 pub peer-append : (j : ℕ) (xs ys : List PacketView) →
     for_peer j (xs ++ ys) ≡ for_peer j xs ++ for_peer j ys

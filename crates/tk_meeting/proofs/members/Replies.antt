@@ -1,25 +1,11 @@
 -- What becomes of a member when a server replies to its read.
-use Rattle.std.proofs.Common.{[], ◌≡◌, refl, sym, ap, ap₂, ◌∙◌, arith, ℕ, ◌+◌, ◌-◌, ◌≤◌, ◌<◌, List, ◌∷◌, map}
-use Rattle.std.proofs.Common.{true, false, Bool, cond, Option, Some, None, inl, inr}
-use Rattle.std.specs.Prelude.{◌||◌, not, slice_index_or, slice_set, Result, Err, option_map}
-use Rattle.std.specs.Option.{is_none, is_some}
-use Rattle.std.specs.List.{range_with_len, list_all}
-use Rattle.std.proofs.lemmas.Bool.{true≢false, and_parts, and_cases}
-use Rattle.std.proofs.lemmas.List.FromFn.{get_or-map-range_with_len}
-use Rattle.tk_script.specs.declared.script.Script.{Script}
-use Rattle.tk_words.specs.Words.{WordBook, words_of, IsBook}
-use Rattle.tk_packets.specs.Packets.{PacketView}
-use Rattle.tk_client.specs.Reader.{Reader}
-use Rattle.tk_client.specs.Client.{refusal_in}
-use Rattle.tk_report.specs.Report.{reader_before}
-use Rattle.tk_serve.specs.Told.{reply_told}
-use Rattle.tk_member.specs.declared.fault.Fault.{Fault}
-use Rattle.tk_member.specs.declared.fault.Fault.TheVariants.{Peer}
-use Rattle.tk_member.specs.Members.{MemberState}
-use Rattle.tk_member.specs.News.{news}
-use Rattle.tk_member.specs.Acting.{ActedMember}
-use Rattle.tk_member.specs.Steps.{served, replied, settled as settles, settled_by, all_of, tells_and_acts}
-use Rattle.tk_meeting.specs.Meeting.{Saying}
+use Rattle.tk_meeting.proofs.Terms.{◌≡◌, ℕ, ◌≤◌, ◌<◌, List, [], ◌∷◌, map, ◌+◌, cond, ◌-◌, Bool, true, false, Option}
+use Rattle.tk_meeting.proofs.Terms.{Some, None, Result, ◌∙◌, refl, ap, sym, arith, inl, inr, ap₂, slice_index_or}
+use Rattle.tk_meeting.proofs.Terms.{slice_set, Err, and_parts, true≢false, and_cases, get_or-map-range_with_len}
+use Rattle.tk_meeting.proofs.Terms.{range_with_len, list_all, is_none, is_some, not, option_map, ◌||◌, WordBook}
+use Rattle.tk_meeting.proofs.Terms.{words_of, IsBook, Script, refusal_in, Reader, reader_before, PacketView, reply_told}
+use Rattle.tk_meeting.proofs.Terms.{ActedMember, MemberState, news, tells_and_acts, served, all_of, settled_by, replied}
+use Rattle.tk_meeting.proofs.Terms.{settled as settles, Fault, Peer, Saying}
 use Rattle.tk_meeting.proofs.Canonical.{serial, reply_in}
 use Rattle.tk_meeting.proofs.Pace.{Pace, IsPace, with_reply_of, all_replied, closed, reply_came}
 use Rattle.tk_meeting.proofs.Standing.{IsAt, Readies, read_of, reply_there}

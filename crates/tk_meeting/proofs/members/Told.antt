@@ -1,14 +1,7 @@
 -- What a member tells its host of its reads: each packet is for its host, and none is of a refused text.
-use Rattle.std.proofs.Common.{[], ◌≡◌, refl, ap, ◌∙◌, ℕ, ◌+◌, true, List, ◌∷◌, filter, flat_map, cond}
-use Rattle.std.specs.List.{AllByRecursion, range_with_len}
-use Rattle.tk_shape.specs.declared.shape.Shape.{Shape}
-use Rattle.tk_client.specs.declared.got.Got.{Got}
-use Rattle.tk_client.specs.declared.got.Got.TheVariants.{Absent, Text}
-use Rattle.tk_client.specs.Reader.{Reader}
-use Rattle.tk_packets.specs.Packets.{PacketView}
-use Rattle.tk_member.specs.News.{got_packet, news_from, news_of, news}
-use Rattle.tk_report.proofs.Offers.{each-append}
-use Rattle.tk_meeting.specs.Laws.{tells_read}
+use Rattle.tk_meeting.proofs.Terms.{◌≡◌, ℕ, List, [], ◌∷◌, flat_map, ◌+◌, cond, true, filter, ◌∙◌, refl, ap}
+use Rattle.tk_meeting.proofs.Terms.{range_with_len, AllByRecursion, Shape, Reader, Got, Absent, Text, each-append}
+use Rattle.tk_meeting.proofs.Terms.{PacketView, news, news_from, got_packet, news_of, tells_read}
 
 -- a packet of a read, for the host
 pub record TellsRead (p : PacketView) : Type 0 where

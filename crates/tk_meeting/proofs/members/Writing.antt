@@ -1,25 +1,12 @@
 -- What a member writes in the turns that come is what the serial run has it write.
-use Rattle.std.proofs.Common.{[], ◌≡◌, refl, sym, ap, ap₂, ◌∙◌, subst, arith, ℕ, zero, suc, ◌+◌, ◌≤◌, ◌<◌, Bool}
-use Rattle.std.proofs.Common.{true, false, List, ◌∷◌, ◌++◌, map, filter, cond, add-one}
-use Rattle.std.specs.Prelude.{◌==◌, replicate}
-use Rattle.std.proofs.lemmas.Bool.{ne_eqb, eq-eqb}
-use Rattle.tk_shape.specs.Lengths.{turn_count}
-use Rattle.tk_script.specs.declared.script.Script.{Script}
+use Rattle.tk_meeting.proofs.Terms.{◌≡◌, ℕ, ◌≤◌, ◌<◌, List, [], ◌∷◌, map, ◌+◌, ◌==◌, cond, ◌++◌, Bool, true, false}
+use Rattle.tk_meeting.proofs.Terms.{replicate, filter, ◌∙◌, refl, ap, sym, zero, suc, arith, subst, eq-eqb, ap₂, ne_eqb}
+use Rattle.tk_meeting.proofs.Terms.{add-one, turn_count, WordBook, words_of, write_frame, WriteFrame, writer_of, Script}
+use Rattle.tk_meeting.proofs.Terms.{write_of, Writing, with_text, first_waiting, after_write, queues-send, write_at}
+use Rattle.tk_meeting.proofs.Terms.{writing_before, with_says, says_in, writing_said, PacketView, ActedMember, behind, wrote}
+use Rattle.tk_meeting.proofs.Terms.{packets_from, write_packets, after_turn, MemberState, sayings, saying_of, Saying}
+use Rattle.tk_meeting.proofs.Terms.{for_peer, frames_for}
 use Rattle.tk_script.specs.declared.say.Say.{Say}
-use Rattle.tk_script.specs.Sent.{writer_of}
-use Rattle.tk_words.specs.Words.{WordBook, words_of}
-use Rattle.tk_frames.specs.Spelling.{write_frame}
-use Rattle.tk_frames.specs.declared.write_frame.WriteFrame.{WriteFrame}
-use Rattle.tk_client.specs.Writing.{Writing, with_text, first_waiting, after_write}
-use Rattle.tk_client.specs.Writes.{write_of}
-use Rattle.tk_packets.specs.Packets.{PacketView}
-use Rattle.tk_report.specs.Entries.{write_at}
-use Rattle.tk_report.specs.Queues.{with_says, says_in, writing_before, writing_said}
-use Rattle.tk_report.proofs.Offers.{queues-send}
-use Rattle.tk_member.specs.Members.{MemberState}
-use Rattle.tk_member.specs.Acting.{ActedMember, behind, packets_from, write_packets, after_turn, wrote}
-use Rattle.tk_meeting.specs.Meeting.{Saying, for_peer, frames_for}
-use Rattle.tk_meeting.specs.Laws.{saying_of, sayings}
 use Rattle.tk_meeting.proofs.Canonical.{write_in, with_sayings}
 use Rattle.tk_meeting.proofs.Pace.{Pace, Kind, Wrote}
 use Rattle.tk_meeting.proofs.Standing.{IsForetold, said_on, frames_of}

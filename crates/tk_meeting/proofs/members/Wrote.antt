@@ -1,8 +1,5 @@
 -- What writing leaves of a member.
-use Rattle.std.proofs.Common.{◌≡◌, refl, arith, ℕ, zero, suc, ◌+◌}
-use Rattle.tk_words.specs.Words.{BookWords}
-use Rattle.tk_member.specs.Members.{MemberState}
-use Rattle.tk_member.specs.Acting.{wrote, after_turn}
+use Rattle.tk_meeting.proofs.Terms.{◌≡◌, ℕ, ◌+◌, refl, zero, suc, arith, BookWords, wrote, after_turn, MemberState}
 
 -- a member that wrote in so many turns more, but for what it has to write
 pub record Wrote (m : MemberState) (n : ℕ) (l : MemberState) : Type 0 where

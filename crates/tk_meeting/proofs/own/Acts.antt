@@ -1,32 +1,14 @@
 -- A member acts by its own book as by the group's.
-use Rattle.std.proofs.Common.{◌≡◌, refl, ap, ap₂, sym, ◌∙◌, subst, ℕ, zero, suc, ◌+◌, ◌-◌, Bool, true, false, cond}
-use Rattle.std.proofs.Common.{List, map, Option, Some, None}
-use Rattle.std.specs.Prelude.{replicate}
-use Rattle.std.specs.List.{range_with_len}
-use Rattle.tk_shape.specs.declared.shape.Shape.{Shape}
-use Rattle.tk_script.specs.declared.script.Script.{Script}
-use Rattle.tk_bits.specs.Shares.{shares}
-use Rattle.tk_shape.specs.Lengths.{vector_len}
-use Rattle.tk_words.specs.Words.{WordBook, BookWords, BothBuckets, words_of}
-use Rattle.tk_bloom.specs.Filters.{all_marked}
-use Rattle.tk_frames.specs.declared.read_frame.ReadFrame.{ReadFrame}
-use Rattle.tk_frames.specs.declared.write_frame.WriteFrame.{WriteFrame}
-use Rattle.tk_frames.specs.Spelling.{write_frame, read_frame}
-use Rattle.tk_client.specs.declared.target.Target.{Target}
-use Rattle.tk_client.specs.declared.waiting.Waiting.{Waiting}
-use Rattle.tk_client.specs.Asked.{shown_by, pair_for, frame_with, frame_for, asked}
-use Rattle.tk_client.specs.Reader.{Follow, Reader, target, at_epoch}
-use Rattle.tk_client.specs.Writing.{first_waiting}
-use Rattle.tk_client.specs.Writes.{write_of}
-use Rattle.tk_client.specs.Client.{target_over, opened}
-use Rattle.tk_packets.specs.Packets.{PacketView}
-use Rattle.tk_member.specs.Epochs.{filter_of, marks_at}
-use Rattle.tk_member.specs.Members.{MemberState}
-use Rattle.tk_member.specs.Acting.{ActedMember, unmoved, behind, followed_by}
-use Rattle.tk_member.specs.Acting.{packets_from, epoch_due, write_packets, after_turn, wrote}
-use Rattle.tk_member.specs.Acting.{ahead_due, goes_ahead, ticks_due, goes_by_ticks, may_ask, asks, asks_if_due, acts}
-use Rattle.tk_report.proofs.Offers.{each-weaker}
-use Rattle.tk_meeting.specs.OwnBooks.{AgreesForClient}
+use Rattle.tk_meeting.proofs.Terms.{◌≡◌, ℕ, List, map, ◌+◌, cond, ◌-◌, Bool, true, false, replicate, Option, Some, None}
+use Rattle.tk_meeting.proofs.Terms.{◌∙◌, refl, ap, sym, zero, suc, subst, ap₂, range_with_len, vector_len, Shape}
+use Rattle.tk_meeting.proofs.Terms.{shares, WordBook, words_of, BookWords, BothBuckets, all_marked, write_frame}
+use Rattle.tk_meeting.proofs.Terms.{read_frame, ReadFrame, WriteFrame, Script, frame_with, pair_for, frame_for, asked}
+use Rattle.tk_meeting.proofs.Terms.{shown_by, target_over, Reader, Follow, at_epoch, target, write_of, first_waiting}
+use Rattle.tk_meeting.proofs.Terms.{Target, Waiting, each-weaker, PacketView, ActedMember, acts, behind, wrote, packets_from}
+use Rattle.tk_meeting.proofs.Terms.{may_ask, asks, asks_if_due, unmoved, epoch_due, goes_ahead, goes_by_ticks}
+use Rattle.tk_meeting.proofs.Terms.{ahead_due, ticks_due, followed_by, write_packets, after_turn, filter_of, marks_at}
+use Rattle.tk_meeting.proofs.Terms.{MemberState, AgreesForClient}
+use Rattle.tk_client.specs.Client.{opened}
 use Rattle.tk_meeting.proofs.own.Words.{IsUsed, IsOwnTextOrNone, write-same, pair-same, hits-same}
 use Rattle.tk_meeting.proofs.own.Reading.{Follows, IsFoundOrNone, target-same, target-found, epoch-follows}
 use Rattle.tk_meeting.proofs.own.Clients.{first-own, write-own, IsOwn}

@@ -1,17 +1,9 @@
 -- A client that has, says and reads no log but those that it uses; and that it stays so.
-use Rattle.std.proofs.Common.{◌≡◌, refl, sym, subst, ℕ, Bool, true, false, List, [], ◌∷◌, map, drop, Option, Some, None}
-use Rattle.std.specs.Prelude.{◌==◌, ◌||◌, slice_get}
-use Rattle.std.specs.List.{AllByRecursion}
-use Rattle.std.proofs.lemmas.Bool.{eqb-true, false≢true}
-use Rattle.tk_script.specs.declared.script.Script.{Script}
-use Rattle.tk_client.specs.declared.open_read.OpenRead.{OpenRead}
-use Rattle.tk_client.specs.declared.waiting.Waiting.{Waiting}
-use Rattle.tk_client.specs.declared.written.Written.{Written}
-use Rattle.tk_client.specs.Writing.{Writing, with_text, one_more_of, count_of, after_write, first_waiting}
-use Rattle.tk_client.specs.Saying.{is_written}
-use Rattle.tk_client.specs.Reader.{Reader, at_epoch}
-use Rattle.tk_client.specs.Client.{ClientState}
-use Rattle.tk_report.proofs.Offers.{one_more-log, each-append}
+use Rattle.tk_meeting.proofs.Terms.{◌≡◌, ℕ, List, [], ◌∷◌, map, ◌==◌, Bool, true, false, Option, Some, None, refl, sym}
+use Rattle.tk_meeting.proofs.Terms.{subst, drop, eqb-true, slice_get, false≢true, AllByRecursion, ◌||◌, Script}
+use Rattle.tk_meeting.proofs.Terms.{ClientState, Reader, at_epoch, is_written, Writing, with_text, count_of}
+use Rattle.tk_meeting.proofs.Terms.{first_waiting, after_write, one_more_of, OpenRead, Waiting, Written, each-append}
+use Rattle.tk_meeting.proofs.Terms.{one_more-log}
 use Rattle.tk_meeting.proofs.own.Words.{IsUsed, IsOwnTextOrNone}
 use Rattle.tk_meeting.proofs.own.Reading.{Follows, IsFoundOrNone}
 

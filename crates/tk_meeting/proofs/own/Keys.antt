@@ -1,14 +1,10 @@
 -- A keyed book with a client's keys is one that serves the client.
-use Rattle.std.proofs.Common.{refl, ap, ℕ, ◌+◌, ◌*◌, List, cond}
-use Rattle.std.specs.Prelude.{◌==◌, ◌%◌}
+use Rattle.tk_meeting.proofs.Terms.{ℕ, List, ◌+◌, ◌==◌, cond, ◌*◌, refl, ap, ◌%◌, vector_len, seed_len, keyed_pad}
+use Rattle.tk_meeting.proofs.Terms.{keyed_tag, for_each, fresh_seeds, fresh_vectors, hits_of, fresh_write, pair_of}
+use Rattle.tk_meeting.proofs.Terms.{pad_of, tag_of, fresh_pair, keyed_write, keyed_for_both, OwnKeysServe}
 use Rattle.tk_handle.specs.declared.handle.Handle.{Handle}
 use Rattle.tk_choice.specs.Choice.{keyed_pair, keyed_hits}
-use Rattle.tk_seal.specs.Seal.{keyed_pad, keyed_tag}
 use Rattle.tk_handle.specs.Handle.{word, expanded}
-use Rattle.tk_shape.specs.Lengths.{seed_len, vector_len}
-use Rattle.tk_words.specs.Words.{pair_of, hits_of, pad_of, tag_of, fresh_write, fresh_pair, fresh_seeds, fresh_vectors}
-use Rattle.tk_words.specs.Words.{keyed_write, keyed_for_both, for_each}
-use Rattle.tk_meeting.specs.OwnBooks.{OwnKeysServe}
 
 pub own-keys-serve : OwnKeysServe
 unfolding pair_of hits_of pad_of tag_of fresh_write fresh_pair fresh_seeds fresh_vectors

@@ -1,20 +1,10 @@
 -- A group in which each client has a book of its own does what one does that has one book.
-use Rattle.std.proofs.Common.{◌≡◌, refl, ap, ◌∙◌, ltb-true, ℕ, ◌<◌, Bool, true, false, cond}
-use Rattle.std.proofs.Common.{List, [], ◌∷◌, Option, Some, None}
-use Rattle.std.specs.Prelude.{◌&&◌, Result, Ok, Err}
-use Rattle.tk_script.specs.declared.script.Script.{Script}
-use Rattle.tk_words.specs.Words.{WordBook}
-use Rattle.tk_client.specs.declared.say_error.SayError.{SayError}
-use Rattle.tk_member.specs.declared.fault.Fault.{Fault}
-use Rattle.tk_member.specs.declared.word.HostWord.{HostWord}
-use Rattle.tk_member.specs.declared.word.HostWord.TheVariants.{Say, Tick, Ahead, Has}
-use Rattle.tk_member.specs.Acting.{ActedMember}
-use Rattle.tk_member.specs.Steps.{heard, served}
-use Rattle.tk_meeting.specs.Meeting.{Meeting, Saying, opening, changed, member_went}
-use Rattle.tk_meeting.specs.Events.{Event, Said, Ticked, WentAhead, Greeted, Up, Down}
-use Rattle.tk_meeting.specs.Events.{noted, say_fault, hears, greeting_of, comes_up, comes_down, unless_ended}
-use Rattle.tk_meeting.specs.Events.{is_client, is_server, client_does, happens, after_events, met}
-use Rattle.tk_meeting.specs.OwnBooks.{HaveKeys}
+use Rattle.tk_meeting.proofs.Terms.{◌≡◌, ℕ, ◌<◌, List, [], ◌∷◌, cond, Bool, true, false, Option, Some, None, Result, Ok}
+use Rattle.tk_meeting.proofs.Terms.{◌∙◌, refl, ap, ltb-true, Err, ◌&&◌, WordBook, Script, SayError, ActedMember, served}
+use Rattle.tk_meeting.proofs.Terms.{heard, Fault, HostWord, Say, Tick, Ahead, Has, Event, Said, Ticked, WentAhead}
+use Rattle.tk_meeting.proofs.Terms.{Greeted, Up, Down, is_client, is_server, comes_down, met, happens, after_events}
+use Rattle.tk_meeting.proofs.Terms.{client_does, unless_ended, hears, noted, say_fault, greeting_of, comes_up, Saying}
+use Rattle.tk_meeting.proofs.Terms.{changed, Meeting, member_went, opening, HaveKeys}
 use Rattle.tk_meeting.proofs.own.Clients.{IsOwn}
 use Rattle.tk_meeting.proofs.own.Steps.{GoesOn, StepsAlike, heard-alike, served-alike}
 use Rattle.tk_meeting.proofs.own.Openings.{opening-own}

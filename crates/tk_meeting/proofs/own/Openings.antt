@@ -1,17 +1,8 @@
 -- At first each client has the logs that it writes and those that it follows.
-use Rattle.std.proofs.Common.{◌≡◌, refl, arith, inl, inr, ℕ, zero, suc, ◌+◌, ◌<◌, ◌≤◌, Bool, true, false, cond}
-use Rattle.std.proofs.Common.{List, [], ◌∷◌, map, filter}
-use Rattle.std.specs.Prelude.{◌==◌}
-use Rattle.std.specs.List.{AllByRecursion, range_with_len}
-use Rattle.std.proofs.lemmas.Bool.{eqb-true}
-use Rattle.tk_script.specs.declared.script.Script.{Script}
-use Rattle.tk_script.specs.Sent.{writer_of}
-use Rattle.tk_client.specs.declared.written.Written.{Written}
-use Rattle.tk_client.specs.Reader.{Follow, new_follow}
-use Rattle.tk_client.specs.Writing.{unwritten}
-use Rattle.tk_client.specs.Client.{new_client}
-use Rattle.tk_report.specs.Queues.{writes_of}
-use Rattle.tk_report.specs.Report.{follows_of, is_follower}
+use Rattle.tk_meeting.proofs.Terms.{◌≡◌, ℕ, ◌≤◌, ◌<◌, List, [], ◌∷◌, map, ◌+◌, ◌==◌, cond, Bool, true, false, filter}
+use Rattle.tk_meeting.proofs.Terms.{refl, zero, suc, arith, eqb-true, inl, inr, range_with_len, AllByRecursion}
+use Rattle.tk_meeting.proofs.Terms.{writer_of, Script, new_client, Follow, new_follow, unwritten, Written, writes_of}
+use Rattle.tk_meeting.proofs.Terms.{follows_of, is_follower}
 use Rattle.tk_meeting.proofs.own.Words.{IsUsed}
 use Rattle.tk_meeting.proofs.own.Clients.{IsOwn}
 

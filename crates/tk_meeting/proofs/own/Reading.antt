@@ -1,18 +1,10 @@
 -- What a reader reads is the same by its client's own book: it looks at numbers of followed logs alone.
-use Rattle.std.proofs.Common.{◌≡◌, refl, ap, ap₂, sym, subst, arith}
-use Rattle.std.proofs.Common.{ℕ, zero, suc, ◌+◌, ◌-◌, ◌≤◌, ◌<◌, Bool, true, false, cond, List, [], ◌∷◌, length}
-use Rattle.std.proofs.Common.{map, Option, Some, None}
-use Rattle.std.specs.Prelude.{nat_lt, ◌==◌, ◌&&◌, find, option_map, slice_set, ◌%◌}
-use Rattle.std.specs.Option.{option_or}
-use Rattle.std.specs.List.{AllByRecursion, range_with_len}
-use Rattle.std.proofs.lemmas.Nat.{mod_below}
-use Rattle.tk_shape.specs.declared.shape.Shape.{Shape}
-use Rattle.tk_shape.specs.Lengths.{turn_count}
-use Rattle.tk_frames.specs.Lists.{first_some}
-use Rattle.tk_client.specs.Reader.{Follow, Reader, next_of, wanted, follow_in, number_ahead}
-use Rattle.tk_client.specs.declared.target.Target.{Target}
-use Rattle.tk_client.specs.Reader.{target_in, places_from_cursor, target, untried, at_epoch, follow_after, after_read}
-use Rattle.tk_report.proofs.Offers.{after-log, each-append}
+use Rattle.tk_meeting.proofs.Terms.{◌≡◌, ℕ, ◌≤◌, ◌<◌, List, [], ◌∷◌, length, map, ◌+◌, ◌==◌, cond, ◌-◌, Bool, true}
+use Rattle.tk_meeting.proofs.Terms.{false, Option, Some, None, refl, ap, sym, zero, suc, arith, subst, ◌%◌, ap₂}
+use Rattle.tk_meeting.proofs.Terms.{slice_set, mod_below, range_with_len, AllByRecursion, option_or, nat_lt, ◌&&◌}
+use Rattle.tk_meeting.proofs.Terms.{option_map, find, turn_count, Shape, first_some, Reader, Follow, next_of, untried}
+use Rattle.tk_meeting.proofs.Terms.{at_epoch, follow_after, after_read, target, follow_in, wanted, number_ahead}
+use Rattle.tk_meeting.proofs.Terms.{target_in, places_from_cursor, Target, after-log, each-append}
 
 -- the logs of a reader are of a kind, and its search begins among them
 pub record Follows (P : ℕ → Type 0) (r : Reader) : Type 0 where

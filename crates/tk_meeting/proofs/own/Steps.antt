@@ -1,38 +1,15 @@
 -- What a member does with what comes to it is the same by its own book.
-use Rattle.std.proofs.Common.{◌≡◌, refl, ap, ap₂, sym, ◌∙◌, subst, ℕ, ◌+◌, ◌-◌, Bool, true, false, cond}
-use Rattle.std.proofs.Common.{List, [], ◌∷◌, Option, Some, None}
-use Rattle.std.specs.Prelude.{◌==◌, ◌||◌, nat_lt, slice_index, slice_index_or, Result, Ok, Err}
-use Rattle.std.specs.List.{AllByRecursion}
-use Rattle.std.specs.Option.{is_none, is_some}
-use Rattle.std.proofs.lemmas.Option.{none-some}
-use Rattle.tk_shape.specs.declared.shape.Shape.{Shape}
-use Rattle.tk_script.specs.declared.script.Script.{Script}
-use Rattle.tk_words.specs.Words.{WordBook, BookWords, words_of}
-use Rattle.tk_frames.specs.declared.reply_frame.ReplyFrame.{ReplyFrame}
-use Rattle.tk_frames.specs.Slots.{text_from}
-use Rattle.tk_client.specs.declared.open_read.OpenRead.{OpenRead}
-use Rattle.tk_client.specs.declared.say_error.SayError.{SayError}
-use Rattle.tk_client.specs.declared.say_error.SayError.TheVariants.{NotWriter}
-use Rattle.tk_client.specs.declared.take_error.TakeError.{TakeError}
-use Rattle.tk_client.specs.declared.target.Target.{Target}
-use Rattle.tk_client.specs.declared.written.Written.{Written}
-use Rattle.tk_client.specs.Writing.{with_text}
-use Rattle.tk_client.specs.Saying.{fault_of, text_fault, is_written}
-use Rattle.tk_client.specs.Replies.{frames_in, answer_in, first_joined, second_joined}
-use Rattle.tk_client.specs.Reader.{Reader, at_epoch, after_read}
-use Rattle.tk_client.specs.Client.{ClientState, reader_after, after_replies, refusal_in}
-use Rattle.tk_packets.specs.Packets.{PacketView}
-use Rattle.tk_member.specs.declared.fault.Fault.{Fault}
-use Rattle.tk_member.specs.declared.fault.Fault.TheVariants.{Peer, Refused, Older}
-use Rattle.tk_member.specs.declared.word.HostWord.{HostWord}
-use Rattle.tk_member.specs.declared.word.HostWord.TheVariants.{Say, Tick, Ahead, Has}
-use Rattle.tk_member.specs.Epochs.{ToldMarks, with_epoch}
-use Rattle.tk_member.specs.Members.{MemberState, no_replies}
-use Rattle.tk_member.specs.Acting.{ActedMember, behind}
-use Rattle.tk_member.specs.News.{news, refused_packet}
-use Rattle.tk_member.specs.Steps.{tells_and_acts, said, heard, settled, settled_by, with_reply, replied, told_epoch}
-use Rattle.tk_member.specs.Steps.{served, all_of, told_after, after_settling, counted_up}
-use Rattle.tk_meeting.specs.OwnBooks.{AgreesForClient}
+use Rattle.tk_meeting.proofs.Terms.{◌≡◌, ℕ, List, [], ◌∷◌, ◌+◌, ◌==◌, cond, ◌-◌, Bool, true, false, Option, Some, None}
+use Rattle.tk_meeting.proofs.Terms.{Result, Ok, ◌∙◌, refl, ap, sym, subst, ap₂, slice_index_or, Err, none-some}
+use Rattle.tk_meeting.proofs.Terms.{AllByRecursion, is_none, is_some, nat_lt, slice_index, ◌||◌, Shape, WordBook}
+use Rattle.tk_meeting.proofs.Terms.{words_of, BookWords, text_from, ReplyFrame, Script, refusal_in, reader_after}
+use Rattle.tk_meeting.proofs.Terms.{ClientState, after_replies, Reader, at_epoch, after_read, answer_in, frames_in}
+use Rattle.tk_meeting.proofs.Terms.{first_joined, second_joined, fault_of, text_fault, is_written, with_text, OpenRead}
+use Rattle.tk_meeting.proofs.Terms.{SayError, NotWriter, TakeError, Target, Written, PacketView, ActedMember, behind}
+use Rattle.tk_meeting.proofs.Terms.{ToldMarks, with_epoch, MemberState, no_replies, news, refused_packet, tells_and_acts}
+use Rattle.tk_meeting.proofs.Terms.{served, heard, settled, counted_up, said, all_of, after_settling, settled_by}
+use Rattle.tk_meeting.proofs.Terms.{with_reply, replied, told_epoch, told_after, Fault, Peer, Older, Refused, HostWord}
+use Rattle.tk_meeting.proofs.Terms.{Say, Tick, Ahead, Has, AgreesForClient}
 use Rattle.tk_meeting.proofs.own.Words.{IsUsed, pair-same, opened-same}
 use Rattle.tk_meeting.proofs.own.Reading.{Follows, IsFoundOrNone, epoch-follows, read-follows}
 use Rattle.tk_meeting.proofs.own.Clients.{text-own, written-used, IsOwn, OpensOwn}

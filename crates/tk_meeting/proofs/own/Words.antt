@@ -1,11 +1,7 @@
 -- The words that a client's own book has are those of the group's book, where the client uses them.
-use Rattle.std.proofs.Common.{◌≡◌, ap, ap₂, ℕ, ◌<◌, List, Option, Some, None}
-use Rattle.tk_script.specs.declared.script.Script.{Script}
-use Rattle.tk_words.specs.Words.{WordBook, BookWords, words_of, sealed, opened}
-use Rattle.tk_seal.specs.Seal.{sealed_with, opened_with}
-use Rattle.tk_client.specs.declared.waiting.Waiting.{Waiting}
-use Rattle.tk_client.specs.Writes.{write_of, dummy}
-use Rattle.tk_meeting.specs.OwnBooks.{Uses, AgreesForClient}
+use Rattle.tk_meeting.proofs.Terms.{◌≡◌, ℕ, ◌<◌, List, Option, Some, None, ap, ap₂, sealed_with, opened_with, WordBook}
+use Rattle.tk_meeting.proofs.Terms.{words_of, opened, BookWords, sealed, Script, dummy, write_of, Waiting, AgreesForClient}
+use Rattle.tk_meeting.proofs.Terms.{Uses}
 
 -- a log that a client uses
 pub record IsUsed (S : Script) (c log : ℕ) : Type 0 where

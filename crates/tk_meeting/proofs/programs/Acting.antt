@@ -1,17 +1,8 @@
 -- What a member has put at any moment, and that no packet but the last ended it.
-use Rattle.std.proofs.Common.{◌≡◌, ℕ, Bool, true, false, cond, List, [], ◌∷◌, ◌++◌}
-use Rattle.std.specs.Prelude.{Some, None, Result, Ok, Err}
-use Rattle.std.specs.Simd.Lanes.{fold_l}
-use Rattle.tk_script.specs.declared.script.Script.{Script}
-use Rattle.tk_words.specs.Words.{WordBook}
-use Rattle.tk_packets.specs.Packets.{PacketView}
-use Rattle.tk_packets.specs.Lines.{Passing, taken}
-use Rattle.tk_member.specs.declared.fault.Fault.{Fault}
-use Rattle.tk_member.specs.Members.{MemberState, is_over}
-use Rattle.tk_member.specs.Acting.{ActedMember, unmoved, behind}
-use Rattle.tk_member.specs.Steps.{step}
-use Rattle.tk_member.specs.Courses.{behind_if, after_packet, after_packets, stood_by, member_next, sends_next, exchanged}
-use Rattle.tk_meeting.specs.Programs.{first_member, ActsAsMember}
+use Rattle.tk_meeting.proofs.Terms.{◌≡◌, ℕ, List, [], ◌∷◌, cond, ◌++◌, Bool, true, false, Some, None, Result, Ok, Err}
+use Rattle.tk_meeting.proofs.Terms.{fold_l, WordBook, Script, Passing, taken, PacketView, ActedMember, behind, unmoved}
+use Rattle.tk_meeting.proofs.Terms.{after_packets, behind_if, after_packet, stood_by, member_next, sends_next}
+use Rattle.tk_meeting.proofs.Terms.{exchanged, MemberState, is_over, step, Fault, first_member, ActsAsMember}
 use Rattle.tk_meeting.proofs.programs.Moments.{Moment, moment, up-to}
 use Rattle.tk_meeting.proofs.programs.Standing.{IsTaken, AllTaken}
 

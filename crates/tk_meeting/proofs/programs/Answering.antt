@@ -1,10 +1,7 @@
 -- What a server has put at any moment.
-use Rattle.std.proofs.Common.{◌≡◌, List, [], ◌++◌}
-use Rattle.tk_shape.specs.declared.shape.Shape.{Shape}
-use Rattle.tk_packets.specs.Lines.{Passing, taken}
-use Rattle.tk_serve.specs.Seats.{empty_seats}
-use Rattle.tk_serve.specs.Courses.{seats_next, answers_next, exchanged}
-use Rattle.tk_meeting.specs.Programs.{ActsAsServer}
+use Rattle.tk_meeting.proofs.Terms.{◌≡◌, List, [], ◌++◌, Shape, Passing, taken, seats_next, answers_next, empty_seats}
+use Rattle.tk_meeting.proofs.Terms.{ActsAsServer}
+use Rattle.tk_serve.specs.Courses.{exchanged}
 use Rattle.tk_meeting.proofs.programs.Moments.{Moment, moment, up-to}
 
 pub server-moment : (shape : Shape) (past xs ys : List Passing) (acts : ActsAsServer shape past) → xs ++ ys ≡ past →

@@ -1,19 +1,10 @@
 -- What the clauses of a member say of what passed over its line.
-use Rattle.std.proofs.Common.{◌≡◌, ◌∙◌, refl, ℕ, ap, sym, subst, List, [], ◌∷◌, ◌++◌, length, take, append-nil}
-use Rattle.std.specs.Prelude.{Option, Some, None, Result, Ok, Err}
-use Rattle.std.proofs.Math.Seq.{take-append_seam}
-use Rattle.tk_script.specs.declared.script.Script.{Script}
-use Rattle.tk_words.specs.Words.{WordBook}
-use Rattle.tk_packets.specs.Packets.{PacketView}
-use Rattle.tk_packets.specs.Lines.{Passing, Took, Gone, passed, taken, after_taking}
-use Rattle.tk_packets.proofs.Offers.{passed-twice}
-use Rattle.tk_member.specs.declared.fault.Fault.{Fault}
-use Rattle.tk_member.specs.declared.fault.Fault.TheVariants.{Memory, Read, Write, Cut, Long, Setup}
-use Rattle.tk_member.specs.declared.fault.Fault.TheVariants.{Peer, Differ, Refused, Older}
-use Rattle.tk_member.specs.Members.{MemberState}
-use Rattle.tk_member.specs.Acting.{ActedMember}
-use Rattle.tk_member.specs.Courses.{Told, exchanged, IsCourse, EndsBetween, EndsAt, EndsWriting, EndsFor, Ends}
-use Rattle.tk_meeting.specs.Programs.{first_member, HasActed, MembersAct}
+use Rattle.tk_meeting.proofs.Terms.{◌≡◌, ℕ, List, [], ◌∷◌, length, ◌++◌, Option, Some, None, Result, Ok, ◌∙◌, refl, ap}
+use Rattle.tk_meeting.proofs.Terms.{sym, subst, append-nil, take, Err, take-append_seam, WordBook, Script, passed-twice}
+use Rattle.tk_meeting.proofs.Terms.{Passing, taken, Took, Gone, passed, after_taking, PacketView, ActedMember, exchanged}
+use Rattle.tk_meeting.proofs.Terms.{Told, IsCourse, EndsBetween, EndsAt, EndsWriting, EndsFor, Ends, MemberState, Fault}
+use Rattle.tk_meeting.proofs.Terms.{Peer, Older, Refused, Differ, Memory, Read, Write, Cut, Long, Setup, first_member}
+use Rattle.tk_meeting.proofs.Terms.{HasActed, MembersAct}
 
 -- all of a list is a front of it, and of it with nothing behind it
 pub front-all : (xs : List Passing) → xs ≡ take (length xs) xs

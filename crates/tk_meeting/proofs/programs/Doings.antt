@@ -1,11 +1,7 @@
 -- What each program took, when one of them did one thing more.
-use Rattle.std.proofs.Common.{◌≡◌, refl, ap, ◌∙◌, ℕ, cond, List, [], ◌∷◌, ◌++◌, append-nil}
-use Rattle.std.specs.Prelude.{◌==◌}
-use Rattle.std.proofs.lemmas.Bool.{eqb-true}
-use Rattle.tk_packets.specs.Packets.{PacketView}
-use Rattle.tk_packets.specs.Lines.{Passing, Took, Put}
-use Rattle.tk_meeting.specs.Meeting.{changed}
-use Rattle.tk_meeting.specs.Programs.{Doing, OfClient, OfServer, of_client, of_server, taken_in}
+use Rattle.tk_meeting.proofs.Terms.{◌≡◌, ℕ, List, [], ◌∷◌, ◌==◌, cond, ◌++◌, ◌∙◌, refl, ap, append-nil, eqb-true}
+use Rattle.tk_meeting.proofs.Terms.{Passing, Took, Put, PacketView, changed, Doing, OfClient, OfServer, of_client}
+use Rattle.tk_meeting.proofs.Terms.{of_server, taken_in}
 use Rattle.tk_meeting.proofs.courses.Picks.{pick}
 use Rattle.tk_meeting.proofs.programs.Moments.{taken-append}
 

@@ -1,24 +1,11 @@
 -- What each event of a member does is what its packet does.
-use Rattle.std.proofs.Common.{◌≡◌, ◌∙◌, refl, ap, ap₂, sym, subst, arith, ℕ, ◌+◌, ◌≤◌, ◌<◌, Bool, cond}
-use Rattle.std.proofs.Common.{List, [], ◌∷◌, ◌++◌}
-use Rattle.std.specs.Prelude.{nat_le, Option, Some, None, Err}
-use Rattle.std.proofs.lemmas.Bool.{eq-eqb, ne_eqb, le-leb}
-use Rattle.tk_shape.specs.declared.shape.Shape.{Shape}
-use Rattle.tk_script.specs.declared.script.Script.{Script}
-use Rattle.tk_words.specs.Words.{WordBook}
-use Rattle.tk_client.specs.declared.say_error.SayError.{SayError}
-use Rattle.tk_packets.specs.Packets.{PacketView}
-use Rattle.tk_member.specs.declared.fault.Fault.{Fault}
-use Rattle.tk_member.specs.declared.fault.Fault.TheVariants.{Peer}
-use Rattle.tk_member.specs.declared.word.HostWord.{HostWord}
-use Rattle.tk_member.specs.declared.word.HostWord.TheVariants.{Say, Tick, Ahead, Has}
-use Rattle.tk_member.specs.Words.{word_in}
-use Rattle.tk_member.specs.Members.{MemberState}
-use Rattle.tk_member.specs.Steps.{heard, served, step}
-use Rattle.tk_meeting.specs.Meeting.{Meeting, Saying, changed, member_went, frames_for}
-use Rattle.tk_meeting.specs.Events.{Said, Ticked, WentAhead, Greeted, Down, noted, say_fault, hears, taken_of}
-use Rattle.tk_meeting.specs.Events.{greeting_of, comes_down, unless_ended, client_does, happens}
-use Rattle.tk_meeting.specs.Programs.{first_member}
+use Rattle.tk_meeting.proofs.Terms.{◌≡◌, ℕ, ◌≤◌, ◌<◌, List, [], ◌∷◌, ◌+◌, cond, ◌++◌, Bool, Option, Some, None, ◌∙◌}
+use Rattle.tk_meeting.proofs.Terms.{refl, ap, sym, arith, subst, le-leb, eq-eqb, ap₂, ne_eqb, Err, nat_le, Shape}
+use Rattle.tk_meeting.proofs.Terms.{WordBook, Script, SayError, PacketView, MemberState, served, step, heard, word_in}
+use Rattle.tk_meeting.proofs.Terms.{Fault, Peer, HostWord, Say, Tick, Ahead, Has, Said, Ticked, WentAhead, Greeted}
+use Rattle.tk_meeting.proofs.Terms.{Down, comes_down, happens, client_does, unless_ended, hears, noted, say_fault}
+use Rattle.tk_meeting.proofs.Terms.{greeting_of, taken_of, Saying, changed, frames_for, Meeting, member_went}
+use Rattle.tk_meeting.proofs.Terms.{first_member}
 use Rattle.tk_meeting.proofs.courses.Picks.{at-place}
 use Rattle.tk_meeting.proofs.programs.Shapes.{shape-after}
 use Rattle.tk_meeting.proofs.programs.Doings.{one_more}

@@ -1,22 +1,12 @@
 -- Programs whose streams agree are some meeting: an event for each packet that is taken.
-use Rattle.std.proofs.Common.{◌≡◌, ◌∙◌, refl, ap, sym, subst, ℕ, ◌+◌, ◌≤◌, ◌<◌, cond}
-use Rattle.std.proofs.Common.{List, [], ◌∷◌, ◌++◌, length, append_assoc, append-nil, inl, inr}
-use Rattle.std.specs.Prelude.{Some, None}
-use Rattle.tk_script.specs.declared.script.Script.{Script}
-use Rattle.tk_words.specs.Words.{WordBook}
-use Rattle.tk_packets.specs.Packets.{PacketView}
-use Rattle.tk_packets.specs.Lines.{Took, Put}
-use Rattle.tk_serve.specs.Seats.{Seat, seat_of, empty_seats}
-use Rattle.tk_serve.specs.Steps.{seats_after}
-use Rattle.tk_member.specs.declared.word.HostWord.{HostWord}
-use Rattle.tk_member.specs.declared.word.HostWord.TheVariants.{Say, Tick, Ahead, Has}
-use Rattle.tk_member.specs.Words.{word_in}
-use Rattle.tk_serve.proofs.Offers.{after-is}
-use Rattle.tk_meeting.specs.Meeting.{Meeting, opening, for_peer, frames_for}
-use Rattle.tk_meeting.specs.Events.{Event, Said, Ticked, WentAhead, Greeted, Up, Down, happens, after_events, met, taken_of}
-use Rattle.tk_meeting.specs.Programs.{Doing, OfClient, OfServer, of_client, of_server, put_in, first_member}
-use Rattle.tk_meeting.specs.Programs.{IsFront, IsNextFrame, IsFrameUp, IsFrameDown, IsHonest, MayHappen, ArePrograms}
-use Rattle.tk_meeting.specs.Programs.{StandAsPrograms, IsSomeMeeting, ProgramsMeet}
+use Rattle.tk_meeting.proofs.Terms.{◌≡◌, ℕ, ◌≤◌, ◌<◌, List, [], ◌∷◌, length, ◌+◌, cond, ◌++◌, Some, None, ◌∙◌, refl, ap}
+use Rattle.tk_meeting.proofs.Terms.{sym, subst, append-nil, inl, inr, append_assoc, WordBook, Script, Took, Put}
+use Rattle.tk_meeting.proofs.Terms.{PacketView, after-is, Seat, seat_of, empty_seats, seats_after, word_in, HostWord}
+use Rattle.tk_meeting.proofs.Terms.{Say, Tick, Ahead, Has, Event, Said, Ticked, WentAhead, Greeted, Up, Down, met}
+use Rattle.tk_meeting.proofs.Terms.{happens, after_events, taken_of, for_peer, frames_for, Meeting, opening}
+use Rattle.tk_meeting.proofs.Terms.{first_member, Doing, OfClient, OfServer, of_client, of_server, put_in, IsFront}
+use Rattle.tk_meeting.proofs.Terms.{IsNextFrame, IsFrameUp, IsFrameDown, IsHonest, MayHappen, ArePrograms, StandAsPrograms}
+use Rattle.tk_meeting.proofs.Terms.{IsSomeMeeting, ProgramsMeet}
 use Rattle.tk_meeting.proofs.courses.Picks.{itself}
 use Rattle.tk_meeting.proofs.telling.Growing.{after-append}
 use Rattle.tk_meeting.proofs.members.Packets.{peer-append, frames-append}

@@ -1,10 +1,7 @@
 -- What a program that answers packets has put at any moment, and what it has taken.
-use Rattle.std.proofs.Common.{◌≡◌, refl, ap, sym, ◌∙◌, subst, List, [], ◌∷◌, ◌++◌, map, take, drop, append_assoc, append-nil}
-use Rattle.std.proofs.Common.{ℕ, take-append-drop}
-use Rattle.std.specs.Prelude.{Option, Some, None}
-use Rattle.tk_packets.specs.Packets.{PacketView}
-use Rattle.tk_packets.specs.Lines.{Passing, Took, Put, taken, exchanges}
-use Rattle.tk_meeting.specs.Programs.{taken_in, put_in, IsFront, state_after}
+use Rattle.tk_meeting.proofs.Terms.{◌≡◌, ℕ, List, [], ◌∷◌, map, ◌++◌, Option, Some, None, ◌∙◌, refl, ap, sym, subst}
+use Rattle.tk_meeting.proofs.Terms.{append-nil, drop, append_assoc, take, take-append-drop, Passing, taken, Took, Put}
+use Rattle.tk_meeting.proofs.Terms.{exchanges, PacketView, taken_in, put_in, IsFront, state_after}
 
 pub taken-append : (xs ys : List Passing) → taken_in (xs ++ ys) ≡ taken_in xs ++ taken_in ys
 taken-append [] ys = refl

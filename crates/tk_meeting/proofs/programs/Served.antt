@@ -1,11 +1,8 @@
 -- What the clauses of a server say of what passed over its line.
-use Rattle.std.proofs.Common.{refl, sym, [], ◌++◌, length, take, inl, inr}
-use Rattle.std.specs.Prelude.{None}
-use Rattle.std.proofs.Math.Seq.{take-append_seam}
-use Rattle.tk_packets.specs.Lines.{taken}
+use Rattle.tk_meeting.proofs.Terms.{[], length, ◌++◌, None, refl, sym, inl, inr, take, take-append_seam, taken}
+use Rattle.tk_meeting.proofs.Terms.{ServersAct}
 use Rattle.tk_serve.specs.Setup.{setup}
 use Rattle.tk_serve.specs.Courses.{exchanged}
-use Rattle.tk_meeting.specs.Programs.{ServersAct}
 use Rattle.tk_meeting.proofs.programs.Clauses.{begun}
 
 pub servers-act : ServersAct

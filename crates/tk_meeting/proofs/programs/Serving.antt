@@ -1,17 +1,10 @@
 -- A server takes a client's next frame.
-use Rattle.std.proofs.Common.{◌≡◌, ◌∙◌, refl, ap, ap₂, sym, subst, arith, ℕ, ◌+◌, ◌-◌, ◌≤◌, ◌<◌, Bool, true, cond}
-use Rattle.std.proofs.Common.{List, [], ◌∷◌, ◌++◌, map, append_assoc, append-nil}
-use Rattle.std.specs.Prelude.{◌==◌, ◌&&◌}
-use Rattle.std.proofs.lemmas.Bool.{eqb-false, eq-eqb, ne_eqb, lt-ltb, le-leb}
-use Rattle.tk_script.specs.declared.script.Script.{Script}
-use Rattle.tk_words.specs.Words.{WordBook}
-use Rattle.tk_packets.specs.Packets.{PacketView}
-use Rattle.tk_serve.specs.Seats.{empty_seats}
-use Rattle.tk_serve.specs.Steps.{SeatsAndPackets, step, step_on}
-use Rattle.tk_serve.specs.Courses.{seats_next, answers_next}
-use Rattle.tk_meeting.specs.Meeting.{Meeting, changed, server_went, frames_for}
-use Rattle.tk_meeting.specs.Events.{Up, is_client, is_server, happens, comes_up}
-use Rattle.tk_meeting.specs.Programs.{seats_from}
+use Rattle.tk_meeting.proofs.Terms.{◌≡◌, ℕ, ◌≤◌, ◌<◌, List, [], ◌∷◌, map, ◌+◌, ◌==◌, cond, ◌++◌, ◌-◌, Bool, true, ◌∙◌}
+use Rattle.tk_meeting.proofs.Terms.{refl, ap, sym, arith, subst, append-nil, lt-ltb, le-leb, eq-eqb, append_assoc, ap₂}
+use Rattle.tk_meeting.proofs.Terms.{ne_eqb, eqb-false, ◌&&◌, WordBook, Script, PacketView, seats_next, answers_next}
+use Rattle.tk_meeting.proofs.Terms.{empty_seats, SeatsAndPackets, step_on, Up, is_client, is_server, happens, comes_up, changed}
+use Rattle.tk_meeting.proofs.Terms.{frames_for, Meeting, server_went, seats_from}
+use Rattle.tk_serve.specs.Steps.{step}
 use Rattle.tk_meeting.proofs.courses.Picks.{at-place, pick}
 use Rattle.tk_meeting.proofs.members.Packets.{frames-append}
 use Rattle.tk_meeting.proofs.programs.Moments.{state-one, sent-one}

@@ -1,14 +1,6 @@
 -- A member's shape stays, whatever comes.
-use Rattle.std.proofs.Common.{◌≡◌, refl, ap, ◌∙◌, List, [], ◌∷◌, ℕ, Result, Ok, Err}
-use Rattle.tk_shape.specs.declared.shape.Shape.{Shape}
-use Rattle.tk_words.specs.Words.{WordBook}
-use Rattle.tk_packets.specs.Packets.{PacketView}
-use Rattle.tk_member.specs.declared.fault.Fault.{Fault}
-use Rattle.tk_member.specs.Members.{MemberState}
-use Rattle.tk_member.specs.Acting.{ActedMember}
-use Rattle.tk_member.specs.Steps.{step}
-use Rattle.tk_member.specs.Courses.{stood_by, member_next}
-use Rattle.tk_meeting.specs.Programs.{state_after}
+use Rattle.tk_meeting.proofs.Terms.{◌≡◌, ℕ, List, [], ◌∷◌, Result, Ok, ◌∙◌, refl, ap, Err, Shape, WordBook, PacketView}
+use Rattle.tk_meeting.proofs.Terms.{ActedMember, stood_by, member_next, MemberState, step, Fault, state_after}
 use Rattle.tk_meeting.proofs.scripts.Lasting.{base_of, LastsIn, step-lasts}
 
 -- after a packet, whether it ends the member or not

@@ -1,18 +1,8 @@
 -- A meeting that stands where programs do, by what each of them took.
-use Rattle.std.proofs.Common.{◌≡◌, ℕ, ◌+◌, ◌≤◌, ◌<◌, List, [], ◌∷◌, ◌++◌}
-use Rattle.std.specs.Prelude.{None, Result, Ok, Err}
-use Rattle.tk_script.specs.declared.script.Script.{Script}
-use Rattle.tk_words.specs.Words.{WordBook}
-use Rattle.tk_packets.specs.Packets.{PacketView}
-use Rattle.tk_serve.specs.Seats.{empty_seats}
-use Rattle.tk_serve.specs.Courses.{seats_next, answers_next}
-use Rattle.tk_member.specs.declared.fault.Fault.{Fault}
-use Rattle.tk_member.specs.Members.{MemberState}
-use Rattle.tk_member.specs.Acting.{ActedMember}
-use Rattle.tk_member.specs.Steps.{step}
-use Rattle.tk_member.specs.Courses.{member_next, sends_next}
-use Rattle.tk_meeting.specs.Meeting.{Meeting, for_peer, frames_for}
-use Rattle.tk_meeting.specs.Programs.{first_member, member_after, seats_from, state_after}
+use Rattle.tk_meeting.proofs.Terms.{◌≡◌, ℕ, ◌≤◌, ◌<◌, List, [], ◌∷◌, ◌+◌, ◌++◌, None, Result, Ok, Err, WordBook, Script}
+use Rattle.tk_meeting.proofs.Terms.{PacketView, seats_next, answers_next, empty_seats, ActedMember, member_next, sends_next}
+use Rattle.tk_meeting.proofs.Terms.{MemberState, step, Fault, for_peer, frames_for, Meeting, first_member, state_after}
+use Rattle.tk_meeting.proofs.Terms.{seats_from, member_after}
 use Rattle.tk_meeting.proofs.programs.Moments.{sent_after}
 
 -- a packet doesn't end a member

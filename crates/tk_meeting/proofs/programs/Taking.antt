@@ -1,18 +1,9 @@
 -- A member takes a packet: a word of its host, or a server's next frame.
-use Rattle.std.proofs.Common.{◌≡◌, ◌∙◌, refl, ap, ap₂, sym, subst, ℕ, ◌+◌, ◌≤◌, ◌<◌, false, cond}
-use Rattle.std.proofs.Common.{List, [], ◌∷◌, ◌++◌, append_assoc, append-nil}
-use Rattle.std.specs.Prelude.{◌==◌, Option, Some, None, Result, Ok, Err}
-use Rattle.tk_script.specs.declared.script.Script.{Script}
-use Rattle.tk_words.specs.Words.{WordBook}
-use Rattle.tk_packets.specs.Packets.{PacketView}
-use Rattle.tk_serve.specs.Seats.{Seat}
-use Rattle.tk_member.specs.declared.fault.Fault.{Fault}
-use Rattle.tk_member.specs.Members.{MemberState}
-use Rattle.tk_member.specs.Acting.{ActedMember}
-use Rattle.tk_member.specs.Steps.{step}
-use Rattle.tk_member.specs.Courses.{stood_by, sent_by, member_next, sends_next}
-use Rattle.tk_meeting.specs.Meeting.{Meeting, changed, member_went, for_peer, frames_for}
-use Rattle.tk_meeting.specs.Programs.{first_member, member_after}
+use Rattle.tk_meeting.proofs.Terms.{◌≡◌, ℕ, ◌≤◌, ◌<◌, List, [], ◌∷◌, ◌+◌, ◌==◌, cond, ◌++◌, false, Option, Some, None}
+use Rattle.tk_meeting.proofs.Terms.{Result, Ok, ◌∙◌, refl, ap, sym, subst, append-nil, append_assoc, ap₂, Err, WordBook}
+use Rattle.tk_meeting.proofs.Terms.{Script, PacketView, Seat, ActedMember, stood_by, member_next, sends_next, sent_by}
+use Rattle.tk_meeting.proofs.Terms.{MemberState, step, Fault, changed, for_peer, frames_for, Meeting, member_went}
+use Rattle.tk_meeting.proofs.Terms.{first_member, member_after}
 use Rattle.tk_meeting.proofs.courses.Picks.{at-place, pick, unchanged}
 use Rattle.tk_meeting.proofs.members.Packets.{peer-append, frames-append}
 use Rattle.tk_meeting.proofs.programs.Moments.{state-one, sent-one}

@@ -1,24 +1,12 @@
 -- A member that is begun again puts again what it put, and ends where its journal lacks what a server has of it.
-use Rattle.std.proofs.Common.{◌≡◌, refl, sym, ap, ◌∙◌, subst, arith, ℕ, ◌+◌, ◌≤◌, Bool, true, false, cond, inl, inr}
-use Rattle.std.proofs.Common.{List, [], ◌∷◌, ◌++◌, length, append_assoc, append-nil, length-append}
-use Rattle.std.specs.Prelude.{Some, None, Result, Ok, Err, nat_le, nat_lt}
-use Rattle.std.specs.List.{AllByRecursion}
-use Rattle.std.specs.Simd.Lanes.{fold_l}
-use Rattle.std.proofs.lemmas.Bool.{cases_lt, eq-eqb}
+use Rattle.tk_meeting.proofs.Terms.{◌≡◌, ℕ, ◌≤◌, List, [], ◌∷◌, length, ◌+◌, cond, ◌++◌, Bool, true, false, Some, None}
+use Rattle.tk_meeting.proofs.Terms.{Result, Ok, ◌∙◌, refl, ap, sym, arith, subst, append-nil, inl, inr, eq-eqb}
+use Rattle.tk_meeting.proofs.Terms.{append_assoc, length-append, Err, cases_lt, AllByRecursion, nat_lt, nat_le, fold_l}
+use Rattle.tk_meeting.proofs.Terms.{WordBook, Script, PacketView, ActedMember, acts, behind, unmoved, after_packets}
+use Rattle.tk_meeting.proofs.Terms.{behind_if, after_packet, MemberState, is_over, tells_and_acts, served, step, heard}
+use Rattle.tk_meeting.proofs.Terms.{word_in, Fault, Peer, Older, frames_for, first_member, IsFront, MembersPutAgain}
+use Rattle.tk_meeting.proofs.Terms.{Greets, IsGreeting, MembersGoOn}
 use Rattle.std.proofs.lemmas.Bool.Decides.{nat_tests}
-use Rattle.tk_script.specs.declared.script.Script.{Script}
-use Rattle.tk_words.specs.Words.{WordBook}
-use Rattle.tk_packets.specs.Packets.{PacketView}
-use Rattle.tk_member.specs.declared.fault.Fault.{Fault}
-use Rattle.tk_member.specs.declared.fault.Fault.TheVariants.{Older, Peer}
-use Rattle.tk_member.specs.Words.{word_in}
-use Rattle.tk_member.specs.Members.{MemberState, is_over}
-use Rattle.tk_member.specs.Acting.{ActedMember, unmoved, behind, acts}
-use Rattle.tk_member.specs.Steps.{tells_and_acts, heard, served, step}
-use Rattle.tk_member.specs.Courses.{behind_if, after_packet, after_packets}
-use Rattle.tk_meeting.specs.Meeting.{frames_for}
-use Rattle.tk_meeting.specs.Programs.{first_member, IsFront}
-use Rattle.tk_meeting.specs.Restarts.{MembersPutAgain, Greets, IsGreeting, MembersGoOn}
 use Rattle.tk_meeting.proofs.members.Packets.{frames-append}
 use Rattle.tk_meeting.proofs.programs.Acting.{none-stands}
 use Rattle.tk_meeting.proofs.programs.Meeting.{front-of_frames}

@@ -1,27 +1,13 @@
 -- A member that acted has nothing due, and put to each server as many frames as it wrote and asked.
-use Rattle.std.proofs.Common.{◌≡◌, refl, sym, ap, ap₂, ◌∙◌, subst, arith, ℕ, zero, suc, ◌+◌, ◌-◌, ◌≤◌, ◌<◌, Bool, true, false, cond}
-use Rattle.std.proofs.Common.{List, [], ◌++◌, length, map, min, length-append, inl, inr}
-use Rattle.std.specs.Prelude.{Result, Ok, Err, nat_le, nat_lt, ◌&&◌, ◌==◌, ◌*◌, replicate}
-use Rattle.std.proofs.lemmas.List.{length-map, length-replicate}
-use Rattle.tk_shape.specs.declared.shape.Shape.{Shape}
-use Rattle.tk_shape.specs.Lengths.{turn_count}
-use Rattle.tk_frames.specs.Spelling.{read_frame}
-use Rattle.tk_words.specs.Words.{WordBook, BookWords, words_of}
-use Rattle.tk_client.specs.Asked.{asked}
-use Rattle.tk_client.specs.Writing.{Writing}
-use Rattle.tk_client.specs.Client.{target_over}
-use Rattle.tk_client.proofs.Offers.{length-asked}
-use Rattle.tk_packets.specs.Packets.{PacketView}
-use Rattle.tk_member.specs.declared.fault.Fault.{Fault}
-use Rattle.tk_member.specs.declared.fault.Fault.TheVariants.{Peer}
-use Rattle.tk_member.specs.Words.{word_in}
-use Rattle.tk_member.specs.Epochs.{ToldMarks, filter_of, marks_at, known}
-use Rattle.tk_member.specs.Members.{MemberState}
-use Rattle.tk_member.specs.Acting.{ActedMember, unmoved, behind, followed_by, packets_from, write_packets, wrote, after_turn}
-use Rattle.tk_member.specs.Acting.{turns_known, ahead_due, goes_ahead, ticks_due, goes_by_ticks, may_ask, asks, asks_if_due, acts, epoch_due}
-use Rattle.tk_member.specs.Steps.{tells_and_acts, heard, served, step}
-use Rattle.tk_meeting.specs.Meeting.{frames_for}
-use Rattle.tk_meeting.specs.Shown.{Stand}
+use Rattle.tk_meeting.proofs.Terms.{◌≡◌, ℕ, ◌≤◌, ◌<◌, min, List, [], length, map, ◌+◌, ◌==◌, cond, ◌++◌, ◌-◌, ◌*◌, Bool}
+use Rattle.tk_meeting.proofs.Terms.{true, false, replicate, Result, Ok, ◌∙◌, refl, ap, sym, zero, suc, arith, subst}
+use Rattle.tk_meeting.proofs.Terms.{inl, inr, ap₂, length-append, Err, length-map, length-replicate, nat_lt, ◌&&◌}
+use Rattle.tk_meeting.proofs.Terms.{nat_le, turn_count, Shape, WordBook, words_of, BookWords, read_frame, length-asked}
+use Rattle.tk_meeting.proofs.Terms.{asked, target_over, Writing, PacketView, ActedMember, acts, behind, wrote, packets_from}
+use Rattle.tk_meeting.proofs.Terms.{may_ask, asks, asks_if_due, unmoved, epoch_due, goes_ahead, goes_by_ticks}
+use Rattle.tk_meeting.proofs.Terms.{ahead_due, ticks_due, followed_by, write_packets, after_turn, turns_known, known}
+use Rattle.tk_meeting.proofs.Terms.{filter_of, marks_at, ToldMarks, MemberState, tells_and_acts, served, step, heard}
+use Rattle.tk_meeting.proofs.Terms.{word_in, Fault, Peer, frames_for, Stand}
 use Rattle.tk_meeting.proofs.members.Packets.{frames-append, own-at, AreToHost, host-alone}
 use Rattle.tk_meeting.proofs.members.Wrote.{wrote-so}
 use Rattle.tk_meeting.proofs.shown.Steps.{EndsOrReadies, heard_writing, heard-readies, served-readies}

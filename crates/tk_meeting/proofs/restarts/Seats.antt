@@ -1,22 +1,12 @@
 -- What a server has of a client is what it makes of that client's frames, in whatever order clients came.
-use Rattle.std.proofs.Common.{◌≡◌, ◌≢◌, refl, ap, sym, ◌∙◌, ℕ, ◌+◌, ◌-◌, ◌<◌, true, false, cond, arith, List, [], ◌∷◌, length, map, set}
-use Rattle.std.proofs.Common.{get_or-set_same, get_or-set_other, length-set}
-use Rattle.std.specs.Prelude.{◌==◌, Option, Some, None, slice_index, drop}
-use Rattle.std.specs.List.{AllByRecursion}
-use Rattle.std.proofs.lemmas.Bool.{eqb-true}
-use Rattle.std.proofs.lemmas.List.{ext_get_or}
-use Rattle.tk_shape.specs.declared.shape.Shape.{Shape}
-use Rattle.tk_frames.specs.Fields.{write_in, read_in}
-use Rattle.tk_packets.specs.Packets.{PacketView}
-use Rattle.tk_serve.specs.declared.refusal.Refusal.{Refusal}
-use Rattle.tk_serve.specs.Seats.{Seat, empty_seat, empty_seats, seat_of, seat_with_write, seat_with_read}
-use Rattle.tk_serve.specs.Refusals.{refusal_by, refusal_of}
-use Rattle.tk_serve.specs.Steps.{with_frame, step_by, step, IsOfClient}
-use Rattle.tk_serve.specs.Courses.{seats_next}
-use Rattle.tk_serve.proofs.Offers.{empty-counted}
-use Rattle.tk_meeting.specs.Meeting.{frames_for, for_peer}
-use Rattle.tk_meeting.specs.Programs.{state_after, seats_from}
-use Rattle.tk_meeting.specs.Restarts.{ServersStandAgain}
+use Rattle.tk_meeting.proofs.Terms.{◌≡◌, ℕ, ◌<◌, List, [], ◌∷◌, length, map, ◌+◌, ◌==◌, cond, ◌-◌, true, false, Option}
+use Rattle.tk_meeting.proofs.Terms.{Some, None, ◌∙◌, refl, ap, sym, arith, drop, eqb-true, ◌≢◌, set, get_or-set_same}
+use Rattle.tk_meeting.proofs.Terms.{get_or-set_other, length-set, ext_get_or, AllByRecursion, slice_index, Shape}
+use Rattle.tk_meeting.proofs.Terms.{write_in, read_in, PacketView, empty-counted, seats_next, refusal_by, refusal_of}
+use Rattle.tk_meeting.proofs.Terms.{Seat, seat_of, empty_seats, empty_seat, seat_with_write, seat_with_read, with_frame}
+use Rattle.tk_meeting.proofs.Terms.{step_by, IsOfClient, Refusal, for_peer, frames_for, state_after, seats_from}
+use Rattle.tk_meeting.proofs.Terms.{ServersStandAgain}
+use Rattle.tk_serve.specs.Steps.{step}
 use Rattle.tk_meeting.proofs.courses.Picks.{pick, itself}
 
 -- ---- the seat of one client

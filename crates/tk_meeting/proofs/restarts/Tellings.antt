@@ -1,22 +1,11 @@
 -- What a server told a client is a front of what it tells it once all came.
-use Rattle.std.proofs.Common.{◌≡◌, refl, sym, ap, ◌∙◌, subst, arith, ℕ, zero, suc, ◌+◌, ◌≤◌, ◌<◌, cond}
-use Rattle.std.proofs.Common.{List, [], ◌∷◌, ◌++◌, length, map, drop, flat_map, eq-eqb}
-use Rattle.std.specs.Prelude.{◌==◌}
-use Rattle.std.specs.List.{range_with_len, AllByRecursion}
-use Rattle.std.proofs.Math.Seq.{drop-append_seam}
-use Rattle.std.proofs.lemmas.Bool.{ne_eqb}
-use Rattle.tk_shape.specs.declared.shape.Shape.{Shape}
+use Rattle.tk_meeting.proofs.Terms.{◌≡◌, ℕ, ◌≤◌, ◌<◌, List, [], ◌∷◌, length, map, flat_map, ◌+◌, ◌==◌, cond, ◌++◌, ◌∙◌}
+use Rattle.tk_meeting.proofs.Terms.{refl, ap, sym, zero, suc, arith, subst, drop, eq-eqb, ne_eqb, drop-append_seam}
+use Rattle.tk_meeting.proofs.Terms.{range_with_len, AllByRecursion, Shape, each-append, each-behind, PacketView}
+use Rattle.tk_meeting.proofs.Terms.{after-is, flat_map-one, told-stays, empty_seats, IsOfClient, packets_to, told}
+use Rattle.tk_meeting.proofs.Terms.{for_peer, frames_for, IsFront, seats_from, ComesOf, ServersTellAgain}
 use Rattle.tk_frames.specs.Laws.{AreBytes}
-use Rattle.tk_report.proofs.Offers.{each-append, each-behind}
-use Rattle.tk_packets.specs.Packets.{PacketView}
-use Rattle.tk_serve.specs.Seats.{empty_seats}
-use Rattle.tk_serve.specs.Steps.{IsOfClient, packets_to}
 use Rattle.tk_serve.specs.Laws.{Comes}
-use Rattle.tk_serve.specs.Told.{told}
-use Rattle.tk_serve.proofs.Offers.{flat_map-one, told-stays, after-is}
-use Rattle.tk_meeting.specs.Meeting.{for_peer, frames_for}
-use Rattle.tk_meeting.specs.Programs.{seats_from, IsFront}
-use Rattle.tk_meeting.specs.Restarts.{ComesOf, ServersTellAgain}
 use Rattle.tk_meeting.proofs.courses.Picks.{pick}
 use Rattle.tk_meeting.proofs.members.Packets.{frames-append}
 use Rattle.tk_meeting.proofs.servers.Gains.{frames-own, frames-none, frames-each}

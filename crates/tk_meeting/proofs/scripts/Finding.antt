@@ -1,19 +1,9 @@
 -- What a script that lists the texts of a meeting has in each turn, of each client.
-use Rattle.std.proofs.Common.{◌≡◌, ◌≢◌, refl, ap, ap₂, sym, ◌∙◌, arith, ne_eqb, eq-eqb}
-use Rattle.std.proofs.Common.{ℕ, ◌+◌, ◌-◌, ◌*◌, ◌/◌, ◌%◌, ◌<◌, Bool, true, false, cond}
-use Rattle.std.proofs.Common.{List, [], ◌∷◌, ◌++◌, map, filter, flat_map}
-use Rattle.std.specs.Prelude.{◌==◌}
-use Rattle.std.specs.List.{AllByRecursion, range_with_len}
-use Rattle.std.proofs.lemmas.Nat.{div-add-mod'}
-use Rattle.std.proofs.lemmas.List.Elements.{filter-append}
-use Rattle.tk_shape.specs.declared.shape.Shape.{Shape}
-use Rattle.tk_script.specs.declared.script.Script.{Script}
+use Rattle.tk_meeting.proofs.Terms.{◌≡◌, ℕ, ◌<◌, List, [], ◌∷◌, map, flat_map, ◌+◌, ◌/◌, ◌==◌, cond, ◌++◌, ◌-◌, ◌*◌}
+use Rattle.tk_meeting.proofs.Terms.{Bool, true, false, filter, ◌∙◌, refl, ap, sym, arith, ◌%◌, eq-eqb, ap₂, ne_eqb, ◌≢◌}
+use Rattle.tk_meeting.proofs.Terms.{filter-append, div-add-mod', range_with_len, AllByRecursion, Shape, writer_of}
+use Rattle.tk_meeting.proofs.Terms.{Script, turn_said, flat_map-one, saying_of, Saying}
 use Rattle.tk_script.specs.declared.say.Say.{Say}
-use Rattle.tk_script.specs.Sent.{writer_of}
-use Rattle.tk_serve.proofs.Offers.{flat_map-one}
-use Rattle.tk_report.specs.Queues.{turn_said}
-use Rattle.tk_meeting.specs.Meeting.{Saying}
-use Rattle.tk_meeting.specs.Laws.{saying_of}
 use Rattle.tk_meeting.proofs.scripts.Sayable.{MaySay}
 use Rattle.tk_meeting.proofs.scripts.Listing.{say_in, says_from}
 

@@ -1,25 +1,10 @@
 -- No step of a member changes its shape or the logs that it writes.
-use Rattle.std.proofs.Common.{◌≡◌, refl, ap, sym, subst, ◌∙◌, inl, inr, ℕ, zero, suc, ◌-◌}
-use Rattle.std.proofs.Common.{List, map, Option, Some, None, Result, Ok, Err}
-use Rattle.std.specs.Prelude.{nat_le, ◌==◌}
-use Rattle.tk_shape.specs.declared.shape.Shape.{Shape}
-use Rattle.tk_words.specs.Words.{WordBook, BookWords, words_of}
-use Rattle.tk_client.specs.declared.say_error.SayError.{SayError}
-use Rattle.tk_client.specs.declared.written.Written.{Written}
-use Rattle.tk_client.specs.Saying.{fault_of}
-use Rattle.tk_client.specs.Writing.{Writing}
-use Rattle.tk_report.proofs.Offers.{one_more-logs}
-use Rattle.tk_packets.specs.Packets.{PacketView}
-use Rattle.tk_member.specs.declared.fault.Fault.{Fault}
-use Rattle.tk_member.specs.declared.fault.Fault.TheVariants.{Peer}
-use Rattle.tk_member.specs.declared.word.HostWord.{HostWord}
-use Rattle.tk_member.specs.declared.word.HostWord.TheVariants.{Say, Tick, Ahead, Has}
-use Rattle.tk_member.specs.Words.{word_in}
-use Rattle.tk_member.specs.Members.{MemberState}
-use Rattle.tk_member.specs.Acting.{ActedMember, after_turn, wrote, goes_ahead, goes_by_ticks, may_ask, asks, unmoved}
-use Rattle.tk_member.specs.Acting.{asks_if_due, ahead_due, ticks_due, acts}
-use Rattle.tk_member.specs.Steps.{heard, served, step}
-use Rattle.tk_meeting.specs.Shown.{Stand, stand, word_shown, frame_shown}
+use Rattle.tk_meeting.proofs.Terms.{◌≡◌, ℕ, List, map, ◌==◌, ◌-◌, Option, Some, None, Result, Ok, ◌∙◌, refl, ap, sym}
+use Rattle.tk_meeting.proofs.Terms.{zero, suc, subst, inl, inr, Err, nat_le, Shape, WordBook, words_of, BookWords}
+use Rattle.tk_meeting.proofs.Terms.{fault_of, Writing, SayError, Written, one_more-logs, PacketView, ActedMember, acts}
+use Rattle.tk_meeting.proofs.Terms.{wrote, may_ask, asks, asks_if_due, unmoved, goes_ahead, goes_by_ticks, ahead_due}
+use Rattle.tk_meeting.proofs.Terms.{ticks_due, after_turn, MemberState, served, step, heard, word_in, Fault, Peer}
+use Rattle.tk_meeting.proofs.Terms.{HostWord, Say, Tick, Ahead, Has, stand, Stand, frame_shown, word_shown}
 use Rattle.tk_meeting.proofs.shown.Steps.{EndsOrReadies, heard_so, served_so, said_writing, heard_writing}
 use Rattle.tk_meeting.proofs.shown.Steps.{heard-readies, served-readies}
 use Rattle.tk_meeting.proofs.telling.Rising.{cond-has}

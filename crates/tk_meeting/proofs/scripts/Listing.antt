@@ -1,22 +1,14 @@
 -- The texts that were said for each turn of a run, as the list of a script: it is in order, and may be said.
-use Rattle.std.proofs.Common.{◌≡◌, ◌⊎◌, inl, inr, refl, ap, ◌∙◌, subst, arith}
-use Rattle.std.proofs.Common.{ℕ, zero, suc, ◌+◌, ◌*◌, ◌/◌, ◌%◌, ◌<◌, ◌≤◌, Bool, true, false}
-use Rattle.std.proofs.Common.{List, [], ◌∷◌, ◌++◌, map, flat_map, IsTrue, None, lt-ltb, le-leb, eq-eqb}
-use Rattle.std.specs.Prelude.{◌==◌, ◌&&◌, ◌||◌, nat_lt, nat_le, length}
-use Rattle.std.specs.List.{AllByRecursion, range_with_len, list_all}
-use Rattle.std.proofs.Math.Nat.{div-mul-le_self, div-lt_iff_lt-mul, mod-lt}
-use Rattle.std.proofs.lemmas.Nat.{le-div, div-add-mod'}
-use Rattle.std.proofs.lemmas.Bool.{and_parts, and_from, cases_lt}
-use Rattle.std.proofs.lemmas.List.Folds.{list_all-append}
-use Rattle.tk_shape.specs.declared.shape.Shape.{Shape}
-use Rattle.tk_shape.specs.Lengths.{turn_count}
-use Rattle.tk_schedule.specs.Schedule.{phase_of, tick_of}
+use Rattle.tk_meeting.proofs.Terms.{◌≡◌, ℕ, ◌≤◌, ◌<◌, List, [], ◌∷◌, length, map, flat_map, ◌+◌, ◌/◌, ◌==◌, ◌++◌, ◌*◌}
+use Rattle.tk_meeting.proofs.Terms.{Bool, true, false, None, ◌∙◌, refl, ap, zero, suc, arith, subst, ◌⊎◌, inl, inr}
+use Rattle.tk_meeting.proofs.Terms.{lt-ltb, le-leb, ◌%◌, eq-eqb, mod-lt, IsTrue, div-mul-le_self, div-lt_iff_lt-mul}
+use Rattle.tk_meeting.proofs.Terms.{and_parts, cases_lt, and_from, list_all-append, div-add-mod', le-div}
+use Rattle.tk_meeting.proofs.Terms.{range_with_len, list_all, AllByRecursion, nat_lt, ◌&&◌, nat_le, ◌||◌, turn_count}
+use Rattle.tk_meeting.proofs.Terms.{Shape, phase_of, tick_of, text_fault, Saying}
 use Rattle.tk_seal.specs.Texts.{is_allowed}
 use Rattle.tk_script.specs.declared.say.Say.{Say}
 use Rattle.tk_script.specs.SoundScript.{is_say, is_said_by, are_in_order}
-use Rattle.tk_client.specs.Saying.{text_fault}
 use Rattle.tk_client.proofs.Keeping.{fault-none}
-use Rattle.tk_meeting.specs.Meeting.{Saying}
 
 -- a text that is said in turn g
 abbrev pub say_in : Shape → ℕ → Saying → Say

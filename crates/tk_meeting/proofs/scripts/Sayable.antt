@@ -1,27 +1,11 @@
 -- What was said to a client may be said by it: it is of a log that the client writes, and without a fault.
-use Rattle.std.proofs.Common.{◌≡◌, refl, ap, sym, ◌∙◌, subst, arith, ℕ, ◌<◌, Bool, true, false, cond}
-use Rattle.std.proofs.Common.{List, [], ◌∷◌, ◌++◌, Option, Some, None, Result, Ok, Err, eqb-true}
-use Rattle.std.specs.Prelude.{◌==◌, ◌||◌}
-use Rattle.std.specs.List.{AllByRecursion}
-use Rattle.std.proofs.lemmas.Bool.{false≢true}
-use Rattle.std.proofs.lemmas.Option.{none-some}
-use Rattle.tk_shape.specs.declared.shape.Shape.{Shape}
-use Rattle.tk_script.specs.declared.script.Script.{Script}
-use Rattle.tk_script.specs.Sent.{writer_of}
-use Rattle.tk_words.specs.Words.{WordBook}
-use Rattle.tk_client.specs.declared.say_error.SayError.{SayError}
-use Rattle.tk_client.specs.declared.say_error.SayError.TheVariants.{NotWriter}
-use Rattle.tk_client.specs.declared.written.Written.{Written}
-use Rattle.tk_client.specs.Saying.{fault_of, text_fault, is_written}
-use Rattle.tk_report.specs.Queues.{writes_of}
-use Rattle.tk_member.specs.declared.fault.Fault.{Fault}
-use Rattle.tk_member.specs.declared.word.HostWord.{HostWord}
-use Rattle.tk_member.specs.declared.word.HostWord.TheVariants.{Say}
-use Rattle.tk_member.specs.Acting.{ActedMember}
-use Rattle.tk_member.specs.Steps.{heard, served}
-use Rattle.tk_report.proofs.Offers.{unwritten-logs, each-append}
-use Rattle.tk_meeting.specs.Meeting.{Meeting, Saying, opening, changed, member_went}
-use Rattle.tk_meeting.specs.Events.{Event, noted, say_fault, hears, comes_up, comes_down, happens, after_events, met}
+use Rattle.tk_meeting.proofs.Terms.{◌≡◌, ℕ, ◌<◌, List, [], ◌∷◌, ◌==◌, cond, ◌++◌, Bool, true, false, Option, Some, None}
+use Rattle.tk_meeting.proofs.Terms.{Result, Ok, ◌∙◌, refl, ap, sym, arith, subst, eqb-true, Err, false≢true, none-some}
+use Rattle.tk_meeting.proofs.Terms.{AllByRecursion, ◌||◌, Shape, WordBook, writer_of, Script, fault_of, text_fault}
+use Rattle.tk_meeting.proofs.Terms.{is_written, SayError, NotWriter, Written, each-append, unwritten-logs, writes_of}
+use Rattle.tk_meeting.proofs.Terms.{ActedMember, served, heard, Fault, HostWord, Say, Event, comes_down, met, happens}
+use Rattle.tk_meeting.proofs.Terms.{after_events, hears, noted, say_fault, comes_up, Saying, changed, Meeting}
+use Rattle.tk_meeting.proofs.Terms.{member_went, opening}
 use Rattle.tk_meeting.proofs.own.Openings.{kept}
 use Rattle.tk_meeting.proofs.scripts.Lasting.{base_of, logs_of, LastsIn, heard-lasts, served-lasts}
 use Rattle.tk_meeting.proofs.telling.Ways.{event-has}

@@ -1,15 +1,8 @@
 -- Each meeting has a script: the list of what was said for each turn, client by client.
-use Rattle.std.proofs.Common.{refl, ap, sym, ◌∙◌, arith, ℕ, List, [], ◌∷◌, ◌++◌, map, filter, flat_map}
-use Rattle.std.specs.Prelude.{◌==◌}
-use Rattle.std.specs.List.{AllByRecursion, range_with_len}
-use Rattle.tk_shape.specs.Lengths.{turn_count}
-use Rattle.tk_script.specs.declared.script.Script.{Script}
+use Rattle.tk_meeting.proofs.Terms.{ℕ, List, [], ◌∷◌, map, flat_map, ◌==◌, ◌++◌, filter, ◌∙◌, refl, ap, sym, arith}
+use Rattle.tk_meeting.proofs.Terms.{range_with_len, AllByRecursion, turn_count, writer_of, Script, met, HasWhatWasSaid}
+use Rattle.tk_meeting.proofs.Terms.{saying_of, Saying, Meeting, MeetingsHaveScripts}
 use Rattle.tk_script.specs.declared.say.Say.{Say}
-use Rattle.tk_script.specs.Sent.{writer_of}
-use Rattle.tk_meeting.specs.Meeting.{Meeting, Saying}
-use Rattle.tk_meeting.specs.Events.{met}
-use Rattle.tk_meeting.specs.Laws.{saying_of, HasWhatWasSaid}
-use Rattle.tk_meeting.specs.Scripts.{MeetingsHaveScripts}
 use Rattle.tk_meeting.proofs.scripts.Sayable.{MaySay, IsSayable, met-sayable}
 use Rattle.tk_meeting.proofs.scripts.Listing.{says_from, IsFit, from-ordered, from-sound}
 use Rattle.tk_meeting.proofs.scripts.Finding.{turn-has, client-says}

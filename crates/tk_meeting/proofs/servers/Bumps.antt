@@ -1,14 +1,8 @@
 -- Functions of numbers of which one value is one more.
-use Rattle.std.proofs.Common.{◌≡◌, ◌≢◌, ℕ, ◌+◌, ◌≤◌, ◌<◌, refl, sym, subst, arith, inl, inr, eq-eqb, map, length}
-use Rattle.std.specs.Prelude.{◌==◌}
-use Rattle.std.specs.List.{range_with_len}
-use Rattle.std.proofs.lemmas.Bool.{cases_eq, ne_eqb, cond-true, cond-false}
-use Rattle.std.proofs.lemmas.List.FromFn.{get_or-map-range_with_len, length-map-range_with_len}
-use Rattle.tk_shape.specs.declared.shape.Shape.{Shape}
-use Rattle.tk_shape.specs.Lengths.{turn_count}
-use Rattle.tk_serve.specs.Seats.{least}
-use Rattle.tk_serve.proofs.Offers.{least-top, least-below, least-above}
-use Rattle.tk_meeting.specs.Meeting.{changed}
+use Rattle.tk_meeting.proofs.Terms.{◌≡◌, ℕ, ◌≤◌, ◌<◌, length, map, ◌+◌, ◌==◌, refl, sym, arith, subst, inl, inr, eq-eqb}
+use Rattle.tk_meeting.proofs.Terms.{ne_eqb, ◌≢◌, cases_eq, cond-true, cond-false, length-map-range_with_len}
+use Rattle.tk_meeting.proofs.Terms.{get_or-map-range_with_len, range_with_len, turn_count, Shape, least-top}
+use Rattle.tk_meeting.proofs.Terms.{least-above, least-below, least, changed}
 use Rattle.tk_meeting.proofs.Course.{newest_by}
 use Rattle.tk_meeting.proofs.servers.Numbers.{phases-ordered}
 

@@ -1,15 +1,9 @@
 -- Seats of the first writes and reads of each client, and one write or read more.
-use Rattle.std.proofs.Common.{◌≡◌, ◌≢◌, refl, ℕ, ◌+◌, ◌≤◌, ◌<◌, ap, sym, ◌∙◌, subst, arith, inl, inr, List}
-use Rattle.std.proofs.Common.{length, map, set, length-set, get_or-set_same, get_or-set_other}
-use Rattle.std.specs.List.{range_with_len}
-use Rattle.std.proofs.lemmas.Bool.{cases_eq}
-use Rattle.std.proofs.lemmas.List.FromFn.{map-range_with_len_more}
-use Rattle.tk_shape.specs.Lengths.{turn_count}
-use Rattle.tk_script.specs.declared.script.Script.{Script}
-use Rattle.tk_words.specs.Words.{WordBook}
-use Rattle.tk_frames.specs.declared.write_frame.WriteFrame.{WriteFrame}
-use Rattle.tk_frames.specs.declared.read_frame.ReadFrame.{ReadFrame}
-use Rattle.tk_serve.specs.Seats.{Seat, empty_seat, seat_of, seat_with_write, seat_with_read, with_write, with_read}
+use Rattle.tk_meeting.proofs.Terms.{◌≡◌, ℕ, ◌≤◌, ◌<◌, List, length, map, ◌+◌, ◌∙◌, refl, ap, sym, arith, subst, inl}
+use Rattle.tk_meeting.proofs.Terms.{inr, ◌≢◌, set, get_or-set_same, get_or-set_other, length-set, cases_eq}
+use Rattle.tk_meeting.proofs.Terms.{map-range_with_len_more, range_with_len, turn_count, WordBook, ReadFrame}
+use Rattle.tk_meeting.proofs.Terms.{WriteFrame, Script, Seat, seat_of, empty_seat, seat_with_write, seat_with_read}
+use Rattle.tk_meeting.proofs.Terms.{with_write, with_read}
 use Rattle.tk_meeting.proofs.Canonical.{write_in, read_from, seat_with, AreFronts}
 use Rattle.tk_meeting.proofs.servers.Bumps.{bumped, changed-same, changed-other, bumped-within}
 

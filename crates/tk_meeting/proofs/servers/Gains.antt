@@ -1,19 +1,9 @@
 -- What a server tells each client when it takes a frame is what comes next of what it tells that client.
-use Rattle.std.proofs.Common.{◌≡◌, ℕ, zero, suc, ◌+◌, ◌≤◌, ◌<◌, Bool, true, false, cond, refl, ap, ap₂, sym, ◌∙◌}
-use Rattle.std.proofs.Common.{arith, eq-eqb, List, [], ◌∷◌, ◌++◌, length, drop, map, flat_map}
-use Rattle.std.specs.Prelude.{◌==◌, filter}
-use Rattle.std.specs.List.{range_with_len}
-use Rattle.std.proofs.Math.Seq.{drop-append_seam}
-use Rattle.std.proofs.lemmas.Bool.{ne_eqb}
-use Rattle.tk_shape.specs.declared.shape.Shape.{Shape}
-use Rattle.tk_script.specs.declared.script.Script.{Script}
-use Rattle.tk_words.specs.Words.{WordBook}
-use Rattle.tk_packets.specs.Packets.{PacketView, packet}
-use Rattle.tk_serve.specs.Seats.{Seat}
-use Rattle.tk_serve.specs.Told.{told}
-use Rattle.tk_serve.specs.Steps.{SeatsAndPackets, gain, packets_gained, all_gained}
-use Rattle.tk_serve.proofs.Offers.{flat_map-one}
-use Rattle.tk_meeting.specs.Meeting.{frames_for}
+use Rattle.tk_meeting.proofs.Terms.{◌≡◌, ℕ, ◌≤◌, ◌<◌, List, [], ◌∷◌, length, map, flat_map, ◌+◌, ◌==◌, cond, ◌++◌, Bool}
+use Rattle.tk_meeting.proofs.Terms.{true, false, filter, ◌∙◌, refl, ap, sym, zero, suc, arith, drop, eq-eqb, ap₂}
+use Rattle.tk_meeting.proofs.Terms.{ne_eqb, drop-append_seam, range_with_len, Shape, WordBook, Script, PacketView}
+use Rattle.tk_meeting.proofs.Terms.{packet, flat_map-one, Seat, SeatsAndPackets, gain, all_gained, packets_gained, told}
+use Rattle.tk_meeting.proofs.Terms.{frames_for}
 use Rattle.tk_meeting.proofs.Canonical.{AreFronts, stream}
 use Rattle.tk_meeting.proofs.Course.{newest_by}
 use Rattle.tk_meeting.proofs.servers.Streams.{told-is}

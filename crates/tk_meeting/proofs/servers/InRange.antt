@@ -1,27 +1,12 @@
 -- The writes and the reads of the serial run are in range.
-use Rattle.std.proofs.Common.{◌≡◌, ℕ, zero, suc, ◌+◌, ◌%◌, ◌≤◌, ◌<◌, sym, subst, arith, List}
-use Rattle.std.proofs.Common.{length, map, Option, Some, None}
-use Rattle.std.specs.List.{AllByRecursion, range_with_len}
-use Rattle.std.specs.Option.{option_map}
-use Rattle.std.proofs.Math.Nat.{mod-lt}
-use Rattle.std.proofs.lemmas.List.FromFn.{length-map-range_with_len}
-use Rattle.tk_shape.specs.declared.shape.Shape.{Shape}
-use Rattle.tk_shape.specs.Lengths.{turn_count}
-use Rattle.tk_schedule.specs.Schedule.{phases_over, epoch_at}
-use Rattle.tk_script.specs.declared.script.Script.{Script}
-use Rattle.tk_script.specs.Sent.{sent}
-use Rattle.tk_words.specs.Words.{WordBook, keyed, drawn, IsBook, words_of, hits_of, fresh_write, FreshWrite}
-use Rattle.tk_frames.specs.declared.write_frame.WriteFrame.{WriteFrame}
-use Rattle.tk_frames.specs.Ranges.{IsWrite, IsRead}
-use Rattle.tk_client.specs.declared.waiting.Waiting.{Waiting}
-use Rattle.tk_client.specs.Writes.{write_of}
-use Rattle.tk_client.specs.Asked.{frame_with}
+use Rattle.tk_meeting.proofs.Terms.{◌≡◌, ℕ, ◌≤◌, ◌<◌, List, length, map, ◌+◌, Option, Some, None, sym, zero, suc, arith}
+use Rattle.tk_meeting.proofs.Terms.{subst, ◌%◌, mod-lt, length-map-range_with_len, range_with_len, AllByRecursion}
+use Rattle.tk_meeting.proofs.Terms.{option_map, turn_count, Shape, WordBook, words_of, IsBook, drawn, keyed, hits_of}
+use Rattle.tk_meeting.proofs.Terms.{fresh_write, FreshWrite, IsRead, IsWrite, WriteFrame, phases_over, epoch_at, sent}
+use Rattle.tk_meeting.proofs.Terms.{Script, frame_with, write_of, Waiting, write_at-client, write_at-turn, pair-low}
+use Rattle.tk_meeting.proofs.Terms.{length-written, some_buckets, write_at, read_at, read_pair, waiting_of}
+use Rattle.tk_meeting.proofs.Terms.{phase-before}
 use Rattle.tk_client.proofs.InRangeLaws.{frame-in_range}
-use Rattle.tk_report.specs.Queues.{waiting_of}
-use Rattle.tk_report.specs.Entries.{write_at}
-use Rattle.tk_report.specs.Exchange.{read_at, read_pair}
-use Rattle.tk_report.proofs.Offers.{write_at-client, write_at-turn, pair-low, length-written, some_buckets}
-use Rattle.tk_serve.proofs.Offers.{phase-before}
 use Rattle.tk_meeting.proofs.Canonical.{serial, write_in, read_from}
 use Rattle.tk_meeting.proofs.servers.Streams.{read-epoch}
 

@@ -1,16 +1,9 @@
 -- What a server tells a client, in numbers: how many frames there are, which comes next, and that more only
 -- come at the end.
-use Rattle.std.proofs.Common.{◌≡◌, ℕ, ◌+◌, ◌*◌, ◌/◌, ◌≤◌, ◌<◌, ap, sym, ◌∙◌, arith, min}
-use Rattle.std.proofs.Common.{List, ◌∷◌, ◌++◌, length, drop, map}
-use Rattle.std.specs.List.{range_with_len}
-use Rattle.std.proofs.Math.Nat.{div-mul-le_self, mul-le-mul_right}
-use Rattle.std.proofs.lemmas.List.{drop_more, take-append-drop}
-use Rattle.std.proofs.lemmas.List.FromFn.{get_or-map-range_with_len, length-map-range_with_len, take-map-range_with_len}
-use Rattle.tk_shape.specs.declared.shape.Shape.{Shape}
-use Rattle.tk_script.specs.declared.script.Script.{Script}
-use Rattle.tk_words.specs.Words.{WordBook}
-use Rattle.tk_serve.specs.Told.{turns_read}
-use Rattle.tk_serve.proofs.Offers.{phase-past}
+use Rattle.tk_meeting.proofs.Terms.{◌≡◌, ℕ, ◌≤◌, ◌<◌, min, List, ◌∷◌, length, map, ◌+◌, ◌/◌, ◌++◌, ◌*◌, ◌∙◌, ap, sym}
+use Rattle.tk_meeting.proofs.Terms.{arith, drop, take-append-drop, mul-le-mul_right, div-mul-le_self, drop_more}
+use Rattle.tk_meeting.proofs.Terms.{length-map-range_with_len, get_or-map-range_with_len, take-map-range_with_len}
+use Rattle.tk_meeting.proofs.Terms.{range_with_len, Shape, WordBook, Script, phase-past, turns_read}
 use Rattle.tk_meeting.proofs.Canonical.{reply_in, epoch_in, stream}
 use Rattle.tk_meeting.proofs.Course.{stream_len}
 use Rattle.tk_meeting.proofs.servers.Places.{frame_at, reply-at, epoch-at, stream-places}

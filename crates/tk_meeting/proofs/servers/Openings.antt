@@ -1,9 +1,6 @@
 -- Before anything was taken a server has the first none of each client's writes and reads.
-use Rattle.std.proofs.Common.{ℕ, arith}
-use Rattle.std.proofs.lemmas.List.{length-replicate, get_or-replicate}
-use Rattle.tk_script.specs.declared.script.Script.{Script}
-use Rattle.tk_words.specs.Words.{WordBook}
-use Rattle.tk_serve.specs.Seats.{empty_seat, empty_seats}
+use Rattle.tk_meeting.proofs.Terms.{ℕ, arith, length-replicate, get_or-replicate, WordBook, Script, empty_seats}
+use Rattle.tk_meeting.proofs.Terms.{empty_seat}
 use Rattle.tk_meeting.proofs.Canonical.{AreFronts}
 
 pub opening-fronts : (S : Script) (b : WordBook) (j : ℕ) →

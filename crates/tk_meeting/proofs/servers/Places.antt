@@ -1,23 +1,12 @@
 -- Where each frame stands of those that a server tells a client: in each phase first the replies to its
 -- reads, and then the epoch that the phase makes.
-use Rattle.std.proofs.Common.{◌≡◌, ℕ, zero, suc, ◌+◌, ◌*◌, ◌/◌, ◌%◌, ◌≤◌, ◌<◌, cond, min}
-use Rattle.std.proofs.Common.{refl, ap, ap₂, sym, ◌∙◌, arith, inl, inr, List, [], ◌∷◌, ◌++◌, map, flat_map}
-use Rattle.std.proofs.Common.{add-one, append_assoc, eq-eqb}
-use Rattle.std.specs.Prelude.{◌==◌}
-use Rattle.std.specs.List.{range_with_len}
-use Rattle.std.proofs.Math.Nat.{mul-suc, mod-lt, zero-div}
-use Rattle.std.proofs.lemmas.Bool.{cases_lt, cases_eq, ne_eqb, cond-false, cond-true}
-use Rattle.std.proofs.lemmas.Nat.{div-mul-add, mod-mul-add, div-add-mod'}
-use Rattle.std.proofs.lemmas.List.FromFn.{map-range_with_len_more}
-use Rattle.tk_schedule.specs.Schedule.{phase_of}
-use Rattle.tk_script.specs.declared.script.Script.{Script}
-use Rattle.tk_words.specs.Words.{WordBook}
-use Rattle.tk_client.specs.Asked.{frame_with}
-use Rattle.tk_report.specs.Exchange.{read_at}
-use Rattle.tk_report.proofs.Offers.{flat_map-next}
-use Rattle.tk_serve.specs.Told.{closing_told, turns_read}
-use Rattle.tk_serve.proofs.Offers.{one_more, phase-before, closing-last, phases-step, phases-stay}
-use Rattle.tk_serve.proofs.Offers.{closing-none, closing-some}
+use Rattle.tk_meeting.proofs.Terms.{◌≡◌, ℕ, ◌≤◌, ◌<◌, min, List, [], ◌∷◌, map, flat_map, ◌+◌, ◌/◌, ◌==◌, cond, ◌++◌}
+use Rattle.tk_meeting.proofs.Terms.{◌*◌, ◌∙◌, refl, ap, sym, zero, suc, arith, inl, inr, ◌%◌, eq-eqb, append_assoc, ap₂}
+use Rattle.tk_meeting.proofs.Terms.{ne_eqb, mod-lt, add-one, mul-suc, zero-div, cases_eq, cases_lt, cond-true}
+use Rattle.tk_meeting.proofs.Terms.{cond-false, map-range_with_len_more, div-add-mod', div-mul-add, mod-mul-add}
+use Rattle.tk_meeting.proofs.Terms.{range_with_len, WordBook, phase_of, Script, frame_with, flat_map-next, read_at}
+use Rattle.tk_meeting.proofs.Terms.{closing-last, phases-stay, phase-before, one_more, phases-step, closing-none}
+use Rattle.tk_meeting.proofs.Terms.{closing-some, turns_read, closing_told}
 use Rattle.tk_meeting.proofs.Canonical.{whole, read_from, reply_in, epoch_in, told_in_turn, stream}
 use Rattle.tk_meeting.proofs.Course.{stream_len}
 

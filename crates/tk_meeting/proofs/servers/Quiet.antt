@@ -1,11 +1,7 @@
 -- A server tells no refusal where it tells what the serial run has it tell.
-use Rattle.std.proofs.Common.{◌≡◌, ℕ, zero, suc, ◌+◌, ◌*◌, ◌%◌, ◌/◌, true, false, cond, refl, ap, ◌∙◌, List, drop, map}
-use Rattle.std.specs.Prelude.{◌==◌, ◌||◌, Bool}
-use Rattle.std.specs.List.{range_with_len, list_any}
-use Rattle.tk_script.specs.declared.script.Script.{Script}
-use Rattle.tk_words.specs.Words.{WordBook}
-use Rattle.tk_serve.specs.Told.{reply_told, epoch_bytes}
-use Rattle.tk_meeting.specs.Laws.{is_refusal}
+use Rattle.tk_meeting.proofs.Terms.{◌≡◌, ℕ, List, map, ◌+◌, ◌/◌, ◌==◌, cond, ◌*◌, Bool, true, false, ◌∙◌, refl, ap}
+use Rattle.tk_meeting.proofs.Terms.{zero, suc, drop, ◌%◌, range_with_len, list_any, ◌||◌, WordBook, Script, reply_told}
+use Rattle.tk_meeting.proofs.Terms.{epoch_bytes, is_refusal}
 use Rattle.tk_meeting.proofs.Canonical.{reply_in, epoch_in, stream}
 use Rattle.tk_meeting.proofs.Course.{stream_len}
 use Rattle.tk_meeting.proofs.servers.Places.{frame_at, stream-places}

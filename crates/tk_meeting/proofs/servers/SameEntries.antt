@@ -1,16 +1,7 @@
 -- Writes that agree in the first turns make the same entries of them.
-use Rattle.std.proofs.Common.{◌≡◌, ℕ, zero, suc, ◌+◌, ◌≤◌, ◌<◌, List, ◌++◌}
-use Rattle.std.proofs.Common.{length, count_by, get_or, refl, ap, ◌∙◌, arith}
-use Rattle.tk_shape.specs.declared.shape.Shape.{Shape}
-use Rattle.tk_shape.specs.Lengths.{turn_count}
-use Rattle.tk_schedule.specs.declared.history.History.{History}
-use Rattle.tk_schedule.specs.Schedule.{IsLegal, order_at, blank_turn}
-use Rattle.tk_schedule.proofs.Offers.{turn_within}
-use Rattle.tk_frames.specs.declared.write_frame.WriteFrame.{WriteFrame}
-use Rattle.tk_frames.specs.declared.entry.Placed.{Placed}
-use Rattle.tk_frames.specs.Order.{is_mark_entry}
-use Rattle.tk_report.specs.Entries.{placed_after, entries_before}
-use Rattle.tk_privacy.proofs.Offers.{same-placed}
+use Rattle.tk_meeting.proofs.Terms.{◌≡◌, ℕ, ◌≤◌, ◌<◌, List, length, ◌+◌, ◌++◌, ◌∙◌, refl, ap, zero, suc, arith, get_or}
+use Rattle.tk_meeting.proofs.Terms.{count_by, turn_count, Shape, is_mark_entry, Placed, WriteFrame, turn_within}
+use Rattle.tk_meeting.proofs.Terms.{blank_turn, IsLegal, order_at, History, entries_before, placed_after, same-placed}
 
 -- the entries of the first n turns are made of the writes of these turns
 pub same-entries : (shape : Shape) (H : History) (f g : ℕ → ℕ → WriteFrame) (n : ℕ) →

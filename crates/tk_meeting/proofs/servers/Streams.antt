@@ -1,29 +1,14 @@
 -- A server whose seats are fronts of the serial run has its entries, and tells what it tells.
-use Rattle.std.proofs.Common.{◌≡◌, ℕ, ◌+◌, ◌/◌, ◌%◌, ◌≤◌, ◌<◌, List, [], ◌∷◌, length, map, take, min}
-use Rattle.std.proofs.Common.{flat_map, get_or, ap, ap₂, sym, ◌∙◌, arith, inl, inr}
-use Rattle.std.specs.Prelude.{slice_index_or}
-use Rattle.std.specs.List.{range_with_len}
-use Rattle.std.proofs.lemmas.Bool.{cases_lt, cases_eq}
-use Rattle.std.proofs.lemmas.List.{get_or-map, length-map, take_all}
-use Rattle.std.proofs.lemmas.List.FromFn.{get_or-map-range_with_len, length-map-range_with_len}
-use Rattle.std.proofs.lemmas.List.FromFn.{take-map-range_with_len, fill_by_all}
-use Rattle.std.proofs.lemmas.List.Folds.{flat_map-map}
-use Rattle.tk_shape.specs.Lengths.{turn_count}
-use Rattle.tk_schedule.specs.Schedule.{phases_over, phase_of}
-use Rattle.tk_schedule.proofs.Offers.{serial-IsLegal}
-use Rattle.tk_script.specs.declared.script.Script.{Script}
-use Rattle.tk_words.specs.Words.{WordBook, BookWords, words_of}
-use Rattle.tk_client.specs.Asked.{frame_with}
-use Rattle.tk_frames.specs.declared.read_frame.ReadFrame.{ReadFrame}
-use Rattle.tk_frames.specs.declared.entry.Placed.{Placed}
-use Rattle.tk_frames.specs.Order.{before}
-use Rattle.tk_report.specs.Entries.{write_at, entries_before}
-use Rattle.tk_report.specs.Exchange.{read_at}
-use Rattle.tk_report.proofs.Offers.{before-over, flat_map-agree}
-use Rattle.tk_serve.specs.Seats.{Seat, empty_seat, taken_write, blank_write, least, turns_written, placed, newest}
-use Rattle.tk_serve.specs.Told.{told, told_in, told_of, closing_told, turns_read}
-use Rattle.tk_serve.proofs.Offers.{least-top, least-below, phase-before, SameUpTo, reply-same, epoch-same}
-use Rattle.tk_serve.proofs.Offers.{closing-none, closing-some}
+use Rattle.tk_meeting.proofs.Terms.{◌≡◌, ℕ, ◌≤◌, ◌<◌, min, List, [], ◌∷◌, length, map, flat_map, ◌+◌, ◌/◌, ◌∙◌, ap, sym}
+use Rattle.tk_meeting.proofs.Terms.{arith, inl, inr, ◌%◌, ap₂, take, slice_index_or, get_or, cases_eq, cases_lt}
+use Rattle.tk_meeting.proofs.Terms.{length-map, get_or-map, take_all, flat_map-map, length-map-range_with_len}
+use Rattle.tk_meeting.proofs.Terms.{get_or-map-range_with_len, take-map-range_with_len, fill_by_all, range_with_len}
+use Rattle.tk_meeting.proofs.Terms.{turn_count, WordBook, words_of, BookWords, before, Placed, ReadFrame}
+use Rattle.tk_meeting.proofs.Terms.{serial-IsLegal, phases_over, phase_of, Script, frame_with, flat_map-agree}
+use Rattle.tk_meeting.proofs.Terms.{before-over, write_at, entries_before, read_at, least-top, phase-before}
+use Rattle.tk_meeting.proofs.Terms.{least-below, closing-none, closing-some, SameUpTo, reply-same, epoch-same, Seat}
+use Rattle.tk_meeting.proofs.Terms.{least, turns_written, taken_write, empty_seat, blank_write, placed, newest, told_of}
+use Rattle.tk_meeting.proofs.Terms.{turns_read, told_in, closing_told, told}
 use Rattle.tk_meeting.proofs.Canonical.{serial, write_in, read_from, whole, told_in_turn, stream, AreFronts}
 use Rattle.tk_meeting.proofs.Course.{newest_by}
 use Rattle.tk_meeting.proofs.servers.SameEntries.{same-entries}

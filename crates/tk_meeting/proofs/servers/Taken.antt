@@ -1,30 +1,15 @@
 -- A server takes the next write and the next read of a client that the serial run has.
-use Rattle.std.proofs.Common.{◌≡◌, ℕ, ◌+◌, ◌≤◌, ◌<◌, refl, ap, ap₂, sym, ◌∙◌, subst, arith, eq-eqb, true, false, cond}
-use Rattle.std.proofs.Common.{List, length, drop, Option, Some, None}
-use Rattle.std.specs.Prelude.{◌==◌, ◌&&◌, Bool}
-use Rattle.std.proofs.lemmas.List.FromFn.{length-map-range_with_len}
-use Rattle.tk_shape.specs.declared.shape.Shape.{Shape}
-use Rattle.tk_shape.specs.Lengths.{turn_count}
-use Rattle.tk_schedule.specs.Schedule.{phases_over}
-use Rattle.tk_script.specs.declared.script.Script.{Script}
-use Rattle.tk_words.specs.Words.{WordBook, IsBook, words_of}
-use Rattle.tk_frames.specs.declared.write_frame.WriteFrame.{WriteFrame}
-use Rattle.tk_frames.specs.declared.read_frame.ReadFrame.{ReadFrame}
+use Rattle.tk_meeting.proofs.Terms.{◌≡◌, ℕ, ◌≤◌, ◌<◌, List, length, ◌+◌, ◌==◌, cond, Bool, true, false, Option, Some}
+use Rattle.tk_meeting.proofs.Terms.{None, ◌∙◌, refl, ap, sym, arith, subst, drop, eq-eqb, ap₂}
+use Rattle.tk_meeting.proofs.Terms.{length-map-range_with_len, ◌&&◌, turn_count, Shape, WordBook, words_of, IsBook}
+use Rattle.tk_meeting.proofs.Terms.{write_passes, write-again, read_passes, read-again, write_in as write_spelled}
+use Rattle.tk_meeting.proofs.Terms.{IsRead, IsWrite, AreSeeds, write_frame, read_frame, read_kind, ReadFrame, Plain}
+use Rattle.tk_meeting.proofs.Terms.{Seeded, Shown, WriteFrame, phases_over, Script, write_at-client, write_at-turn}
+use Rattle.tk_meeting.proofs.Terms.{write-placed, read-placed_by, told_step, step-none, write_refusal, read_refusal}
+use Rattle.tk_meeting.proofs.Terms.{refusal_by, unless, write_misplaced, read_misplaced, is_read_kind, due_of, Seat}
+use Rattle.tk_meeting.proofs.Terms.{seat_of, with_write, with_read, SeatsAndPackets, with_frame, Refusal, changed}
 use Rattle.tk_frames.specs.declared.seeds.Seeds.{Seeds}
-use Rattle.tk_frames.specs.declared.seeds.Seeds.TheVariants.{Plain, Seeded, Shown}
-use Rattle.tk_frames.specs.Ranges.{IsWrite, IsRead, AreSeeds}
-use Rattle.tk_frames.specs.Spelling.{write_frame, read_frame, read_kind}
-use Rattle.tk_frames.specs.Fields.{write_in as write_spelled}
-use Rattle.tk_frames.proofs.Offers.{write_passes, write-again, read_passes, read-again}
-use Rattle.tk_report.proofs.Offers.{write_at-client, write_at-turn}
-use Rattle.tk_serve.specs.declared.refusal.Refusal.{Refusal}
-use Rattle.tk_serve.specs.declared.refusal.Refusal.TheVariants as refusal
-use Rattle.tk_serve.specs.Seats.{Seat, seat_of, with_write, with_read}
-use Rattle.tk_serve.specs.Refusals.{unless, write_misplaced, read_misplaced, write_refusal, read_refusal}
-use Rattle.tk_serve.specs.Refusals.{is_read_kind, refusal_by, due_of}
-use Rattle.tk_serve.specs.Steps.{SeatsAndPackets, step, with_frame}
-use Rattle.tk_serve.proofs.Offers.{write-placed, read-placed_by, told_step, step-none}
-use Rattle.tk_meeting.specs.Meeting.{changed}
+use Rattle.tk_serve.specs.Steps.{step}
 use Rattle.tk_meeting.proofs.Canonical.{write_in, read_from, AreFronts}
 use Rattle.tk_meeting.proofs.servers.Bumps.{bumped, bumped-above, newest-grows}
 use Rattle.tk_meeting.proofs.servers.Fronts.{write-fronts, read-fronts}
@@ -32,6 +17,7 @@ use Rattle.tk_meeting.proofs.servers.Gains.{TakesFrame, tells-next}
 use Rattle.tk_meeting.proofs.servers.InRange.{write-in_range, read-in_range}
 use Rattle.tk_meeting.proofs.servers.Places.{read-client, read-turn}
 use Rattle.tk_meeting.proofs.servers.Streams.{read-epoch}
+use Rattle.tk_serve.specs.declared.refusal.Refusal.TheVariants as refusal
 
 -- a test that holds refuses nothing
 holds : (test : Bool) (cause : Refusal) (behind : Option Refusal) → test ≡ true → behind ≡ None →

@@ -1,15 +1,10 @@
 -- Replies that show the same are refused alike.
-use Rattle.std.proofs.Common.{◌≡◌, refl, ap, ap₂, ◌∙◌, ℕ, zero, suc, ◌+◌, List, [], ◌∷◌, map, Option, Some, None}
-use Rattle.std.specs.Prelude.{slice_index_or, slice_set}
-use Rattle.std.specs.Option.{option_map, option_or, is_some}
-use Rattle.tk_shape.specs.declared.shape.Shape.{Shape}
-use Rattle.tk_client.specs.declared.open_read.OpenRead.{OpenRead}
-use Rattle.tk_client.specs.declared.take_error.TakeError.{TakeError}
-use Rattle.tk_client.specs.declared.take_error.TakeError.TheVariants as fault
+use Rattle.tk_meeting.proofs.Terms.{◌≡◌, ℕ, List, [], ◌∷◌, map, ◌+◌, Option, Some, None, ◌∙◌, refl, ap, zero, suc, ap₂}
+use Rattle.tk_meeting.proofs.Terms.{slice_index_or, slice_set, is_some, option_or, option_map, Shape, frames_in}
+use Rattle.tk_meeting.proofs.Terms.{refusal, first_unread, first_other, other_number, OpenRead, TakeError, all_of, Face}
+use Rattle.tk_meeting.proofs.Terms.{face, read_shown}
 use Rattle.tk_client.specs.Client.{refusal_of}
-use Rattle.tk_client.specs.Replies.{frames_in, first_unread, first_other, other_number, refusal}
-use Rattle.tk_member.specs.Steps.{all_of}
-use Rattle.tk_meeting.specs.Shown.{Face, face, read_shown}
+use Rattle.tk_client.specs.declared.take_error.TakeError.TheVariants as fault
 
 -- ---- lists of what may be missing
 

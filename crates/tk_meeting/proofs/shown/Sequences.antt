@@ -1,19 +1,9 @@
 -- Members to which packets come one after the other.
-use Rattle.std.proofs.Common.{◌≡◌, refl, ap, ap₂, sym, ◌∙◌, ℕ, Bool, true, false, cond, List, [], ◌∷◌, map}
-use Rattle.std.proofs.Common.{Option, Some, None}
-use Rattle.std.specs.Prelude.{◌==◌, ◌&&◌, Result, Ok, Err}
-use Rattle.std.specs.Option.{is_none}
-use Rattle.std.specs.Simd.Lanes.{fold_l}
-use Rattle.tk_shape.specs.declared.shape.Shape.{Shape}
-use Rattle.tk_shape.specs.Lengths.{turn_count}
-use Rattle.tk_words.specs.Words.{WordBook}
-use Rattle.tk_packets.specs.Packets.{PacketView}
-use Rattle.tk_member.specs.declared.fault.Fault.{Fault}
-use Rattle.tk_member.specs.Members.{MemberState, is_over}
-use Rattle.tk_member.specs.Acting.{ActedMember, unmoved}
-use Rattle.tk_member.specs.Steps.{step}
-use Rattle.tk_member.specs.Courses.{behind_if, after_packet, after_packets}
-use Rattle.tk_meeting.specs.Shown.{Stand, stand, Came, packet_shown, outcome, stand_after, MembersActAlike}
+use Rattle.tk_meeting.proofs.Terms.{◌≡◌, ℕ, List, [], ◌∷◌, map, ◌==◌, cond, Bool, true, false, Option, Some, None}
+use Rattle.tk_meeting.proofs.Terms.{Result, Ok, ◌∙◌, refl, ap, sym, ap₂, Err, is_none, ◌&&◌, fold_l, turn_count, Shape}
+use Rattle.tk_meeting.proofs.Terms.{WordBook, PacketView, ActedMember, unmoved, after_packets, behind_if, after_packet}
+use Rattle.tk_meeting.proofs.Terms.{MemberState, is_over, step, Fault, stand, Stand, outcome, Came, packet_shown}
+use Rattle.tk_meeting.proofs.Terms.{stand_after, MembersActAlike}
 use Rattle.tk_meeting.proofs.shown.Steps.{acting, none-shown, step_so, step-outcome}
 use Rattle.tk_meeting.proofs.telling.Rising.{cond-has}
 use Rattle.tk_meeting.proofs.scripts.Lasting.{base_of, LastsIn, step-lasts}

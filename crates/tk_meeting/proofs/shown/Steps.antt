@@ -1,34 +1,17 @@
 -- How a member stands before it acts follows from how it stood, and from what shows of what came.
-use Rattle.std.proofs.Common.{◌≡◌, inl, inr, refl, ap, sym, subst, ◌∙◌, arith, ℕ, zero, suc, ◌+◌, ◌-◌, ◌*◌, Bool}
-use Rattle.std.proofs.Common.{true, false, cond, List, [], ◌∷◌, map, Option, Some, None}
-use Rattle.std.specs.Prelude.{min, nat_le, nat_lt, ◌==◌, ◌&&◌, ◌||◌, replicate, slice_index, slice_index_or, slice_set}
-use Rattle.std.specs.Prelude.{◌⊎◌, Result, Ok, Err}
-use Rattle.std.specs.Option.{option_map, is_none, is_some}
-use Rattle.tk_shape.specs.declared.shape.Shape.{Shape}
-use Rattle.tk_shape.specs.Lengths.{turn_count}
-use Rattle.tk_schedule.specs.Schedule.{phases_over}
-use Rattle.tk_words.specs.Words.{WordBook, BookWords, words_of}
-use Rattle.tk_client.specs.declared.open_read.OpenRead.{OpenRead}
-use Rattle.tk_client.specs.declared.say_error.SayError.{SayError}
-use Rattle.tk_client.specs.declared.take_error.TakeError.{TakeError}
-use Rattle.tk_client.specs.Writing.{Writing, with_text}
-use Rattle.tk_client.specs.Saying.{fault_of}
-use Rattle.tk_client.specs.Client.{refusal_in}
-use Rattle.tk_packets.specs.Packets.{PacketView}
-use Rattle.tk_member.specs.declared.fault.Fault.{Fault}
-use Rattle.tk_member.specs.declared.fault.Fault.TheVariants.{Peer, Refused, Older}
-use Rattle.tk_member.specs.declared.word.HostWord.{HostWord}
-use Rattle.tk_member.specs.declared.word.HostWord.TheVariants.{Say, Tick, Ahead, Has}
-use Rattle.tk_member.specs.Words.{word_in}
-use Rattle.tk_member.specs.Epochs.{ToldMarks, known, with_epoch}
-use Rattle.tk_member.specs.Members.{MemberState}
-use Rattle.tk_member.specs.Acting.{ActedMember, wrote, after_turn, ahead_due, goes_ahead, ticks_due, goes_by_ticks}
-use Rattle.tk_member.specs.Acting.{may_ask, asks, unmoved, asks_if_due, acts}
-use Rattle.tk_member.specs.News.{refused_packet}
-use Rattle.tk_member.specs.Steps.{tells_and_acts, counted_up, said, heard, all_of, after_settling, told_after, settled}
-use Rattle.tk_member.specs.Steps.{settled_by, with_reply, replied, told_epoch, served, step}
-use Rattle.tk_meeting.specs.Shown.{Face, face, read_shown, Stand, stand, word_shown, Sent, Replied, Told, frame_shown}
-use Rattle.tk_meeting.specs.Shown.{Came, OfHost, OfServer, packet_shown, outcome}
+use Rattle.tk_meeting.proofs.Terms.{◌≡◌, ℕ, min, List, [], ◌∷◌, map, ◌+◌, ◌==◌, cond, ◌-◌, ◌*◌, Bool, true, false}
+use Rattle.tk_meeting.proofs.Terms.{replicate, Option, Some, None, Result, Ok, ◌∙◌, refl, ap, sym, zero, suc, arith}
+use Rattle.tk_meeting.proofs.Terms.{subst, ◌⊎◌, inl, inr, slice_index_or, slice_set, Err, is_none, is_some, nat_lt}
+use Rattle.tk_meeting.proofs.Terms.{◌&&◌, nat_le, option_map, slice_index, ◌||◌, turn_count, Shape, WordBook, words_of}
+use Rattle.tk_meeting.proofs.Terms.{BookWords, phases_over, refusal_in, fault_of, Writing, with_text, OpenRead}
+use Rattle.tk_meeting.proofs.Terms.{SayError, TakeError, PacketView, ActedMember, acts, wrote, may_ask, asks, asks_if_due}
+use Rattle.tk_meeting.proofs.Terms.{unmoved, goes_ahead, goes_by_ticks, ahead_due, ticks_due, after_turn, known}
+use Rattle.tk_meeting.proofs.Terms.{ToldMarks, with_epoch, MemberState, refused_packet, tells_and_acts, served, step}
+use Rattle.tk_meeting.proofs.Terms.{heard, settled, counted_up, said, all_of, after_settling, settled_by, with_reply}
+use Rattle.tk_meeting.proofs.Terms.{replied, told_epoch, told_after, word_in, Fault, Peer, Older, Refused, HostWord}
+use Rattle.tk_meeting.proofs.Terms.{Say, Tick, Ahead, Has, stand, Stand, Face, face, read_shown, Sent, Replied}
+use Rattle.tk_meeting.proofs.Terms.{frame_shown, word_shown, outcome, Came, packet_shown, OfHost}
+use Rattle.tk_meeting.specs.Shown.{Told, OfServer}
 use Rattle.tk_meeting.proofs.members.Packets.{AreToHost}
 use Rattle.tk_meeting.proofs.members.Told.{news-tell, tell-to_host}
 use Rattle.tk_meeting.proofs.shown.Faces.{all-mapped, there-mapped, set-mapped, refused_by, refusal-shown}

@@ -1,11 +1,6 @@
 -- What a meeting has of the script at a time, if the script has the texts of all that is still to come.
-use Rattle.std.proofs.Common.{◌≡◌, ℕ, ◌<◌, List, [], ◌++◌, sym, ◌∙◌, subst}
-use Rattle.tk_shape.specs.Lengths.{turn_count}
-use Rattle.tk_script.specs.declared.script.Script.{Script}
-use Rattle.tk_words.specs.Words.{WordBook}
-use Rattle.tk_meeting.specs.Meeting.{Meeting, Saying, opening}
-use Rattle.tk_meeting.specs.Events.{Event, after_events, met}
-use Rattle.tk_meeting.specs.Laws.{sayings, HasWhatWasSaid}
+use Rattle.tk_meeting.proofs.Terms.{◌≡◌, ℕ, ◌<◌, List, [], ◌++◌, ◌∙◌, sym, subst, turn_count, WordBook, Script, Event}
+use Rattle.tk_meeting.proofs.Terms.{met, after_events, sayings, HasWhatWasSaid, Saying, Meeting, opening}
 use Rattle.tk_meeting.proofs.telling.Growing.{Grows, grows-events, after-append}
 
 -- Of client c, which writes turn g next: the texts of the turns that it wrote are those of the script;

@@ -1,18 +1,9 @@
 -- What was said to a client only grows, at the end of what was said for the turn that it writes next.
-use Rattle.std.proofs.Common.{◌≡◌, ℕ, ◌<◌, ◌≤◌, Bool, true, cond, List, [], ◌∷◌, ◌++◌, Option, Some}
-use Rattle.std.proofs.Common.{None, Result, Ok, Err, refl, ap, sym, ◌∙◌, subst, arith, append-nil, append_assoc}
-use Rattle.std.proofs.Common.{ne_eqb, ⊎_elim}
-use Rattle.std.specs.Prelude.{◌==◌, ◌⊎◌, ◌≢◌}
-use Rattle.tk_shape.specs.declared.shape.Shape.{Shape}
-use Rattle.tk_words.specs.Words.{WordBook}
-use Rattle.tk_client.specs.declared.say_error.SayError.{SayError}
-use Rattle.tk_member.specs.declared.fault.Fault.{Fault}
-use Rattle.tk_member.specs.declared.word.HostWord.{HostWord}
-use Rattle.tk_member.specs.declared.word.HostWord.TheVariants.{Say}
-use Rattle.tk_member.specs.Acting.{ActedMember}
-use Rattle.tk_member.specs.Steps.{heard, served}
-use Rattle.tk_meeting.specs.Meeting.{Meeting, Saying, changed, member_went}
-use Rattle.tk_meeting.specs.Events.{Event, noted, say_fault, hears, comes_up, comes_down, happens, after_events}
+use Rattle.tk_meeting.proofs.Terms.{◌≡◌, ℕ, ◌≤◌, ◌<◌, List, [], ◌∷◌, ◌==◌, cond, ◌++◌, Bool, true, Option, Some, None}
+use Rattle.tk_meeting.proofs.Terms.{Result, Ok, ◌∙◌, refl, ap, sym, arith, subst, append-nil, ◌⊎◌, append_assoc, ne_eqb}
+use Rattle.tk_meeting.proofs.Terms.{◌≢◌, Err, ⊎_elim, Shape, WordBook, SayError, ActedMember, served, heard, Fault, HostWord}
+use Rattle.tk_meeting.proofs.Terms.{Say, Event, comes_down, happens, after_events, hears, noted, say_fault, comes_up}
+use Rattle.tk_meeting.proofs.Terms.{Saying, changed, Meeting, member_went}
 use Rattle.tk_meeting.proofs.telling.Rising.{RisesIn, heard-rises, served-rises}
 use Rattle.tk_meeting.proofs.telling.Ways.{event-has}
 use Rattle.tk_meeting.proofs.courses.Picks.{at-place}

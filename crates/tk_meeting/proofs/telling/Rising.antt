@@ -1,14 +1,7 @@
 -- No step of a member lowers the number of turns that it wrote.
-use Rattle.std.proofs.Common.{◌≡◌, sym, subst, inl, inr, ℕ, ◌+◌, ◌≤◌, Bool, true, false, cond, List, Option}
-use Rattle.std.proofs.Common.{Result, Ok, Err, arith}
-use Rattle.tk_words.specs.Words.{WordBook}
-use Rattle.tk_client.specs.Writing.{Writing}
-use Rattle.tk_member.specs.declared.fault.Fault.{Fault}
-use Rattle.tk_member.specs.declared.word.HostWord.{HostWord}
-use Rattle.tk_member.specs.Members.{MemberState}
-use Rattle.tk_member.specs.Acting.{ActedMember, acts}
-use Rattle.tk_member.specs.Steps.{heard, served}
-use Rattle.tk_meeting.specs.Shown.{Stand, stand, word_shown, frame_shown}
+use Rattle.tk_meeting.proofs.Terms.{◌≡◌, ℕ, ◌≤◌, List, ◌+◌, cond, Bool, true, false, Option, Result, Ok, sym, arith}
+use Rattle.tk_meeting.proofs.Terms.{subst, inl, inr, Err, WordBook, Writing, ActedMember, acts, MemberState, served, heard}
+use Rattle.tk_meeting.proofs.Terms.{Fault, HostWord, stand, Stand, frame_shown, word_shown}
 use Rattle.tk_meeting.proofs.shown.Steps.{ahead_of, ticks_of, acts-written, EndsOrReadies, heard_so, served_so}
 use Rattle.tk_meeting.proofs.shown.Steps.{heard_writing, heard-readies, served-readies}
 

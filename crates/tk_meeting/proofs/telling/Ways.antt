@@ -1,15 +1,8 @@
 -- What an event may make of a group: it stays as it is, or it goes one of these ways.
-use Rattle.std.proofs.Common.{ℕ, List, Option, Some, None}
-use Rattle.std.specs.Prelude.{◌&&◌}
-use Rattle.tk_shape.specs.declared.shape.Shape.{Shape}
-use Rattle.tk_words.specs.Words.{WordBook}
-use Rattle.tk_member.specs.declared.fault.Fault.{Fault}
-use Rattle.tk_member.specs.declared.word.HostWord.{HostWord}
-use Rattle.tk_member.specs.declared.word.HostWord.TheVariants.{Say, Tick, Ahead, Has}
-use Rattle.tk_meeting.specs.Meeting.{Meeting}
-use Rattle.tk_meeting.specs.Events.{Event, Said, Ticked, WentAhead, Greeted, Up, Down, noted, say_fault, hears}
-use Rattle.tk_meeting.specs.Events.{greeting_of, comes_up, comes_down, unless_ended, is_client, is_server, client_does}
-use Rattle.tk_meeting.specs.Events.{happens}
+use Rattle.tk_meeting.proofs.Terms.{ℕ, List, Option, Some, None, ◌&&◌, Shape, WordBook, Fault, HostWord, Say, Tick}
+use Rattle.tk_meeting.proofs.Terms.{Ahead, Has, Event, Said, Ticked, WentAhead, Greeted, Up, Down, is_client, is_server}
+use Rattle.tk_meeting.proofs.Terms.{comes_down, happens, client_does, unless_ended, hears, noted, say_fault}
+use Rattle.tk_meeting.proofs.Terms.{greeting_of, comes_up, Meeting}
 use Rattle.tk_meeting.proofs.telling.Rising.{cond-has}
 
 -- what an event of a client makes of it
