@@ -1,31 +1,23 @@
 -- An order's displaced writes, when one more entry comes.
 use Rattle.std.proofs.Common.{◌≡◌, ◌∙◌, ℕ, ◌+◌, ◌*◌, ◌^◌, ◌<◌, ◌≤◌, refl, ap, ap₂, sym, subst, arith}
-use Rattle.std.proofs.Common.{Bool, true, false, cond, List, [], ◌∷◌, ◌++◌, length, take, drop}
+use Rattle.std.proofs.Common.{Bool, true, false, cond, List, [], ◌∷◌, ◌++◌, length, take}
 use Rattle.std.specs.Prelude.{Option, Some, None, option_map, slice_index_or}
-use Rattle.std.proofs.lemmas.List.{take_more, take-append-drop, length-take-le}
+use Rattle.std.proofs.lemmas.List.{take_more, length-take-le}
 use Rattle.std.proofs.lemmas.Nat.{mul-le}
 use Rattle.tk_shape.specs.declared.shape.Shape.{Shape}
 use Rattle.tk_shape.specs.Lengths.{turn_count}
-use Rattle.tk_frames.specs.declared.write_frame.WriteFrame.{WriteFrame}
 use Rattle.tk_frames.specs.declared.entry.Entry.{Entry}
 use Rattle.tk_frames.specs.declared.entry.Entry.TheVariants.{Write, Mark}
 use Rattle.tk_frames.specs.declared.entry.Placed.{Placed as AtPlace}
 use Rattle.tk_frames.specs.InOrder.{IsNext, IsNextAt, IsOrder, mark_count}
 use Rattle.tk_frames.specs.Order.{record_at, records}
-use Rattle.tk_frames.specs.Ranges.{IsEntry, IsWrite}
 use Rattle.tk_frames.proofs.Offers.{record_of, records-write, records-mark, turn_count_small}
-use Rattle.tk_frames.proofs.Offers.{order-push, order-front, order-entry}
+use Rattle.tk_frames.proofs.Offers.{order-entry}
 use Rattle.tk_table.specs.declared.table.Put.{Put}
 use Rattle.tk_table.specs.declared.table.Put.TheVariants.{Placed, Displaced}
-use Rattle.tk_table.specs.Ordered.{AreOrdered}
 use Rattle.tk_table.specs.Puts.{put_after, put_of}
-use Rattle.tk_table.specs.Stands.{IsPair}
 use Rattle.tk_table.specs.Table.{is_displaced}
-use Rattle.tk_table.proofs.Offers.{order-writes}
-use Rattle.tk_report.specs.declared.count.Count.{Count}
-use Rattle.tk_report.specs.Counts.{MayCount}
 use Rattle.tk_report.specs.Displaced.{displaced_on, displaced_in}
-use Rattle.tk_report.specs.Turns.{next_placed}
 use Rattle.tk_report.proofs.DisplacedLaws.{displaced-more}
 
 -- ---- what became of the entry

@@ -1,5 +1,5 @@
 -- By its word a line says an order or epochs, or nothing.
-use Rattle.std.proofs.Common.{◌≡◌, ◌∙◌, sym, subst, codes, true, false}
+use Rattle.std.proofs.Common.{◌≡◌, ◌∙◌, sym, subst, codes, false}
 use Rattle.std.proofs.lemmas.Bool.{true≢false}
 use Rattle.std.proofs.lemmas.Result.{IfOk-weaker}
 use Rattle.std.proofs.lemmas.Slice.Eq.{bytes_eq-Decides}

@@ -1,5 +1,5 @@
 -- An entry is counted. A write goes into the window too, and a mark takes what table and window are.
-use Rattle.std.proofs.Common.{◌≡◌, ◌++◌, ◌∷◌, [], ◌<◌, ◌∙◌, List, length, ap, refl, sym, subst, append_assoc}
+use Rattle.std.proofs.Common.{◌++◌, ◌∷◌, [], ◌<◌, ◌∙◌, List, length, ap, sym, subst, append_assoc}
 use Rattle.std.specs.Prelude.{All}
 use Rattle.std.proofs.lemmas.List.Elements.{All-from_recursion}
 use Rattle.tk_frames.specs.declared.entry.Placed.{Placed}
